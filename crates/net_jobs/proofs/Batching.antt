@@ -30,18 +30,20 @@ use Rattle.client_replies.specs.ProtocolStates.{ProtocolState, target_of, is_run
 use Rattle.net_client.specs.ClientStates.{ClientState}
 use Rattle.net_jobs.specs.JobJournal.{JobMove, dialled_by, given_by}
 use Rattle.net_jobs.specs.Inside.{GivesAll, StopsAs, CallNotes, NotesMatch, HasTaken, IsFiling, TurnsOn, FallsShort, HasFiledShort, BatchCameDone, BatchCameEnded, BatchHasCome, closed_as, HasBatchRun}
+use Rattle.net_jobs.specs.JobSteps.{StepsGive}
 use Rattle.net_jobs.specs.JobTraces.{JobTrace}
 use Rattle.net_jobs.specs.RunPromises.{JobStreams, SeenStreams, RanWithTrace, ByMemory}
 use Rattle.net_jobs.specs.Links.{LinkViews, HasBrought}
-use Rattle.net_jobs.proofs.InvariantRecords.{GivenFiles, FullRunInvariant}
+use Rattle.net_jobs.proofs.InvariantRecords.{GivenFiles, FullRunInvariant, turned_given}
 use Rattle.net_jobs.proofs.Asking.{asked_for}
 use Rattle.net_jobs.specs.Outputs.{files_text, page_outputs_from}
 use Rattle.scan_job.specs.FileOutputs.{TakesBack, GivesBack, refused_output}
 use Rattle.net_jobs.specs.Batches.{IsPageFile, MayScan, last_whole_page, pages_of, BatchDone, BatchEnded, KeepsAllPages, RefusesBatch, RefusesLastPage}
 use Rattle.net_jobs.proofs.FileNumbers.{IsFew, HasSome, counts}
 use Rattle.net_jobs.proofs.JobEnds.{NoneBefore, stops_over, HasRefusal, Leaves, all_written, ran_refuses, cause_of, followed, unopened, task_is, ran_by, ends_well}
+use Rattle.net_jobs.proofs.Steps.{same_steps}
 use Rattle.net_jobs.proofs.Shelves.{given_back, none_back, none_kept, none_same, left_behind, outputs_more}
-use Rattle.net_jobs.proofs.Shelving.{Shut, OnShelf, Lying, PageIsTurned, shut_parted, ended_part, one_file, page_turned, turned_given, from_here}
+use Rattle.net_jobs.proofs.Shelving.{Shut, OnShelf, Lying, PageIsTurned, shut_parted, ended_part, one_file, page_turned, from_here}
 
 -- ---- a join between frames has given nothing, if its picture is not whole
 
@@ -131,7 +133,8 @@ came_done views left_of job first coming0 before notes links coming stream c now
     let file : IsJoined s.history → IsPageFile s.history = λ joined.
     (let p = shows s.history c.join s.serves.stands joined in
     record { picture = p.0; shows = p.1; file = subst (λ (t : List ℕ). Denotes t p.0) given_is (d.shelf.shown refl (joined_scans job.task s.history fits joined) (ap is_ended done) joined p.0 p.1) }) in
-    let counted = counts job s.did.events s.trace h s.did.runs in (
+    let counted = counts job s.did.events s.trace h s.did.runs in
+    let steps = d.steps (inl refl) in (
       record {
         ran = record {
           moves = d.moves;
@@ -153,6 +156,9 @@ came_done views left_of job first coming0 before notes links coming stream c now
         };
         told = told;
         last_told = d.ends ∙ done;
+        steps = steps.steps;
+        went_out = subst (λ (q : List JoinHistory). StepsGive steps.steps.steps q s.trace.protocol.history.given) (sym s.pages_is)
+            (subst (λ (t : List ℕ). StepsGive steps.steps.steps d.given.pages t) (given_is ∙ ap (λ (q : JoinHistory). q.given) past_is) steps.give);
         all = d.all;
         read_all = refl;
         end_well = ends_well (target_of job) _ s.did.events s.trace s.did.runs (ap is_ended told);
@@ -193,6 +199,8 @@ came_ended views left_of job first coming0 before notes links coming stream c no
         all = λ other. all_written d.moves r.ran.moves d.left r.ran.left r.moves_is r.left_is d.all;
         refusal = subst HasRefusal over (ran_refuses job r.ran.moves r.ran.trace _ _ r.ran.rest r.ran.left c.outcome r.ran.did r.cause);
         last_told = inl (ap (λ (v : ClientState). v.outcome) r.last_is ∙ d.ends ∙ over);
+        steps = λ told. (let x = same_steps d.fresh r.ran.first d.moves r.ran.moves d.last r.ran.last d.given r.first_is r.moves_is r.last_is (d.steps (inr (ap is_ended over))) in
+            (x.steps, subst (λ (q : List JoinHistory). StepsGive x.steps.steps q d.given.bytes) (sym r.pages_is) x.give));
         files = All-same IsPageFile r.ran.trace.pages d.given.pages r.pages_is d.shelf.files;
         text = d.given.bytes;
         behind = [];
@@ -216,6 +224,7 @@ came_untold views left_of job first coming0 before notes links coming stream c n
         all = λ other. all_written d.moves r.ran.moves d.left r.ran.left r.moves_is r.left_is d.all;
         refusal = λ e. cc;
         last_told = inr (inl (reports, ap (λ (v : ClientState). v.outcome) r.last_is ∙ d.ends ∙ done, refl));
+        steps = λ told. absurd (let clash : Done reports ≡ Ended statuses.NoMem whys.Memory = sym (ap (λ (v : ClientState). v.outcome) r.last_is ∙ d.ends ∙ done) ∙ told in cc);
         files = All-same IsPageFile r.ran.trace.pages d.given.pages r.pages_is d.shelf.files;
         text = d.given.bytes;
         behind = [];
@@ -260,6 +269,7 @@ refused_next views left_of job first coming0 before notes links coming stream ne
         all = λ other. absurd (other refl);
         refusal = λ e. cc;
         last_told = inr (inr refl);
+        steps = λ told. absurd (let clash : true ≡ false = sym (ap is_ended (sym (ap (λ (v : ClientState). v.outcome) r.last_is) ∙ told)) ∙ t.alive in cc);
         files = All-same IsPageFile r.ran.trace.pages (given.pages ++ page ∷ []) r.pages_is (All-append IsPageFile given.pages (page ∷ []) files (one_file page t.file));
         text = [];
         not_whole = nothing_is_not_whole;
@@ -273,10 +283,10 @@ refused_next views left_of job first coming0 before notes links coming stream ne
 
 sunk_by : {L R : Type 0} (views : LinkViews L) (left_of : R → Option (List ℕ)) (job : Job) (first : L) (coming0 : Option (List (List ℕ))) (before : Option Stock) (notes : CallNotes) (links : L) (coming : Option (List (List ℕ))) (stream : Option R) (c new : ClientState) (now : Option Stock) (out : Option (Option (List ℕ))) (given : GivenFiles) (gives : List JobMove)
     → ((past : JoinHistory) (join : JoinState) → Represents past join → IsJoined past → (p : Picture) × ShowsFrames past.ended p) → scans job.task ≡ true → All IsPageFile given.pages
-    → (g : FullRunInvariant views left_of job first coming0 given notes links coming stream c) → GivesAll c gives new
+    → (g : FullRunInvariant views left_of job first coming0 given notes links coming stream c) → is_ended c.outcome ≡ false → GivesAll c gives new
     → FallsShort g.stage.history.given (length given.pages + 1) before (page_outputs_from 1 given.pages) now out ⊎ TurnsOn g.stage.history c (length given.pages + 1) before (page_outputs_from 1 given.pages) (given_by gives) false new now out
     → BatchHasCome views job (record { links = first; coming = coming0; output = before }) (record { links = links; coming = coming; output = now }) out (Ended statuses.IoError whys.Sink) notes
-sunk_by views left_of job first coming0 before notes links coming stream c new now out given gives shows scanning files g all (inl short) =
+sunk_by views left_of job first coming0 before notes links coming stream c new now out given gives shows scanning files g alive all (inl short) =
     let s = g.stage in
     let r = ran_by views left_of job (record { links = first; coming = coming0; output = before }) (record { links = links; coming = coming; output = now }) stream c given g.moves g.left g.fresh c g.is_fresh g.leads g.calls s s.stands in (
       record {
@@ -285,6 +295,7 @@ sunk_by views left_of job first coming0 before notes links coming stream c new n
         all = λ other. absurd (other refl);
         refusal = λ e. cc;
         last_told = inr (inr refl);
+        steps = λ told. absurd (let clash : true ≡ false = sym (ap is_ended (sym (ap (λ (v : ClientState). v.outcome) r.last_is) ∙ told)) ∙ alive in cc);
         files = All-same IsPageFile r.ran.trace.pages given.pages r.pages_is files;
         text = s.history.given ++ short.behind;
         not_whole = short.not_whole;
@@ -296,32 +307,32 @@ sunk_by views left_of job first coming0 before notes links coming stream c new n
       },
       subst (λ (m : List JobMove). NotesMatch m notes) (sym r.moves_is) g.notes_are,
     )
-sunk_by views left_of job first coming0 before notes links coming stream c new now out given gives shows scanning files g all (inr e) =
+sunk_by views left_of job first coming0 before notes links coming stream c new now out given gives shows scanning files g alive all (inr e) =
     refused_next views left_of job first coming0 before notes links coming stream new now out given (after_pull (given_by gives) g.stage.history)
-    (page_turned views left_of job first coming0 before notes links coming stream c new now out given gives false shows g all e) files e.none e.taken
+    (page_turned views left_of job first coming0 before notes links coming stream c new now out given gives false shows g all e).0 files e.none e.taken
 
 sunk_at : {L R : Type 0} {was_whole : Bool} (views : LinkViews L) (left_of : R → Option (List ℕ)) (job : Job) (first : L) (coming0 : Option (List (List ℕ))) (before was : Option Stock) (notes : CallNotes) (links : L) (coming : Option (List (List ℕ))) (stream : Option R) (c old new : ClientState) (now : Option Stock) (under out : Option (Option (List ℕ))) (given : GivenFiles) (past : JoinHistory) (is_scanning b : Bool) (result : Bool)
     → is_scanning ≡ b → is_scanning ≡ scans job.task → HasCount job.task → ((past : JoinHistory) (join : JoinState) → Represents past join → IsJoined past → (p : Picture) × ShowsFrames past.ended p)
-    → OnShelf was_whole job before was under given old past → (g : FullRunInvariant views left_of job first coming0 given notes links coming stream c)
+    → OnShelf was_whole job before was under given old past → (g : FullRunInvariant views left_of job first coming0 given notes links coming stream c) → is_ended c.outcome ≡ false
     → result ≡ false → (is_scanning ≡ false → result ≡ true)
     → (gives : List JobMove) × GivesAll c gives new
     × ((before : Option Stock) (outputs : List ReturnedOutput) (k : ℕ) (q : JoinHistory) → IsFiling q c k before outputs was under → HasFiledShort q c k before outputs (given_by gives) new now out)
     → BatchHasCome views job (record { links = first; coming = coming0; output = before }) (record { links = links; coming = coming; output = now }) out (Ended statuses.IoError whys.Sink) notes
-sunk_at views left_of job first coming0 before was notes links coming stream c old new now under out given past is_scanning true result e scanning h shows shelf g fails none goes =
-    sunk_by views left_of job first coming0 before notes links coming stream c new now out given goes.0 shows (sym scanning ∙ e) shelf.files g goes.1
+sunk_at views left_of job first coming0 before was notes links coming stream c old new now under out given past is_scanning true result e scanning h shows shelf g alive fails none goes =
+    sunk_by views left_of job first coming0 before notes links coming stream c new now out given goes.0 shows (sym scanning ∙ e) shelf.files g alive goes.1
     (from_here views left_of job first coming0 before was notes links coming stream c old under given past (λ b outputs k q. HasFiledShort q c k b outputs (given_by goes.0) new now out) (sym scanning ∙ e) h shelf g goes.2)
-sunk_at views left_of job first coming0 before was notes links coming stream c old new now under out given past is_scanning false result e scanning h shows shelf g fails none goes =
+sunk_at views left_of job first coming0 before was notes links coming stream c old new now under out given past is_scanning false result e scanning h shows shelf g alive fails none goes =
     absurd (let clash : true ≡ false = sym (none e) ∙ fails in cc)
 
 pub came_sunk : {L R : Type 0} {was_whole : Bool} (views : LinkViews L) (left_of : R → Option (List ℕ)) (job : Job) (first : L) (coming0 : Option (List (List ℕ))) (before was : Option Stock) (notes : CallNotes) (links : L) (coming : Option (List (List ℕ))) (stream : Option R) (c old new : ClientState) (now : Option Stock) (under out : Option (Option (List ℕ))) (given : GivenFiles) (past : JoinHistory) (is_scanning result : Bool)
     → is_scanning ≡ scans job.task → HasCount job.task → ((past : JoinHistory) (join : JoinState) → Represents past join → IsJoined past → (p : Picture) × ShowsFrames past.ended p)
-    → OnShelf was_whole job before was under given old past → (g : FullRunInvariant views left_of job first coming0 given notes links coming stream c)
+    → OnShelf was_whole job before was under given old past → (g : FullRunInvariant views left_of job first coming0 given notes links coming stream c) → is_ended c.outcome ≡ false
     → result ≡ false → (is_scanning ≡ false → result ≡ true)
     → (gives : List JobMove) × GivesAll c gives new
     × ((before : Option Stock) (outputs : List ReturnedOutput) (k : ℕ) (q : JoinHistory) → IsFiling q c k before outputs was under → HasFiledShort q c k before outputs (given_by gives) new now out)
     → BatchHasCome views job (record { links = first; coming = coming0; output = before }) (record { links = links; coming = coming; output = now }) out (Ended statuses.IoError whys.Sink) notes
-came_sunk views left_of job first coming0 before was notes links coming stream c old new now under out given past is_scanning result scanning h shows shelf g fails none goes =
-    sunk_at views left_of job first coming0 before was notes links coming stream c old new now under out given past is_scanning is_scanning result refl scanning h shows shelf g fails none goes
+came_sunk views left_of job first coming0 before was notes links coming stream c old new now under out given past is_scanning result scanning h shows shelf g alive fails none goes =
+    sunk_at views left_of job first coming0 before was notes links coming stream c old new now under out given past is_scanning is_scanning result refl scanning h shows shelf g alive fails none goes
 
 -- ---- the last output is given back
 
@@ -374,6 +385,8 @@ close_done views job was now new out reports true d back = record {
   ran = with_output views job was now new d.ran;
   told = d.told;
   last_told = d.last_told;
+  steps = d.steps;
+  went_out = d.went_out;
   all = d.all;
   read_all = d.read_all;
   end_well = d.end_well;
@@ -388,6 +401,7 @@ close_done views job was now new out reports false d back = record {
   all = λ other. absurd (other refl);
   refusal = λ e. cc;
   last_told = inr (inr refl);
+  steps = λ told. absurd (let clash : Done reports ≡ Ended statuses.IoError whys.Sink = sym d.last_told ∙ told in cc);
   pages = pages_of d.ran.trace;
   finished = inr (refl, (reports, d.told));
   files = d.files;
@@ -417,6 +431,7 @@ close_ended views job was now new out stop is_taken d back = record {
   all = d.all;
   refusal = d.refusal;
   last_told = d.last_told;
+  steps = d.steps;
   pages = d.ran.trace.pages;
   finished = inl refl;
   files = d.files;

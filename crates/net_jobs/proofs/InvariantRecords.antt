@@ -71,6 +71,12 @@ pub record GivenFiles : Type 0 where
 abbrev pub no_files_given : GivenFiles
 no_files_given = record { pages = []; bytes = [] }
 
+abbrev pub more_given : GivenFiles → List ℕ → GivenFiles
+more_given given bytes = record { pages = given.pages; bytes = given.bytes ++ bytes }
+
+abbrev pub turned_given : GivenFiles → JoinHistory → GivenFiles
+turned_given given page = record { pages = given.pages ++ page ∷ []; bytes = [] }
+
 -- the ports that were asked for are those of the connections that were made, but for one that could not be made and ended the job
 abbrev pub AsksPorts : List ℕ → List TraceEvent → ProtocolState → Outcome → Type 0
 AsksPorts asked events protocol outcome =

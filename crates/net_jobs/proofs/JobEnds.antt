@@ -25,6 +25,7 @@ use Rattle.scan_job.specs.declared.outcome.Why.TheVariants as whys
 use Rattle.scan_job.specs.declared.report.Reports.{Reports}
 use Rattle.client_replies.specs.declared.progress.JobTarget.{JobTarget}
 use Rattle.client_replies.specs.declared.progress.Progress.{Progress}
+use Rattle.client_replies.specs.declared.progress.Progress.TheVariants as stages
 use Rattle.client_replies.specs.declared.progress.Notes.{Notes}
 use Rattle.scan_job.specs.declared.stop.Stop.{Stop}
 use Rattle.client_replies.proofs.Fitting.{may_end}
@@ -33,16 +34,16 @@ use Rattle.client_replies.specs.ProtocolStates.{ProtocolState, target_of, is_run
 use Rattle.net_client.specs.ClientStates.{ClientState, ClientRepresents, IsNewClient, after_client_end}
 use Rattle.net_jobs.specs.JobTraces.{TraceEvent, Replied, Opened, Came, Finished, Gave, Turned, JobTrace, BytesMatchTrace, EventsLead, EndWell}
 use Rattle.net_jobs.specs.JobJournal.{JobMove, MovesLead, WritesShort, Writes, Fails, given_by, bytes_written_by, heard_by, dialled_by, has_write_failed}
-use Rattle.net_jobs.specs.JobSteps.{MovesAreSteps, FileRunsOut}
+use Rattle.net_jobs.specs.JobSteps.{FileRunsOut}
 use Rattle.net_jobs.specs.Inside.{GivesAll, CallNotes, NotesMatch, HasRunNoted, no_notes, TakesLeave, StopsAs, HoldsGiven, IsDrainedTo, StopsBehind, Silent, Whole, Short}
 use Rattle.net_jobs.specs.Links.{JobLinks, LinkViews, views_of, Calls, Called, HasBrought, BeginWith}
-use Rattle.net_jobs.proofs.InvariantRecords.{LinkMatchesTrace, ClientFollowsTrace, Falls, GivenFiles, no_files_given, RunInvariant, FullRunInvariant, AsksPorts}
+use Rattle.net_jobs.proofs.InvariantRecords.{LinkMatchesTrace, ClientFollowsTrace, Falls, GivenFiles, no_files_given, RunInvariant, FullRunInvariant, AsksPorts, more_given}
 use Rattle.net_jobs.specs.RunPromises.{JobStreams, SeenStreams, RefusesJob, EndsBy, ByLoss, ByMemory, ByGarble, ByLength, HasEndingCause, RanWithTrace, RanDone, RanEnded}
 use Rattle.net_jobs.proofs.Tracing.{did_quiet}
 use Rattle.net_jobs.proofs.KeepingInvariant.{lets_go, stage_on}
 use Rattle.net_jobs.specs.Outputs.{files_text}
 use Rattle.net_jobs.proofs.FileNumbers.{IsFew, counts}
-use Rattle.net_jobs.proofs.Steps.{AllGiven, AreStepsSoFar, LastDelivers, StepsBy, ended_not_done, running_not_done, steps_given, steps_over, steps_quiet}
+use Rattle.net_jobs.proofs.Steps.{AllGiven, AreStepsSoFar, LastDelivers, StepsBy, StepsSoFar, ended_not_done, running_not_done, same_steps, steps_at, steps_given, steps_quiet, steps_still}
 use Rattle.net_jobs.proofs.RunInvariants.{stage_wrote, going_begun, gave_on}
 use Rattle.net_jobs.proofs.Turning.{some_left}
 use Rattle.net_jobs.proofs.Asking.{asked_for}
@@ -99,10 +100,6 @@ gave_linked left_of coming0 coming streams (Some conn) c join past bytes l = rec
   receives = l.receives;
 }
 
--- bytes more of the file under way
-abbrev pub more_given : GivenFiles → List ℕ → GivenFiles
-more_given given bytes = record { pages = given.pages; bytes = given.bytes ++ bytes }
-
 pub stage_gave_by : {R : Type 0} (left_of : R → Option (List ℕ)) (job : Job) (moves : List JobMove) (read_ wrote left : List ℕ) (coming0 coming : Option (List (List ℕ))) (given : GivenFiles) (bytes : List ℕ) (stream : Option R) (c : ClientState) (join : JoinState)
     → c.target ≡ target_of job → (past : JoinHistory) → past.given ≡ given.bytes → ClientRepresents (after_pull bytes past) (record c { join = join }) → (trace : JobTrace) (rest : List ℕ) → trace.pages ≡ given.pages → (did : BytesMatchTrace job trace (record { read_ = read_; wrote = wrote; rest = rest; left = left })) → AsksPorts (dialled_by moves) did.events trace.protocol c.outcome
     → ClientFollowsTrace left_of coming0 coming trace rest stream c past ⊎ Falls moves coming0 coming trace rest c
@@ -151,6 +148,18 @@ stage_gave_by left_of job moves read_ wrote left coming0 coming given bytes stre
   refl,
 )
 
+-- ---- only a batch turns a page
+
+pub turning_batch : (task : Task) (outcome : Outcome) (progress : Progress) (past : JoinHistory) → turns outcome progress ≡ true → HistoryFits task outcome progress past → is_batch task ≡ true
+turning_batch task Running stages.Turning past e f = f.0
+turning_batch task Running progress past e f = absurd (let clash : false ≡ true = e in cc)
+turning_batch task (Done reports) progress past e f = absurd (let clash : false ≡ true = e in cc)
+turning_batch task (Ended status why) progress past e f = absurd (let clash : false ≡ true = e in cc)
+
+still_by : (b : Bool) (c : ClientState) (past : JoinHistory) → turns c.outcome c.progress ≡ b → is_batch c.target.task ≡ false → ClientRepresents past c → turns c.outcome c.progress ≡ false
+still_by false c past e single s = e
+still_by true c past e single s = absurd (let clash : true ≡ false = sym (turning_batch c.target.task c.outcome c.progress past e s.fits) ∙ single in cc)
+
 -- ---- between two turns: how far the job is, and that the output holds what was given of the file; all of it, or not yet
 
 pub record Drained {C R : Type 0} (views : LinkViews C) (left_of : R → Option (List ℕ)) (job : Job) (first : C) (coming0 : Option (List (List ℕ))) (held : Option (List ℕ)) (notes : CallNotes) (whole : Bool) (control : C) (coming : Option (List (List ℕ))) (stream : Option R) (c : ClientState) (holds : Option (List ℕ)) : Type 0 where
@@ -158,7 +167,7 @@ pub record Drained {C R : Type 0} (views : LinkViews C) (left_of : R → Option 
   pub going : FullRunInvariant views left_of job first coming0 given notes control coming stream c
   pub taken : Appends held holds given.bytes
   pub none : (job.task ≡ tasks.Scan → ⊥) → given.bytes ≡ []
-  pub steps : StepsBy whole job.task going.fresh going.moves c
+  pub steps : StepsBy whole job.task going.fresh going.moves c given
   pub shown : whole ≡ true → job.task ≡ tasks.Scan → is_ended c.outcome ≡ false → IsJoined going.stage.history → (p : Picture) → ShowsFrames going.stage.history.ended p → Denotes given.bytes p
 
 pub drained_first : {C R : Type 0} (views : LinkViews C) (left_of : R → Option (List ℕ)) (job : Job) (control : C) (coming : Option (List (List ℕ))) (held : Option (List ℕ)) (c : ClientState) → IsNewClient job c
@@ -176,7 +185,7 @@ drained_first views left_of job control coming held c f =
 
 -- a turn in which the output took what was given
 pub drained_more : {C R : Type 0} (views : LinkViews C) (left_of : R → Option (List ℕ)) (job : Job) (first : C) (coming0 : Option (List (List ℕ))) (held : Option (List ℕ)) (notes : CallNotes) (control : C) (coming : Option (List (List ℕ))) (stream : Option R) (c now : ClientState) (was holds : Option (List ℕ)) (given : GivenFiles) (gives : List JobMove)
-    → job.task ≡ tasks.Scan → Appends held was given.bytes → (g : FullRunInvariant views left_of job first coming0 given notes control coming stream c) → LastDelivers job.task g.fresh g.moves c → FileRunsOut c gives now
+    → job.task ≡ tasks.Scan → Appends held was given.bytes → (g : FullRunInvariant views left_of job first coming0 given notes control coming stream c) → LastDelivers job.task g.fresh g.moves c given → FileRunsOut c gives now
     → ((first : Option (List ℕ)) (past : JoinHistory) → HoldsGiven past c first was → IsDrainedTo past c first (given_by gives) now holds)
     → Drained views left_of job first coming0 held notes true control coming stream now holds
 drained_more {C} {R} views left_of job first coming0 held notes control coming stream c now was holds given gives scan taken g last out drains =
@@ -189,13 +198,15 @@ drained_more {C} {R} views left_of job first coming0 held notes control coming s
     let at = subst (λ (v : ClientState). (t : RunInvariant left_of job g.moves (heard_by g.moves) (bytes_written_by g.moves) g.left coming0 coming (more_given given bytes) stream v) × (t.history ≡ after_pull bytes s.history)) (sym d.rest) gave in
     let h = gave_on views left_of job first coming0 given (more_given given bytes) notes control coming stream c now gives g.left all g at.0 (λ e. g.left_is e ∙ sym (ap (λ (v : ClientState). v.out) d.rest)) (sym (append_assoc (files_text given.pages) given.bytes bytes)) in
     let past_is = h.1 ∙ at.1 in
-    let steps = steps_given job.task g.fresh g.moves c gives now true (ap scans scan) last (inl out) in
+    let single : is_batch c.target.task ≡ false = ap is_batch (ap (λ (e : JobTarget). e.task) s.target ∙ scan) in
+    let still = still_by (turns c.outcome c.progress) c s.history refl single s.serves in
+    let steps = steps_given job.task g.fresh g.moves c given gives now true (ap scans scan) last (inl (record { still = still; runs_out = out })) in
     record {
       given = more_given given bytes;
       going = h.0;
       taken = subst (λ (l : List ℕ). Appends held holds (l ++ bytes)) s.given_is d.taken;
       none = λ other. absurd (other scan);
-      steps = subst (λ (l : List JobMove). MovesAreSteps h.0.fresh l now) (sym h.2) (subst (λ (v : ClientState). MovesAreSteps v (gives ++ g.moves) now) (sym h.3) steps);
+      steps = subst (λ (l : List JobMove). StepsSoFar h.0.fresh l now (more_given given bytes)) (sym h.2) (subst (λ (v : ClientState). StepsSoFar v (gives ++ g.moves) now (more_given given bytes)) (sym h.3) steps);
       shown = λ w is_scan alive joined p shows.
           subst (λ (l : List ℕ). Denotes (l ++ bytes) p) s.given_is
           (d.denotes (sym (ap (λ (v : ClientState). is_ended v.outcome) d.rest) ∙ alive) (subst (λ (q : JoinHistory). IsJoined q) past_is joined) p (subst (λ (q : JoinHistory). ShowsFrames q.ended p) past_is shows));
@@ -211,14 +222,14 @@ scans_none (tasks.Batch count) single other = absurd (let clash : true ≡ false
 
 -- one that writes nothing
 pub drained_none : {C R : Type 0} (views : LinkViews C) (left_of : R → Option (List ℕ)) (job : Job) (first : C) (coming0 : Option (List (List ℕ))) (held : Option (List ℕ)) (notes : CallNotes) (control : C) (coming : Option (List (List ℕ))) (stream : Option R) (c : ClientState) (holds : Option (List ℕ)) (given : GivenFiles)
-    → is_batch job.task ≡ false → (job.task ≡ tasks.Scan → ⊥) → given.bytes ≡ [] → Appends held holds given.bytes → (g : FullRunInvariant views left_of job first coming0 given notes control coming stream c) → LastDelivers job.task g.fresh g.moves c
+    → is_batch job.task ≡ false → (job.task ≡ tasks.Scan → ⊥) → given.bytes ≡ [] → Appends held holds given.bytes → (g : FullRunInvariant views left_of job first coming0 given notes control coming stream c) → LastDelivers job.task g.fresh g.moves c given
     → Drained views left_of job first coming0 held notes true control coming stream c holds
 drained_none views left_of job first coming0 held notes control coming stream c holds given single other none taken g last = record {
   given = given;
   going = g;
   taken = taken;
   none = λ o. none;
-  steps = steps_given job.task g.fresh g.moves c [] c false (scans_none job.task single other) last (refl, refl);
+  steps = steps_still job.task g.fresh g.moves c given false (scans_none job.task single other) last (refl, (refl, refl));
   shown = λ w scan alive joined p shows. absurd (other scan);
 }
 
@@ -237,7 +248,7 @@ pub record Closed {C R : Type 0} (views : LinkViews C) (left_of : R → Option (
   pub is_fresh : IsNewClient job fresh
   pub leads : MovesLead fresh moves last
   pub ends : last.outcome ≡ c.outcome
-  pub steps : (whole ≡ true) ⊎ (is_ended c.outcome ≡ true) → MovesAreSteps fresh moves last
+  pub steps : (whole ≡ true) ⊎ (is_ended c.outcome ≡ true) → StepsSoFar fresh moves last given
   pub gave : files_text given.pages ++ given.bytes ≡ given_by moves
   pub all : has_write_failed moves ≡ false → left ≡ []
   pub taken : Appends held holds given.bytes
@@ -272,12 +283,6 @@ stops_over Running stop ends = absurd ends
 stops_over (Done reports) stop ends = refl
 stops_over (Ended status why) stop ends = refl
 
--- all moves are steps, where all bytes of the file went out, or no more will
-steps_at : (whole : Bool) (task : Task) (first : ClientState) (moves : List JobMove) (c : ClientState) → StepsBy whole task first moves c → (whole ≡ true) ⊎ (is_ended c.outcome ≡ true) → MovesAreSteps first moves c
-steps_at true task first moves c s either = s
-steps_at false task first moves c s (inl e) = absurd (let clash : false ≡ true = e in cc)
-steps_at false task first moves c s (inr ended) = steps_over task first moves c ended s
-
 -- leave was taken of the daemon: the last bytes were written
 pub closed_parted : {C R : Type 0} {whole : Bool} (views : LinkViews C) (left_of : R → Option (List ℕ)) (job : Job) (first : C) (coming0 : Option (List (List ℕ))) (held : Option (List ℕ)) (was now : CallNotes) (control then_ : C) (coming : Option (List (List ℕ))) (stream : Option R) (c : ClientState) (holds : Option (List ℕ))
     → is_running c.outcome ≡ false → Leaves views control was c.out then_ now → (d : Drained views left_of job first coming0 held was whole control coming stream c holds)
@@ -295,7 +300,7 @@ closed_parted {whole = whole} views left_of job first coming0 held was now contr
     is_fresh = d.going.is_fresh;
     leads = d.going.leads;
     ends = refl;
-    steps = steps_at whole job.task d.going.fresh d.going.moves c d.steps;
+    steps = steps_at whole job.task d.going.fresh d.going.moves c d.given d.steps;
     gave = d.going.gave;
     all = λ e. absurd (let clash : true ≡ false = sym up ∙ sym d.going.notes_are.write_failed ∙ e in cc);
     taken = d.taken;
@@ -321,7 +326,7 @@ closed_parted {whole = whole} views left_of job first coming0 held was now contr
         is_fresh = g.is_fresh;
         leads = (c, g.leads, record { all = refl; new_is = refl });
         ends = refl;
-        steps = λ either. steps_quiet g.fresh g.moves c (Writes c.out) (record c { out = [] }) (steps_at whole job.task g.fresh g.moves c d.steps either) (g.notes_are.write_failed ∙ up) tt (record { all = refl; new_is = refl });
+        steps = λ either. steps_quiet g.fresh g.moves c (Writes c.out) (record c { out = [] }) d.given (steps_at whole job.task g.fresh g.moves c d.given d.steps either) (g.notes_are.write_failed ∙ up) tt (record { all = refl; new_is = refl });
         gave = g.gave;
         all = λ e. refl;
         taken = d.taken;
@@ -347,7 +352,7 @@ closed_parted {whole = whole} views left_of job first coming0 held was now contr
         is_fresh = g.is_fresh;
         leads = (c, g.leads, falls_short c n over short);
         ends = refl;
-        steps = λ either. steps_quiet g.fresh g.moves c (Fails (take n c.out)) (record c { out = drop n c.out }) (steps_at whole job.task g.fresh g.moves c d.steps either) (g.notes_are.write_failed ∙ up) tt (falls_short c n over short);
+        steps = λ either. steps_quiet g.fresh g.moves c (Fails (take n c.out)) (record c { out = drop n c.out }) d.given (steps_at whole job.task g.fresh g.moves c d.given d.steps either) (g.notes_are.write_failed ∙ up) tt (falls_short c n over short);
         gave = g.gave;
         all = λ e. absurd (let clash : true ≡ false = e in cc);
         taken = d.taken;
@@ -438,13 +443,14 @@ run_done views left_of job first coming0 held notes control coming stream c hold
         };
         told = told;
         last_told = d.ends ∙ done;
-        steps = d.steps (inl refl);
+        steps = (d.steps (inl refl)).steps;
         all = d.all;
         read_all = refl;
         end_well = ends_well (target_of job) _ s.did.events s.trace s.did.runs (ap is_ended told);
         text = d.given.bytes;
         taken = d.taken;
         gave = one_file_given job s.trace _ _ s.rest d.left d.given (given_by d.moves) single s.did s.pages_is d.gave;
+        went_out = (d.steps (inl refl)).give.under_way;
         file = λ scan.
             let joined = scan_joined c.outcome c.progress s.history c.target.task reports (task_is c job s.target ∙ scan) done s.serves.fits in
             let p = shows s.history c.join s.serves.stands joined in
@@ -531,10 +537,6 @@ pub cause_of : (moves : List JobMove) (protocol : ProtocolState) (rest : List �
 cause_of moves protocol rest outcome told e (inl x) = inl (x ∙ e)
 cause_of moves protocol rest outcome told e (inr x) = inr (inl (subst (λ (o : Outcome). EndsBy moves protocol rest o) e x))
 
-same_steps : (a b : ClientState) (moves more : List JobMove) (c d : ClientState) → b ≡ a → more ≡ moves → d ≡ c → MovesAreSteps a moves c → MovesAreSteps b more d
-same_steps a b moves more c d first all last s =
-    subst (λ (v : ClientState). MovesAreSteps v more d) (sym first) (subst (λ (l : List JobMove). MovesAreSteps a l d) (sym all) (subst (λ (v : ClientState). MovesAreSteps a moves v) (sym last) s))
-
 -- a job that has ended otherwise has another status than GOOD
 abbrev pub HasRefusal : Outcome → Type 0
 HasRefusal outcome = IfEnded outcome (λ status why. status ≢ statuses.Good)
@@ -576,7 +578,7 @@ run_ended views left_of job first coming0 held notes links coming stream c holds
         ran = r.ran;
         cause = cause_of r.ran.moves r.ran.trace.protocol r.ran.rest c.outcome (Ended status why) over r.cause;
         last_told = inl (ap (λ (v : ClientState). v.outcome) r.last_is ∙ d.ends ∙ over);
-        steps = λ told. same_steps d.fresh r.ran.first d.moves r.ran.moves d.last r.ran.last r.first_is r.moves_is r.last_is (d.steps (inr (ap is_ended over)));
+        steps = λ told. (let x = same_steps d.fresh r.ran.first d.moves r.ran.moves d.last r.ran.last d.given r.first_is r.moves_is r.last_is (d.steps (inr (ap is_ended over))) in (x.steps, x.give.under_way));
         all = λ other. all_written d.moves r.ran.moves d.left r.ran.left r.moves_is r.left_is d.all;
         refusal = subst HasRefusal over (ran_refuses job r.ran.moves r.ran.trace _ _ r.ran.rest r.ran.left c.outcome r.ran.did r.cause);
         text = d.given.bytes;
@@ -646,7 +648,7 @@ pending_gave views left_of job first coming0 held notes control coming stream c 
 
 -- one in which nothing was given
 pub pending_went : {C R : Type 0} (views : LinkViews C) (left_of : R → Option (List ℕ)) (job : Job) (first : C) (coming0 : Option (List (List ℕ))) (held : Option (List ℕ)) (notes then_ : CallNotes) (control now : C) (coming come : Option (List (List ℕ))) (stream next : Option R) (c new : ClientState) (holds : Option (List ℕ))
-    → (p : Pending views left_of job first coming0 held notes control coming stream c holds) → (g : FullRunInvariant views left_of job first coming0 p.drained.given then_ now come next new) → AreStepsSoFar job.task g.fresh g.moves new
+    → (p : Pending views left_of job first coming0 held notes control coming stream c holds) → (g : FullRunInvariant views left_of job first coming0 p.drained.given then_ now come next new) → AreStepsSoFar job.task g.fresh g.moves new p.drained.given
     → Pending views left_of job first coming0 held then_ now come next new holds
 pending_went views left_of job first coming0 held notes then_ control now coming come stream next c new holds p g s = record {
   drained = record { given = p.drained.given; going = g; taken = p.drained.taken; none = p.drained.none; steps = s; shown = λ w. absurd (let clash : false ≡ true = w in cc) };
@@ -728,7 +730,7 @@ scan_by false result none failed = absurd (let clash : true ≡ false = sym (non
 -- ---- a turn's end: what a job gave of its file, if it is a scan
 
 gave_by : {C R : Type 0} (views : LinkViews C) (left_of : R → Option (List ℕ)) (job : Job) (first : C) (coming0 : Option (List (List ℕ))) (held : Option (List ℕ)) (notes : CallNotes) (control : C) (coming : Option (List (List ℕ))) (stream : Option R) (c now : ClientState) (was holds : Option (List ℕ)) (given : GivenFiles) (is_scan : Bool) (b : Bool)
-    → is_scan ≡ b → is_batch job.task ≡ false → is_scan ≡ true ↔ job.task ≡ tasks.Scan → Appends held was given.bytes → ((job.task ≡ tasks.Scan → ⊥) → given.bytes ≡ []) → (g : FullRunInvariant views left_of job first coming0 given notes control coming stream c) → LastDelivers job.task g.fresh g.moves c
+    → is_scan ≡ b → is_batch job.task ≡ false → is_scan ≡ true ↔ job.task ≡ tasks.Scan → Appends held was given.bytes → ((job.task ≡ tasks.Scan → ⊥) → given.bytes ≡ []) → (g : FullRunInvariant views left_of job first coming0 given notes control coming stream c) → LastDelivers job.task g.fresh g.moves c given
     → (is_scan ≡ false → (now ≡ c) × (holds ≡ was))
     → (is_scan ≡ true → (gives : List JobMove) × FileRunsOut c gives now × ((first : Option (List ℕ)) (past : JoinHistory) → HoldsGiven past c first was → IsDrainedTo past c first (given_by gives) now holds))
     → Drained views left_of job first coming0 held notes true control coming stream now holds
@@ -742,7 +744,7 @@ gave_by views left_of job first coming0 held notes control coming stream c now w
     (drained_none views left_of job first coming0 held notes control coming stream c holds given single other (none other) (subst (λ (o : Option (List ℕ)). Appends held o given.bytes) (sym kept.1) taken) g last)
 
 pub given_more : {C R : Type 0} (views : LinkViews C) (left_of : R → Option (List ℕ)) (job : Job) (first : C) (coming0 : Option (List (List ℕ))) (held : Option (List ℕ)) (notes : CallNotes) (control : C) (coming : Option (List (List ℕ))) (stream : Option R) (c now : ClientState) (was holds : Option (List ℕ)) (given : GivenFiles) (is_scan : Bool)
-    → is_batch job.task ≡ false → is_scan ≡ true ↔ job.task ≡ tasks.Scan → Appends held was given.bytes → ((job.task ≡ tasks.Scan → ⊥) → given.bytes ≡ []) → (g : FullRunInvariant views left_of job first coming0 given notes control coming stream c) → LastDelivers job.task g.fresh g.moves c
+    → is_batch job.task ≡ false → is_scan ≡ true ↔ job.task ≡ tasks.Scan → Appends held was given.bytes → ((job.task ≡ tasks.Scan → ⊥) → given.bytes ≡ []) → (g : FullRunInvariant views left_of job first coming0 given notes control coming stream c) → LastDelivers job.task g.fresh g.moves c given
     → (is_scan ≡ false → (now ≡ c) × (holds ≡ was))
     → (is_scan ≡ true → (gives : List JobMove) × FileRunsOut c gives now × ((first : Option (List ℕ)) (past : JoinHistory) → HoldsGiven past c first was → IsDrainedTo past c first (given_by gives) now holds))
     → Drained views left_of job first coming0 held notes true control coming stream now holds

@@ -55,7 +55,7 @@ shut : (b : Bool) → (b && false) ≡ false
 shut true = refl
 shut false = refl
 
-has_turned : (was now : ClientState) → TurnsPage was now → turns now.outcome now.progress ≡ false
+pub has_turned : (was now : ClientState) → TurnsPage was now → turns now.outcome now.progress ≡ false
 has_turned was now t = ap (λ (v : ClientState). turns v.outcome v.progress) t.rest ∙ shut (is_running was.outcome)
 
 -- ---- after so many pulls

@@ -16,14 +16,13 @@ use Rattle.client_replies.specs.ProtocolStates.{is_running, is_receiving, is_ima
 use Rattle.net_client.specs.ClientStates.{ClientState, after_client_end, IsNewClient}
 use Rattle.net_jobs.specs.declared.calls.Loss.TheVariants.{DialFailed}
 use Rattle.net_jobs.specs.JobJournal.{AreGives, JobMove, Writes, Fails, Hears, Resumes, Dials, Takes, Gives, Loses, given_by, HearsPiece, TakesPiece, LosesLink, after_loss, dialled_by, heard_by, bytes_written_by, HasLoss}
-use Rattle.net_jobs.specs.JobSteps.{MovesAreSteps}
 use Rattle.net_jobs.specs.Inside.{AreOfTurn, AreQuiet, Quiet, Delivered, IsDelivery, GivesAll, CallNotes, NotesMatch, no_notes, LoopState, Moves, MovesAll}
 use Rattle.net_jobs.specs.JobTraces.{JobTrace}
 use Rattle.net_jobs.specs.Links.{LinkViews}
 use Rattle.net_jobs.specs.Outputs.{files_text}
 use Rattle.net_jobs.proofs.InvariantRecords.{LinkMatchesTrace, ClientFollowsTrace, Falls, GivenFiles, no_files_given, RunInvariant, FullRunInvariant}
 use Rattle.net_jobs.proofs.Giving.{leads_on, calls_on, heard_on_gives, written_on_gives, dialled_on_gives, loss_on_gives, failed_on_gives, lost_on_gives, given_on_gives}
-use Rattle.net_jobs.proofs.Steps.{AllGiven, AreStepsSoFar, LastDelivers, NotDone, ToBeGiven, all_given, quiet_not_done, running_not_done, steps_begin, steps_quiet}
+use Rattle.net_jobs.proofs.Steps.{AllGiven, AreStepsSoFar, LastDelivers, NotDone, StepsSoFar, ToBeGiven, all_given, quiet_not_done, running_not_done, steps_begin, steps_quiet}
 use Rattle.net_jobs.proofs.Tracing.{did_write}
 use Rattle.net_jobs.proofs.KeepingInvariant.{following, stage_begun, stage_heard, stage_on}
 use Rattle.net_jobs.proofs.DataLoop.{stage_lost, stage_missed, stage_opened, stage_received, stage_let_go, receiving_runs}
@@ -98,7 +97,7 @@ stage_wrote left_of job moves read_ wrote left piece after_ coming0 coming given
 -- ---- the control connection
 
 pub going_begun : {C R : Type 0} (views : LinkViews C) (left_of : R → Option (List ℕ)) (job : Job) (control : C) (coming : Option (List (List ℕ))) (c : ClientState) → IsNewClient job c
-    → (g : FullRunInvariant views left_of job control coming no_files_given no_notes control coming None c) × (g.stage.history ≡ empty_history) × MovesAreSteps g.fresh g.moves c
+    → (g : FullRunInvariant views left_of job control coming no_files_given no_notes control coming None c) × (g.stage.history ≡ empty_history) × StepsSoFar g.fresh g.moves c no_files_given
 going_begun views left_of job control coming c f =
     let s = stage_begun left_of job coming c f in
     (record { moves = []; left = c.out; calls = refl; stage = s.0; left_is = λ e. refl; notes_are = record { loss = refl; write_failed = refl }; fresh = c; is_fresh = f; leads = refl; gave = refl }, s.1, steps_begin c)
@@ -365,7 +364,7 @@ moved_adds views left_of job first coming0 given was now (Gives bytes) m g = abs
 -- how far a job is that made steps alone, and is not done
 record StandsBySteps {L R : Type 0} (views : LinkViews L) (left_of : R → Option (List ℕ)) (job : Job) (first : L) (coming0 : Option (List (List ℕ))) (given : GivenFiles) (now : LoopState L R) : Type 0 where
   going : FullRunInvariant views left_of job first coming0 given now.notes now.links now.coming now.stream now.client
-  steps : MovesAreSteps going.fresh going.moves now.client
+  steps : StepsSoFar going.fresh going.moves now.client given
   not_done : NotDone now.client.outcome
 
 quiet_turn : {L R : Type 0} (views : LinkViews L) (left_of : R → Option (List ℕ)) (job : Job) (first : L) (coming0 : Option (List (List ℕ))) (given : GivenFiles) (was now : LoopState L R) (moves : List JobMove) → AreQuiet moves → MovesAll views left_of was moves now
@@ -375,17 +374,17 @@ quiet_turn views left_of job first coming0 given was now (move ∷ moves) quiet 
     let r = quiet_turn views left_of job first coming0 given was m.0 moves quiet.1 m.1 s in
     let h = going_moved views left_of job first coming0 given m.0 now move m.2 r.going in
     let adds = moved_adds views left_of job first coming0 given m.0 now move m.2 r.going in
-    let steps = steps_quiet r.going.fresh r.going.moves m.0.client move now.client r.steps (r.going.notes_are.write_failed ∙ m.2.up) quiet.0 m.2.client in
+    let steps = steps_quiet r.going.fresh r.going.moves m.0.client move now.client given r.steps (r.going.notes_are.write_failed ∙ m.2.up) quiet.0 m.2.client in
     record {
       going = h;
-      steps = subst (λ (l : List JobMove). MovesAreSteps h.fresh l now.client) (sym adds.0) (subst (λ (c : ClientState). MovesAreSteps c (move ∷ r.going.moves) now.client) (sym adds.1) steps);
+      steps = subst (λ (l : List JobMove). StepsSoFar h.fresh l now.client given) (sym adds.0) (subst (λ (c : ClientState). StepsSoFar c (move ∷ r.going.moves) now.client given) (sym adds.1) steps);
       not_done = quiet_not_done m.0.client move now.client quiet.0 m.2.client r.not_done;
     }
 
 -- how far a job is behind a turn: all that came brought its bytes of the file, or what came last has still to
 pub record HasTurned {L R : Type 0} (views : LinkViews L) (left_of : R → Option (List ℕ)) (job : Job) (first : L) (coming0 : Option (List (List ℕ))) (given : GivenFiles) (came : Bool) (now : LoopState L R) : Type 0 where
   pub going : FullRunInvariant views left_of job first coming0 given now.notes now.links now.coming now.stream now.client
-  pub steps : (MovesAreSteps going.fresh going.moves now.client × NotDone now.client.outcome × (came ≡ true → is_running now.client.outcome ≡ false)) ⊎ (LastDelivers job.task going.fresh going.moves now.client × (came ≡ true))
+  pub steps : (StepsSoFar going.fresh going.moves now.client given × NotDone now.client.outcome × (came ≡ true → is_running now.client.outcome ≡ false)) ⊎ (LastDelivers job.task going.fresh going.moves now.client given × (came ≡ true))
 
 delivers_turn : {L R : Type 0} (views : LinkViews L) (left_of : R → Option (List ℕ)) (job : Job) (first : L) (coming0 : Option (List (List ℕ))) (given : GivenFiles) (came : Bool) (was now : LoopState L R) (move : JobMove) (before : List JobMove) → IsDelivery move → AreQuiet before → came ≡ true → MovesAll views left_of was (move ∷ before) now
     → StandsBySteps views left_of job first coming0 given was → HasTurned views left_of job first coming0 given came now
@@ -401,7 +400,7 @@ delivers_turn views left_of job first coming0 given came was now move before del
           move = move;
           mid = m.0.client;
           moves_are = adds.0;
-          steps = subst (λ (c : ClientState). MovesAreSteps c r.going.moves m.0.client) (sym adds.1) r.steps;
+          steps = subst (λ (c : ClientState). StepsSoFar c r.going.moves m.0.client given) (sym adds.1) r.steps;
           up = r.going.notes_are.write_failed ∙ m.2.up;
           delivers = delivers;
           leads = m.2.client;
@@ -412,11 +411,11 @@ delivers_turn views left_of job first coming0 given came was now move before del
     }
 
 pub turns_on : {L R : Type 0} (views : LinkViews L) (left_of : R → Option (List ℕ)) (job : Job) (first : L) (coming0 : Option (List (List ℕ))) (given : GivenFiles) (came : Bool) (was now : LoopState L R) (moves : List JobMove) → AreOfTurn came now.client moves → MovesAll views left_of was moves now
-    → is_running was.client.outcome ≡ true → (g : FullRunInvariant views left_of job first coming0 given was.notes was.links was.coming was.stream was.client) → AreStepsSoFar job.task g.fresh g.moves was.client → HasTurned views left_of job first coming0 given came now
+    → is_running was.client.outcome ≡ true → (g : FullRunInvariant views left_of job first coming0 given was.notes was.links was.coming was.stream was.client) → AreStepsSoFar job.task g.fresh g.moves was.client given → HasTurned views left_of job first coming0 given came now
 turns_on views left_of job first coming0 given came was now moves turn m runs g s = by turn
   where
     from : StandsBySteps views left_of job first coming0 given was
-    from = record { going = g; steps = all_given job.task g.fresh g.moves was.client runs s; not_done = running_not_done was.client.outcome runs }
+    from = record { going = g; steps = all_given job.task g.fresh g.moves was.client given runs s; not_done = running_not_done was.client.outcome runs }
 
     by : AreOfTurn came now.client moves → HasTurned views left_of job first coming0 given came now
     by (Quiet quiet over) = let r = quiet_turn views left_of job first coming0 given was now moves quiet m from in record { going = r.going; steps = inl (r.steps, r.not_done, over) }
@@ -426,19 +425,19 @@ turns_on views left_of job first coming0 given came was now moves turn m runs g 
 
 -- nothing goes out: nothing came, or the job is over
 pub turned_still : {L R : Type 0} (views : LinkViews L) (left_of : R → Option (List ℕ)) (job : Job) (first : L) (coming0 : Option (List (List ℕ))) (given : GivenFiles) (came : Bool) (now : LoopState L R) (t : HasTurned views left_of job first coming0 given came now) → (came ≡ false) ⊎ (is_running now.client.outcome ≡ false)
-    → AreStepsSoFar job.task t.going.fresh t.going.moves now.client
+    → AreStepsSoFar job.task t.going.fresh t.going.moves now.client given
 turned_still views left_of job first coming0 given came now t none = by t.steps none
   where
-    by : (MovesAreSteps t.going.fresh t.going.moves now.client × NotDone now.client.outcome × (came ≡ true → is_running now.client.outcome ≡ false)) ⊎ (LastDelivers job.task t.going.fresh t.going.moves now.client × (came ≡ true)) → (came ≡ false) ⊎ (is_running now.client.outcome ≡ false)
-        → AreStepsSoFar job.task t.going.fresh t.going.moves now.client
+    by : (StepsSoFar t.going.fresh t.going.moves now.client given × NotDone now.client.outcome × (came ≡ true → is_running now.client.outcome ≡ false)) ⊎ (LastDelivers job.task t.going.fresh t.going.moves now.client given × (came ≡ true)) → (came ≡ false) ⊎ (is_running now.client.outcome ≡ false)
+        → AreStepsSoFar job.task t.going.fresh t.going.moves now.client given
     by (inl all) either = AllGiven all.0 all.1
     by (inr last) (inl off) = absurd (let clash : true ≡ false = sym last.1 ∙ off in cc)
     by (inr last) (inr over) = ToBeGiven last.0 over
 
 pub turned_delivers : {L R : Type 0} (views : LinkViews L) (left_of : R → Option (List ℕ)) (job : Job) (first : L) (coming0 : Option (List (List ℕ))) (given : GivenFiles) (came : Bool) (now : LoopState L R) (t : HasTurned views left_of job first coming0 given came now) → came ≡ true → is_running now.client.outcome ≡ true
-    → LastDelivers job.task t.going.fresh t.going.moves now.client
+    → LastDelivers job.task t.going.fresh t.going.moves now.client given
 turned_delivers views left_of job first coming0 given came now t is runs = by t.steps
   where
-    by : (MovesAreSteps t.going.fresh t.going.moves now.client × NotDone now.client.outcome × (came ≡ true → is_running now.client.outcome ≡ false)) ⊎ (LastDelivers job.task t.going.fresh t.going.moves now.client × (came ≡ true)) → LastDelivers job.task t.going.fresh t.going.moves now.client
+    by : (StepsSoFar t.going.fresh t.going.moves now.client given × NotDone now.client.outcome × (came ≡ true → is_running now.client.outcome ≡ false)) ⊎ (LastDelivers job.task t.going.fresh t.going.moves now.client given × (came ≡ true)) → LastDelivers job.task t.going.fresh t.going.moves now.client given
     by (inl all) = absurd (let clash : true ≡ false = sym runs ∙ all.2 is in cc)
     by (inr last) = last.0

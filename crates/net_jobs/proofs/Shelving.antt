@@ -19,15 +19,16 @@ use Rattle.client_replies.specs.declared.progress.JobTarget.{JobTarget}
 use Rattle.client_replies.specs.declared.progress.Progress.{Progress}
 use Rattle.client_replies.specs.declared.progress.Progress.TheVariants as stages
 use Rattle.client_replies.specs.Asking.{request_for}
-use Rattle.client_replies.specs.ProtocolStates.{ProtocolState, target_of, is_running, is_receiving, is_ended, scans, turns, FitsEnded, protocol_of_next_page}
+use Rattle.client_replies.specs.ProtocolStates.{ProtocolState, target_of, is_batch, is_running, is_receiving, is_ended, scans, turns, FitsEnded, protocol_of_next_page}
 use Rattle.net_client.specs.Sending.{optional_request_text}
 use Rattle.net_client.specs.ClientStates.{ClientState, ClientRepresents, IsNewClient, TurnsPage, protocol_of}
 use Rattle.net_jobs.specs.JobTraces.{JobTrace, EventLeads, Turned}
+use Rattle.net_jobs.specs.JobSteps.{FileGoesOn, PageEnds}
 use Rattle.net_jobs.specs.JobJournal.{JobMove, MovesLead, Writes, Fails, given_by, bytes_written_by, heard_by, dialled_by, has_write_failed}
-use Rattle.net_jobs.specs.Inside.{GivesAll, CallNotes, NotesMatch, no_notes, HasTaken, OutputIsUnderWay, IsFiling, TurnsOn, HasFiled}
+use Rattle.net_jobs.specs.Inside.{GivesAll, CallNotes, NotesMatch, no_notes, HasTaken, OutputIsUnderWay, IsFiling, TurnsOn, HasFiled, GivesPage}
 use Rattle.net_jobs.specs.RunPromises.{EndsBy, ByLoss, ByMemory, ByGarble, ByLength}
 use Rattle.net_jobs.specs.Links.{LinkViews, Calls}
-use Rattle.net_jobs.proofs.InvariantRecords.{LinkMatchesTrace, ClientFollowsTrace, Falls, GivenFiles, no_files_given, RunInvariant, FullRunInvariant}
+use Rattle.net_jobs.proofs.InvariantRecords.{LinkMatchesTrace, ClientFollowsTrace, Falls, GivenFiles, no_files_given, RunInvariant, FullRunInvariant, turned_given, more_given}
 use Rattle.net_jobs.specs.Outputs.{files_text, page_outputs_from}
 use Rattle.scan_job.specs.FileOutputs.{TakesBack}
 use Rattle.net_jobs.specs.Batches.{IsPageFile}
@@ -36,8 +37,9 @@ use Rattle.net_jobs.proofs.KeepingInvariant.{following, asked_now, stage_on}
 use Rattle.net_jobs.proofs.DataLoop.{behind_some}
 use Rattle.net_jobs.proofs.RunInvariants.{none_open, stage_wrote, going_begun, gave_on}
 use Rattle.net_jobs.proofs.FileNumbers.{Counts, counts, is_turning_at}
-use Rattle.net_jobs.proofs.JobEnds.{NoneBefore, falls_short, Leaves, PartedBefore, PartsWhole, PartsShort, more_given, stage_gave_by, task_is, running_ends}
-use Rattle.net_jobs.proofs.Pages.{turning_fits}
+use Rattle.net_jobs.proofs.JobEnds.{NoneBefore, falls_short, Leaves, PartedBefore, PartsWhole, PartsShort, stage_gave_by, task_is, running_ends, turning_batch}
+use Rattle.net_jobs.proofs.Pages.{has_turned, turning_fits}
+use Rattle.net_jobs.proofs.Steps.{AllGiven, AreStepsSoFar, LastDelivers, StepsBy, StepsSoFar, ended_not_done, running_not_done, steps_at, steps_given, steps_quiet, steps_still, steps_turned}
 use Rattle.net_jobs.proofs.Shelves.{begins_with_none, none_under_way, outputs_more}
 
 -- what a shelf holds of a job's files: the pages that were turned, each whole, and what was given of the one under way
@@ -50,6 +52,7 @@ pub record OnShelf (whole : Bool) (job : Job) (before now : Option Stock) (out :
 pub record Laid {C R : Type 0} (views : LinkViews C) (left_of : R → Option (List ℕ)) (job : Job) (first : C) (coming0 : Option (List (List ℕ))) (before : Option Stock) (notes : CallNotes) (whole : Bool) (control : C) (coming : Option (List (List ℕ))) (stream : Option R) (c : ClientState) (now : Option Stock) (out : Option (Option (List ℕ))) : Type 0 where
   pub given : GivenFiles
   pub going : FullRunInvariant views left_of job first coming0 given notes control coming stream c
+  pub steps : StepsBy whole job.task going.fresh going.moves c given
   pub shelf : OnShelf whole job before now out given c going.stage.history
 
 pub laid_first : {C R : Type 0} (views : LinkViews C) (left_of : R → Option (List ℕ)) (job : Job) (control : C) (coming : Option (List (List ℕ))) (before : Option Stock) (out : Option (Option (List ℕ))) (c : ClientState) → IsNewClient job c → out ≡ None
@@ -59,6 +62,7 @@ laid_first views left_of job control coming before out c f none =
     record {
       given = no_files_given;
       going = g.0;
+      steps = AllGiven g.2 (ended_not_done c.outcome Running (ap (λ (v : ClientState). v.outcome) f.value) tt);
       shelf = record {
         under_way = record { taken = subst (λ (o : Option (Option (List ℕ))). HasTaken before [] before o 1 []) (sym none) (begins_with_none before 1); asked = λ e. none };
         files = All-nil IsPageFile;
@@ -90,9 +94,6 @@ number_at left_of job moves read_ wrote left coming0 coming given stream c h s a
 abbrev turned_course : JobTrace → List ℕ → List ℕ → JobTrace
 turned_course trace bytes said = record { text = trace.text; streams = trace.streams; pages = trace.pages ++ after_pull bytes trace.protocol.history ∷ []; sent = trace.sent ++ said; protocol = protocol_of_next_page trace.protocol }
 
-abbrev pub turned_given : GivenFiles → JoinHistory → GivenFiles
-turned_given given page = record { pages = given.pages ++ page ∷ []; bytes = [] }
-
 turning_shut : (outcome : Outcome) (progress : Progress) → turns outcome progress ≡ true → is_receiving outcome progress ≡ false
 turning_shut outcome stages.Turning e = refl
 turning_shut outcome progress e = ap (λ (p : Progress). is_receiving outcome p) (is_turning_at outcome progress e)
@@ -101,6 +102,11 @@ turning_running : (outcome : Outcome) (progress : Progress) → turns outcome pr
 turning_running Running progress e = refl
 turning_running (Done reports) progress e = absurd (let clash : false ≡ true = e in cc)
 turning_running (Ended status why) progress e = absurd (let clash : false ≡ true = e in cc)
+
+not_over : (outcome : Outcome) → is_running outcome ≡ true → is_ended outcome ≡ false
+not_over Running e = refl
+not_over (Done reports) e = refl
+not_over (Ended status why) e = absurd (let clash : false ≡ true = e in cc)
 
 linked_none : {R : Type 0} (left_of : R → Option (List ℕ)) (coming0 coming : Option (List (List ℕ))) (streams : List (List ℕ)) (c new : ClientState) (past : JoinHistory) → LinkMatchesTrace left_of coming0 coming streams None c past → LinkMatchesTrace left_of coming0 coming streams None new empty_history
 linked_none left_of coming0 coming streams c new past l = record { wholes = l.wholes; begin = l.begin; brought = l.brought; empty = λ port e. refl }
@@ -155,17 +161,38 @@ files_more : (pages : List JoinHistory) (page : JoinHistory) → files_text (pag
 files_more [] page = append-nil page.given
 files_more (other ∷ pages) page = ap (λ (l : List ℕ). other.given ++ l) (files_more pages page) ∙ sym (append_assoc other.given (files_text pages) page.given)
 
+-- bytes of its file went out so, of a client that has none to turn
+goes_on : (c now : ClientState) (gives : List JobMove) → turns c.outcome c.progress ≡ false → GivesPage c gives now → FileGoesOn c gives now
+goes_on c now gives still (inl on) = record { still = still; runs_out = on.0 }
+goes_on c now gives still (inr ends) = absurd (let clash : true ≡ false = sym ends.begins ∙ still in cc)
+
+-- or they were its last
+goes_out : (c was now : ClientState) (gives : List JobMove) → turns c.outcome c.progress ≡ true → TurnsPage was now → GivesPage c gives now → PageEnds c gives now
+goes_out c was now gives turning turned (inl on) = absurd (let clash : true ≡ false = sym turning ∙ sym on.1 ∙ has_turned was now turned in cc)
+goes_out c was now gives turning turned (inr ends) = ends
+
+-- a client that waits for its page's file to be taken does not go on with it once no bytes are left
+none_to_turn : (b : Bool) (c now : ClientState) (past : JoinHistory) (bytes : List ℕ) → turns c.outcome c.progress ≡ b → ((past : JoinHistory) (join : JoinState) → Represents past join → IsJoined past → (p : Picture) × ShowsFrames past.ended p) → ClientRepresents past c
+    → now ≡ record c { join = now.join } → ClientRepresents (after_pull bytes past) now → (is_ended c.outcome ≡ false → IsJoined past → (p : Picture) → ShowsFrames past.ended p → Denotes (past.given ++ bytes) p) → turns c.outcome c.progress ≡ false
+none_to_turn false c now past bytes e shows serves rest after denotes = e
+none_to_turn true c now past bytes e shows serves rest after denotes =
+    let joined = (turning_fits c.target.task c.outcome c.progress past e serves.fits).0 in
+    let p = shows past c.join serves.stands joined in
+    let turning : turns now.outcome now.progress ≡ true = ap (λ (v : ClientState). turns v.outcome v.progress) rest ∙ e in
+    absurd ((turning_fits now.target.task now.outcome now.progress (after_pull bytes past) turning after.fits).1 (p.0, denotes (not_over c.outcome (turning_running c.outcome c.progress e)) joined p.0 p.1))
+
 -- a job that turned a page, whether the shelf kept its output or refused it
 pub record PageIsTurned {C R : Type 0} (views : LinkViews C) (left_of : R → Option (List ℕ)) (job : Job) (first : C) (coming0 : Option (List (List ℕ))) (given : GivenFiles) (page : JoinHistory) (notes : CallNotes) (control : C) (coming : Option (List (List ℕ))) (stream : Option R) (now : ClientState) : Type 0 where
   pub going : FullRunInvariant views left_of job first coming0 (turned_given given page) notes control coming stream now
   pub anew : going.stage.history ≡ empty_history
+  pub alive : is_ended now.outcome ≡ false
   pub file : IsPageFile page
 
 pub page_turned : {C R : Type 0} (views : LinkViews C) (left_of : R → Option (List ℕ)) (job : Job) (first : C) (coming0 : Option (List (List ℕ))) (before : Option Stock) (notes : CallNotes) (control : C) (coming : Option (List (List ℕ))) (stream : Option R) (c now : ClientState) (then_ : Option Stock) (out : Option (Option (List ℕ))) (given : GivenFiles) (gives : List JobMove) (kept : Bool)
     → ((past : JoinHistory) (join : JoinState) → Represents past join → IsJoined past → (p : Picture) × ShowsFrames past.ended p)
     → (g : FullRunInvariant views left_of job first coming0 given notes control coming stream c) → GivesAll c gives now
     → (e : TurnsOn g.stage.history c (length given.pages + 1) before (page_outputs_from 1 given.pages) (given_by gives) kept now then_ out)
-    → PageIsTurned views left_of job first coming0 given (after_pull (given_by gives) g.stage.history) notes control coming stream now
+    → (t : PageIsTurned views left_of job first coming0 given (after_pull (given_by gives) g.stage.history) notes control coming stream now) × (t.going.moves ≡ gives ++ g.moves) × (t.going.fresh ≡ g.fresh)
 page_turned views left_of job first coming0 before notes control coming stream c now then_ out given gives kept shows g all e =
     let s = g.stage in
     let bytes : List ℕ = given_by gives in
@@ -176,19 +203,24 @@ page_turned views left_of job first coming0 before notes control coming stream c
     let text : files_text (given.pages ++ page ∷ []) ++ [] ≡ (files_text given.pages ++ given.bytes) ++ bytes = append-nil (files_text (given.pages ++ page ∷ [])) ∙ files_more given.pages page
     ∙ ap (λ (l : List ℕ). files_text given.pages ++ (l ++ bytes)) s.given_is ∙ sym (append_assoc (files_text given.pages) given.bytes bytes) in
     let h = gave_on views left_of job first coming0 given (turned_given given page) notes control coming stream c now gives (g.left ++ says.0) all g t.0 (λ x. ap (λ (l : List ℕ). l ++ says.0) (g.left_is x) ∙ sym says.2) text in
-    record { going = h.0; anew = h.1 ∙ t.1; file = turned_file s.history c.join bytes shows s.serves.stands fits.0 e.denotes }
+    let runs : is_running now.outcome ≡ true = ap (λ (v : ClientState). is_running v.outcome) e.client.rest ∙ turning_running c.outcome c.progress e.turning in
+    (record { going = h.0; anew = h.1 ∙ t.1; alive = not_over now.outcome runs; file = turned_file s.history c.join bytes shows s.serves.stands fits.0 e.denotes }, h.2, h.3)
 
 pub laid_next : {C R : Type 0} (views : LinkViews C) (left_of : R → Option (List ℕ)) (job : Job) (first : C) (coming0 : Option (List (List ℕ))) (before : Option Stock) (notes : CallNotes) (control : C) (coming : Option (List (List ℕ))) (stream : Option R) (c now : ClientState) (then_ : Option Stock) (out : Option (Option (List ℕ))) (given : GivenFiles) (gives : List JobMove)
     → ((past : JoinHistory) (join : JoinState) → Represents past join → IsJoined past → (p : Picture) × ShowsFrames past.ended p)
-    → scans job.task ≡ true → All IsPageFile given.pages → (g : FullRunInvariant views left_of job first coming0 given notes control coming stream c) → GivesAll c gives now
+    → scans job.task ≡ true → All IsPageFile given.pages → (g : FullRunInvariant views left_of job first coming0 given notes control coming stream c) → LastDelivers job.task g.fresh g.moves c given → GivesAll c gives now → GivesPage c gives now
     → (e : TurnsOn g.stage.history c (length given.pages + 1) before (page_outputs_from 1 given.pages) (given_by gives) true now then_ out)
     → Laid views left_of job first coming0 before notes true control coming stream now then_ out
-laid_next views left_of job first coming0 before notes control coming stream c now then_ out given gives shows scanning files g all e =
+laid_next views left_of job first coming0 before notes control coming stream c now then_ out given gives shows scanning files g last all out_of e =
     let page : JoinHistory = after_pull (given_by gives) g.stage.history in
-    let t = page_turned views left_of job first coming0 before notes control coming stream c now then_ out given gives true shows g all e in
+    let turned = page_turned views left_of job first coming0 before notes control coming stream c now then_ out given gives true shows g all e in
+    let t = turned.0 in
+    let batch : is_batch c.target.task ≡ true = turning_batch c.target.task c.outcome c.progress g.stage.history e.turning g.stage.serves.fits in
+    let steps = steps_turned job.task g.fresh g.moves c given page gives now scanning (ap (λ (l : List ℕ). l ++ given_by gives) g.stage.given_is) last (batch, goes_out c (record c { join = e.join }) now gives e.turning e.client out_of) in
     record {
       given = turned_given given page;
       going = t.going;
+      steps = subst (λ (l : List JobMove). StepsSoFar t.going.fresh l now (turned_given given page)) (sym turned.1) (subst (λ (v : ClientState). StepsSoFar v (gives ++ g.moves) now (turned_given given page)) (sym turned.2) steps);
       shelf = record {
         under_way = record {
           taken = subst (λ (o : Option (Option (List ℕ))). HasTaken before (page_outputs_from 1 (given.pages ++ page ∷ [])) then_ o (length (given.pages ++ page ∷ []) + 1) []) (sym e.none)
@@ -204,10 +236,10 @@ laid_next views left_of job first coming0 before notes control coming stream c n
 
 pub laid_more : {C R : Type 0} (views : LinkViews C) (left_of : R → Option (List ℕ)) (job : Job) (first : C) (coming0 : Option (List (List ℕ))) (before : Option Stock) (notes : CallNotes) (control : C) (coming : Option (List (List ℕ))) (stream : Option R) (c now : ClientState) (then_ : Option Stock) (out : Option (Option (List ℕ))) (given : GivenFiles) (gives : List JobMove)
     → ((past : JoinHistory) (join : JoinState) → Represents past join → IsJoined past → (p : Picture) × ShowsFrames past.ended p)
-    → scans job.task ≡ true → All IsPageFile given.pages → (g : FullRunInvariant views left_of job first coming0 given notes control coming stream c) → GivesAll c gives now
+    → scans job.task ≡ true → All IsPageFile given.pages → (g : FullRunInvariant views left_of job first coming0 given notes control coming stream c) → LastDelivers job.task g.fresh g.moves c given → GivesAll c gives now → GivesPage c gives now
     → HasFiled g.stage.history c (length given.pages + 1) before (page_outputs_from 1 given.pages) (given_by gives) now then_ out
     → Laid views left_of job first coming0 before notes true control coming stream now then_ out
-laid_more views left_of job first coming0 before notes control coming stream c now then_ out given gives shows scanning files g all (inl e) =
+laid_more views left_of job first coming0 before notes control coming stream c now then_ out given gives shows scanning files g last all out_of (inl e) =
     let s = g.stage in
     let bytes : List ℕ = given_by gives in
     let serves = subst (λ (v : ClientState). ClientRepresents (after_pull bytes s.history) v) e.rest e.serves in
@@ -215,9 +247,12 @@ laid_more views left_of job first coming0 before notes control coming stream c n
     let at = subst (λ (v : ClientState). (t : RunInvariant left_of job g.moves (heard_by g.moves) (bytes_written_by g.moves) g.left coming0 coming (more_given given bytes) stream v) × (t.history ≡ after_pull bytes s.history)) (sym e.rest) gave in
     let h = gave_on views left_of job first coming0 given (more_given given bytes) notes control coming stream c now gives g.left all g at.0 (λ x. g.left_is x ∙ sym (ap (λ (v : ClientState). v.out) e.rest)) (sym (append_assoc (files_text given.pages) given.bytes bytes)) in
     let past_is = h.1 ∙ at.1 in
+    let still = none_to_turn (turns c.outcome c.progress) c now s.history bytes refl shows s.serves e.rest e.serves e.denotes in
+    let steps = steps_given job.task g.fresh g.moves c given gives now true scanning last (inl (goes_on c now gives still out_of)) in
     record {
       given = more_given given bytes;
       going = h.0;
+      steps = subst (λ (l : List JobMove). StepsSoFar h.0.fresh l now (more_given given bytes)) (sym h.2) (subst (λ (v : ClientState). StepsSoFar v (gives ++ g.moves) now (more_given given bytes)) (sym h.3) steps);
       shelf = record {
         under_way = subst (λ (l : List ℕ). OutputIsUnderWay before (page_outputs_from 1 given.pages) then_ out (length given.pages + 1) (l ++ bytes)) s.given_is e.under_way;
         files = files;
@@ -227,16 +262,17 @@ laid_more views left_of job first coming0 before notes control coming stream c n
             (e.denotes (sym (ap (λ (v : ClientState). is_ended v.outcome) e.rest) ∙ alive) (subst (λ (q : JoinHistory). IsJoined q) past_is joined) p (subst (λ (q : JoinHistory). ShowsFrames q.ended p) past_is shows));
       };
     }
-laid_more views left_of job first coming0 before notes control coming stream c now then_ out given gives shows scanning files g all (inr e) =
-    laid_next views left_of job first coming0 before notes control coming stream c now then_ out given gives shows scanning files g all e
+laid_more views left_of job first coming0 before notes control coming stream c now then_ out given gives shows scanning files g last all out_of (inr e) =
+    laid_next views left_of job first coming0 before notes control coming stream c now then_ out given gives shows scanning files g last all out_of e
 
 -- one that writes nothing
 pub laid_none : {C R : Type 0} {was_whole : Bool} (views : LinkViews C) (left_of : R → Option (List ℕ)) (job : Job) (first : C) (coming0 : Option (List (List ℕ))) (before : Option Stock) (notes : CallNotes) (control : C) (coming : Option (List (List ℕ))) (stream : Option R) (c old : ClientState) (now : Option Stock) (out : Option (Option (List ℕ))) (given : GivenFiles) (past : JoinHistory)
-    → scans job.task ≡ false → OnShelf was_whole job before now out given old past → FullRunInvariant views left_of job first coming0 given notes control coming stream c
+    → scans job.task ≡ false → OnShelf was_whole job before now out given old past → (g : FullRunInvariant views left_of job first coming0 given notes control coming stream c) → LastDelivers job.task g.fresh g.moves c given
     → Laid views left_of job first coming0 before notes true control coming stream c now out
-laid_none views left_of job first coming0 before notes control coming stream c old now out given past other shelf g = record {
+laid_none views left_of job first coming0 before notes control coming stream c old now out given past other shelf g last = record {
   given = given;
   going = g;
+  steps = steps_still job.task g.fresh g.moves c given false other last (refl, (refl, refl));
   shelf = record { under_way = shelf.under_way; files = shelf.files; none = shelf.none; shown = λ w scan. absurd (let clash : true ≡ false = sym scan ∙ other in cc) };
 }
 
@@ -255,6 +291,7 @@ pub record Shut {C R : Type 0} (views : LinkViews C) (left_of : R → Option (Li
   pub is_fresh : IsNewClient job fresh
   pub leads : MovesLead fresh moves last
   pub ends : last.outcome ≡ c.outcome
+  pub steps : (whole ≡ true) ⊎ (is_ended c.outcome ≡ true) → StepsSoFar fresh moves last given
   pub gave : files_text given.pages ++ given.bytes ≡ given_by moves
   pub all : has_write_failed moves ≡ false → left ≡ []
   pub shelf : OnShelf whole job before now out given c stage.history
@@ -284,6 +321,7 @@ shut_parted {whole = whole} views left_of job first coming0 before was behind co
     is_fresh = d.going.is_fresh;
     leads = d.going.leads;
     ends = refl;
+    steps = steps_at whole job.task d.going.fresh d.going.moves c d.given d.steps;
     gave = d.going.gave;
     all = λ e. absurd (let clash : true ≡ false = sym up ∙ sym d.going.notes_are.write_failed ∙ e in cc);
     shelf = d.shelf;
@@ -306,6 +344,7 @@ shut_parted {whole = whole} views left_of job first coming0 before was behind co
         is_fresh = g.is_fresh;
         leads = (c, g.leads, record { all = refl; new_is = refl });
         ends = refl;
+        steps = λ either. steps_quiet g.fresh g.moves c (Writes c.out) (record c { out = [] }) d.given (steps_at whole job.task g.fresh g.moves c d.given d.steps either) (g.notes_are.write_failed ∙ up) tt (record { all = refl; new_is = refl });
         gave = g.gave;
         all = λ e. refl;
         shelf = same_shelf job before now out d.given c g.stage.history t.0.history (t.1 ∙ s.1) d.shelf;
@@ -328,6 +367,7 @@ shut_parted {whole = whole} views left_of job first coming0 before was behind co
         is_fresh = g.is_fresh;
         leads = (c, g.leads, falls_short c n over short);
         ends = refl;
+        steps = λ either. steps_quiet g.fresh g.moves c (Fails (take n c.out)) (record c { out = drop n c.out }) d.given (steps_at whole job.task g.fresh g.moves c d.given d.steps either) (g.notes_are.write_failed ∙ up) tt (falls_short c n over short);
         gave = g.gave;
         all = λ e. absurd (let clash : true ≡ false = e in cc);
         shelf = same_shelf job before now out d.given c g.stage.history t.0.history (t.1 ∙ s.1) d.shelf;
@@ -357,31 +397,31 @@ from_here views left_of job first coming0 before was notes control coming stream
 
 laid_by : {C R : Type 0} {was_whole : Bool} (views : LinkViews C) (left_of : R → Option (List ℕ)) (job : Job) (first : C) (coming0 : Option (List (List ℕ))) (before was : Option Stock) (notes : CallNotes) (control : C) (coming : Option (List (List ℕ))) (stream : Option R) (c old now : ClientState) (then_ : Option Stock) (under out : Option (Option (List ℕ))) (given : GivenFiles) (past : JoinHistory) (is_scanning b : Bool)
     → is_scanning ≡ b → is_scanning ≡ scans job.task → HasCount job.task → ((past : JoinHistory) (join : JoinState) → Represents past join → IsJoined past → (p : Picture) × ShowsFrames past.ended p)
-    → OnShelf was_whole job before was under given old past → (g : FullRunInvariant views left_of job first coming0 given notes control coming stream c)
+    → OnShelf was_whole job before was under given old past → (g : FullRunInvariant views left_of job first coming0 given notes control coming stream c) → LastDelivers job.task g.fresh g.moves c given
     → (is_scanning ≡ false → (now ≡ c) × (then_ ≡ was) × (out ≡ under))
     → (is_scanning ≡ true → (gives : List JobMove) × GivesAll c gives now
-    × ((before : Option Stock) (outputs : List ReturnedOutput) (k : ℕ) (q : JoinHistory) → IsFiling q c k before outputs was under → HasFiled q c k before outputs (given_by gives) now then_ out))
+    × ((before : Option Stock) (outputs : List ReturnedOutput) (k : ℕ) (q : JoinHistory) → IsFiling q c k before outputs was under → GivesPage c gives now × HasFiled q c k before outputs (given_by gives) now then_ out))
     → Laid views left_of job first coming0 before notes true control coming stream now then_ out
-laid_by views left_of job first coming0 before was notes control coming stream c old now then_ under out given past is_scanning true e scanning h shows shelf g none goes =
+laid_by views left_of job first coming0 before was notes control coming stream c old now then_ under out given past is_scanning true e scanning h shows shelf g last none goes =
     let gives = goes e in
-    laid_more views left_of job first coming0 before notes control coming stream c now then_ out given gives.0 shows (sym scanning ∙ e) shelf.files g gives.1
-    (from_here views left_of job first coming0 before was notes control coming stream c old under given past (λ b outputs k q. HasFiled q c k b outputs (given_by gives.0) now then_ out) (sym scanning ∙ e) h shelf g gives.2)
-laid_by views left_of job first coming0 before was notes control coming stream c old now then_ under out given past is_scanning false e scanning h shows shelf g none goes =
+    let went = from_here views left_of job first coming0 before was notes control coming stream c old under given past (λ b outputs k q. GivesPage c gives.0 now × HasFiled q c k b outputs (given_by gives.0) now then_ out) (sym scanning ∙ e) h shelf g gives.2 in
+    laid_more views left_of job first coming0 before notes control coming stream c now then_ out given gives.0 shows (sym scanning ∙ e) shelf.files g last gives.1 went.0 went.1
+laid_by views left_of job first coming0 before was notes control coming stream c old now then_ under out given past is_scanning false e scanning h shows shelf g last none goes =
     let same = none e in
     subst (λ (v : ClientState). Laid views left_of job first coming0 before notes true control coming stream v then_ out) (sym same.0)
     (subst (λ (o : Option Stock). Laid views left_of job first coming0 before notes true control coming stream c o out) (sym same.1)
     (subst (λ (o : Option (Option (List ℕ))). Laid views left_of job first coming0 before notes true control coming stream c was o) (sym same.2)
-    (laid_none views left_of job first coming0 before notes control coming stream c old was under given past (sym scanning ∙ e) shelf g)))
+    (laid_none views left_of job first coming0 before notes control coming stream c old was under given past (sym scanning ∙ e) shelf g last)))
 
 pub laid_then : {C R : Type 0} {was_whole : Bool} (views : LinkViews C) (left_of : R → Option (List ℕ)) (job : Job) (first : C) (coming0 : Option (List (List ℕ))) (before was : Option Stock) (notes : CallNotes) (control : C) (coming : Option (List (List ℕ))) (stream : Option R) (c old now : ClientState) (then_ : Option Stock) (under out : Option (Option (List ℕ))) (given : GivenFiles) (past : JoinHistory) (is_scanning : Bool)
     → is_scanning ≡ scans job.task → HasCount job.task → ((past : JoinHistory) (join : JoinState) → Represents past join → IsJoined past → (p : Picture) × ShowsFrames past.ended p)
-    → OnShelf was_whole job before was under given old past → (g : FullRunInvariant views left_of job first coming0 given notes control coming stream c)
+    → OnShelf was_whole job before was under given old past → (g : FullRunInvariant views left_of job first coming0 given notes control coming stream c) → LastDelivers job.task g.fresh g.moves c given
     → (is_scanning ≡ false → (now ≡ c) × (then_ ≡ was) × (out ≡ under))
     → (is_scanning ≡ true → (gives : List JobMove) × GivesAll c gives now
-    × ((before : Option Stock) (outputs : List ReturnedOutput) (k : ℕ) (q : JoinHistory) → IsFiling q c k before outputs was under → HasFiled q c k before outputs (given_by gives) now then_ out))
+    × ((before : Option Stock) (outputs : List ReturnedOutput) (k : ℕ) (q : JoinHistory) → IsFiling q c k before outputs was under → GivesPage c gives now × HasFiled q c k before outputs (given_by gives) now then_ out))
     → Laid views left_of job first coming0 before notes true control coming stream now then_ out
-laid_then views left_of job first coming0 before was notes control coming stream c old now then_ under out given past is_scanning scanning h shows shelf g none goes =
-    laid_by views left_of job first coming0 before was notes control coming stream c old now then_ under out given past is_scanning is_scanning refl scanning h shows shelf g none goes
+laid_then views left_of job first coming0 before was notes control coming stream c old now then_ under out given past is_scanning scanning h shows shelf g last none goes =
+    laid_by views left_of job first coming0 before was notes control coming stream c old now then_ under out given past is_scanning is_scanning refl scanning h shows shelf g last none goes
 
 -- ---- a job whose last bytes are not given
 
@@ -417,15 +457,15 @@ lying_fresh views left_of job notes control coming before out c fresh law f none
 pub lying_gave : {C R : Type 0} (views : LinkViews C) (left_of : R → Option (List ℕ)) (job : Job) (first : C) (coming0 : Option (List (List ℕ))) (before : Option Stock) (notes : CallNotes) (control : C) (coming : Option (List (List ℕ))) (stream : Option R) (c : ClientState) (now : Option Stock) (out : Option (Option (List ℕ))) → NoneBefore → is_running c.outcome ≡ true
     → Laid views left_of job first coming0 before notes true control coming stream c now out → Lying views left_of job first coming0 before notes control coming stream c now out
 lying_gave views left_of job first coming0 before notes control coming stream c now out law runs d = record {
-  laid = record { given = d.given; going = d.going; shelf = record { under_way = d.shelf.under_way; files = d.shelf.files; none = d.shelf.none; shown = λ w. absurd (let clash : false ≡ true = w in cc) } };
+  laid = record { given = d.given; going = d.going; steps = AllGiven d.steps (running_not_done c.outcome runs); shelf = record { under_way = d.shelf.under_way; files = d.shelf.files; none = d.shelf.none; shown = λ w. absurd (let clash : false ≡ true = w in cc) } };
   not_whole = running_short left_of job d.going.moves (heard_by d.going.moves) (bytes_written_by d.going.moves) d.going.left coming0 coming d.given stream c law runs d.going.stage;
 }
 
 -- one in which nothing was given
 pub lying_went : {C R : Type 0} (views : LinkViews C) (left_of : R → Option (List ℕ)) (job : Job) (first : C) (coming0 : Option (List (List ℕ))) (before : Option Stock) (notes then_ : CallNotes) (control next : C) (coming come : Option (List (List ℕ))) (stream behind : Option R) (c new : ClientState) (now : Option Stock) (out : Option (Option (List ℕ)))
-    → (p : Lying views left_of job first coming0 before notes control coming stream c now out) → FullRunInvariant views left_of job first coming0 p.laid.given then_ next come behind new
+    → (p : Lying views left_of job first coming0 before notes control coming stream c now out) → (g : FullRunInvariant views left_of job first coming0 p.laid.given then_ next come behind new) → AreStepsSoFar job.task g.fresh g.moves new p.laid.given
     → Lying views left_of job first coming0 before then_ next come behind new now out
-lying_went views left_of job first coming0 before notes then_ control next coming come stream behind c new now out p g = record {
-  laid = record { given = p.laid.given; going = g; shelf = record { under_way = p.laid.shelf.under_way; files = p.laid.shelf.files; none = p.laid.shelf.none; shown = λ w. absurd (let clash : false ≡ true = w in cc) } };
+lying_went views left_of job first coming0 before notes then_ control next coming come stream behind c new now out p g s = record {
+  laid = record { given = p.laid.given; going = g; steps = s; shelf = record { under_way = p.laid.shelf.under_way; files = p.laid.shelf.files; none = p.laid.shelf.none; shown = λ w. absurd (let clash : false ≡ true = w in cc) } };
   not_whole = p.not_whole;
 }

@@ -21,6 +21,7 @@ use Rattle.netpbm.specs.Pnm.{IsWhole}
 use Rattle.scan_job.specs.Shelves.{Stock, ReturnedOutput}
 use Rattle.net_jobs.specs.JobTraces.{JobTrace, EndWell}
 use Rattle.net_jobs.specs.JobJournal.{given_by, has_write_failed}
+use Rattle.net_jobs.specs.JobSteps.{MovesAreSteps, StepsGive}
 use Rattle.net_jobs.specs.Links.{LinkViews}
 use Rattle.net_jobs.specs.Outputs.{files_text, page_outputs_from}
 use Rattle.scan_job.specs.FileOutputs.{TakesBack, AreLeft, refused_output}
@@ -52,11 +53,13 @@ MayScan task n = n ≡ 0
 -- The job is done, as the client's rules have it for these replies and frames. All was written, with CLOSE and EXIT, unless a
 -- write failed; each data connection began with its frame's records, which ended with EOF; and the shelf kept one output for
 -- each page, in their order, numbered from 1, each with the whole file of the picture that the page's frames show, and was given
--- back no other.
+-- back no other. Each piece that came was followed by the bytes of the files that it brought.
 pub record BatchDone {L : Type 0} (views : LinkViews L) (job : Job) (was now : SeenStreams L (Option Stock)) (reports : Reports) : Type 0 where
   pub ran : RanWithTrace views job was now
   pub told : ran.trace.protocol.outcome ≡ Done reports
   pub last_told : ran.last.outcome ≡ Done reports
+  pub steps : MovesAreSteps ran.first ran.moves ran.last
+  pub went_out : StepsGive steps.steps ran.trace.pages ran.trace.protocol.history.given
   pub all : has_write_failed ran.moves ≡ false → ran.left ≡ []
   pub read_all : ran.unread ≡ []
   pub end_well : EndWell ran.did.events
@@ -86,7 +89,8 @@ AreFinished trace pages = (pages ≡ trace.pages) ⊎ ((pages ≡ pages_of trace
 -- The job has ended otherwise, with a cause: an output could not be had, did not take its file, or was refused as it was given
 -- back, or another. All that was to go out was written, unless a write failed, or an output did. The pages before have whole
 -- files, and at most one more output stands, which took no whole file. The shelf kept the output of each page, but for one that
--- it refused, which was the last and ended the job. What went out to the outputs is what was given, and where one failed bytes more.
+-- it refused, which was the last and ended the job. What went out to the outputs is what was given, and where one failed bytes
+-- more. Where it is told as the client ended, each piece that came was followed by the bytes of the files that it brought.
 pub record BatchEnded {L : Type 0} (views : LinkViews L) (job : Job) (was now : SeenStreams L (Option Stock)) (stop : Stop) : Type 0 where
   pub ran : RanWithTrace views job was now
   pub cause : HasEndingCause ran.moves ran.trace.protocol ran.rest (Ended stop.status stop.why)
@@ -101,6 +105,7 @@ pub record BatchEnded {L : Type 0} (views : LinkViews L) (job : Job) (was now : 
   pub behind : List ℕ
   pub gave : files_text pages ++ text ≡ given_by ran.moves ++ behind
   pub none_behind : stop.why ≢ whys.Sink → behind ≡ []
+  pub steps : ran.last.outcome ≡ Ended stop.status stop.why → (s : MovesAreSteps ran.first ran.moves ran.last) × StepsGive s.steps ran.trace.pages text
   pub shelf : ((pages ≡ ran.trace.pages) × KeepsAllPages pages text was.output now.output)
       ⊎ ((stop ≡ failed_output) × (text ≡ []) × RefusesLastPage pages was.output now.output)
 

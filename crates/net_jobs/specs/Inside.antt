@@ -27,6 +27,7 @@ use Rattle.scan_job.specs.declared.outcome.Why.TheVariants as whys
 use Rattle.net_jobs.specs.declared.calls.Loss.{Loss}
 use Rattle.net_jobs.specs.declared.calls.Loss.TheVariants.{ReadFailed, StreamEnded, DialFailed}
 use Rattle.net_jobs.specs.JobJournal.{AreGives, IsPiece, JobMove, Hears, Resumes, MovesLead, Fails, Dials, Takes, Gives, Loses, MoveLeads, HearsPiece, TakesPiece, DialsPort, MissesPort, LosesLink, has_write_failed, given_by}
+use Rattle.net_jobs.specs.JobSteps.{FileRunsOut, MovesAreSteps, PageEnds, StepsGive}
 use Rattle.net_jobs.specs.JobTraces.{TraceEvent, EndWell}
 use Rattle.net_jobs.specs.JobTraces.TraceEvent.{Opened}
 use Rattle.net_jobs.specs.declared.calls.CallTally.{CallTally}
@@ -87,6 +88,10 @@ loss_of (move ∷ moves) = loss_of moves
 pub record GivesAll (old : ClientState) (gives : List JobMove) (new : ClientState) : Type 0 where
   pub are : AreGives gives
   pub leads : MovesLead old gives new
+
+-- bytes of a page's file go out: the client goes on with it, or they were its last
+abbrev pub GivesPage : ClientState → List JobMove → ClientState → Type 0
+GivesPage old gives new = (FileRunsOut old gives new × (turns new.outcome new.progress ≡ turns old.outcome old.progress)) ⊎ PageEnds old gives new
 
 -- those of the connections that were made
 abbrev pub ports_opened : List TraceEvent → List ℕ
@@ -384,6 +389,8 @@ pub record BatchCameDone {L : Type 0} (views : LinkViews L) (job : Job) (was now
   pub ran : RanWithTrace views job was now
   pub told : ran.trace.protocol.outcome ≡ Done reports
   pub last_told : ran.last.outcome ≡ Done reports
+  pub steps : MovesAreSteps ran.first ran.moves ran.last
+  pub went_out : StepsGive steps.steps ran.trace.pages ran.trace.protocol.history.given
   pub all : has_write_failed ran.moves ≡ false → ran.left ≡ []
   pub read_all : ran.unread ≡ []
   pub end_well : EndWell ran.did.events
@@ -406,6 +413,7 @@ pub record BatchCameEnded {L : Type 0} (views : LinkViews L) (job : Job) (was no
   pub behind : List ℕ
   pub gave : files_text ran.trace.pages ++ text ≡ given_by ran.moves ++ behind
   pub none_behind : stop.why ≢ whys.Sink → behind ≡ []
+  pub steps : ran.last.outcome ≡ Ended stop.status stop.why → (s : MovesAreSteps ran.first ran.moves ran.last) × StepsGive s.steps ran.trace.pages text
   pub shelf : HasTaken was.output (page_outputs_from 1 ran.trace.pages) now.output out (length ran.trace.pages + 1) text
       ⊎ ((out ≡ None) × (text ≡ []) × (stop ≡ failed_output) × RefusesLastPage ran.trace.pages was.output now.output)
 

@@ -1,14 +1,18 @@
--- What the loop of a job does, step by step: a move, and the bytes of the job's file that go out behind it.
-use Rattle.std.specs.Prelude.{ℕ, ◌≡◌, ◌⊎◌, ◌||◌, Bool, true, false, List, [], ◌∷◌, ◌++◌}
-use Rattle.client_replies.specs.ProtocolStates.{is_ended, scans}
+-- What the loop of a job does, step by step: a move, and the bytes of the job's files that go out behind it.
+use Rattle.std.specs.Prelude.{ℕ, ◌≡◌, ◌⊎◌, ◌||◌, if◌then◌else◌, Bool, true, false, List, [], ◌∷◌, ◌++◌}
+use Rattle.frame_join.specs.FrameHistory.{JoinHistory}
+use Rattle.client_replies.specs.ProtocolStates.{is_batch, is_ended, scans, turns}
 use Rattle.net_client.specs.ClientStates.{ClientState, HasEarlyReply}
-use Rattle.net_jobs.specs.JobJournal.{AreGives, HearsPiece, IsPiece, JobMove, MoveLeads, MovesLead, TakesPiece, given_by}
+use Rattle.net_jobs.specs.JobJournal.{AreGives, GivesFileBytes, HearsPiece, IsPiece, JobMove, MoveLeads, MovesLead, TakesPiece, given_by}
+use Rattle.net_jobs.specs.Outputs.{texts_of}
 use Rattle.net_jobs.specs.JobJournal.JobMove.{Fails, Hears, Resumes, Takes, Gives}
 
--- a move, and the moves by which bytes of the job's file go out behind it, the newest first
+-- a move, the moves by which bytes of the job's file go out behind it, the newest first, and whether the file is that of a page
+-- which ends so, and the job turns to its next page
 pub record JobStep : Type 0 where
   pub move : JobMove
   pub gives : List JobMove
+  pub turned : Bool
 
 -- ---- what a step makes of the client
 
@@ -19,44 +23,63 @@ pub record FileRunsOut (old : ClientState) (gives : List JobMove) (new : ClientS
   pub before : List JobMove
   pub dry : gives ≡ Gives [] ∷ before
 
+-- so they do of a client that has no whole page to turn
+pub record FileGoesOn (old : ClientState) (gives : List JobMove) (new : ClientState) : Type 0 where
+  pub still : turns old.outcome old.progress ≡ false
+  pub runs_out : FileRunsOut old gives new
+
+-- the last bytes of a page's file go out, and with them the client turns to its next page
+pub record PageEnds (old : ClientState) (gives : List JobMove) (new : ClientState) : Type 0 where
+  pub begins : turns old.outcome old.progress ≡ true
+  pub before : List JobMove
+  pub bytes : List ℕ
+  pub gives_are : gives ≡ Gives bytes ∷ before
+  pub are : AreGives before
+  pub mid : ClientState
+  pub leads : MovesLead old before mid
+  pub turning : turns mid.outcome mid.progress ≡ true
+  pub last : GivesFileBytes mid bytes new
+  pub turned : turns new.outcome new.progress ≡ false
+
 abbrev pub GivesNone : ClientState → List JobMove → ClientState → Type 0
 GivesNone old gives new = (gives ≡ []) × (new ≡ old)
 
--- a job that scans nothing has no file, and one that has ended gives nothing more of it
-abbrev pub GivesOut : Bool → ClientState → List JobMove → ClientState → Type 0
-GivesOut true old gives new = FileRunsOut old gives new ⊎ ((is_ended old.outcome ≡ true) × GivesNone old gives new)
-GivesOut false old gives new = GivesNone old gives new
+-- a job that scans nothing has no file, one that has ended gives nothing more of it, and only a batch has another page
+abbrev pub GivesOut : Bool → Bool → ClientState → List JobMove → ClientState → Type 0
+GivesOut true true old gives new = (is_batch old.target.task ≡ true) × PageEnds old gives new
+GivesOut true false old gives new = FileGoesOn old gives new ⊎ ((is_ended old.outcome ≡ true) × GivesNone old gives new)
+GivesOut false turned old gives new = (turned ≡ false) × GivesNone old gives new
 
 -- a piece comes, and then bytes of the file go out
-pub record HearsAndGives (old : ClientState) (piece : List ℕ) (gives : List JobMove) (new : ClientState) : Type 0 where
+pub record HearsAndGives (old : ClientState) (piece : List ℕ) (step : JobStep) (new : ClientState) : Type 0 where
   pub is_piece : IsPiece piece
   pub heard : ClientState
   pub hears : HearsPiece old piece heard
-  pub gives_out : GivesOut (scans old.target.task) heard gives new
+  pub gives_out : GivesOut (scans old.target.task) step.turned heard step.gives new
 
-pub record TakesAndGives (old : ClientState) (piece : List ℕ) (gives : List JobMove) (new : ClientState) : Type 0 where
+pub record TakesAndGives (old : ClientState) (piece : List ℕ) (step : JobStep) (new : ClientState) : Type 0 where
   pub is_piece : IsPiece piece
   pub taken : ClientState
   pub takes : TakesPiece old piece taken
-  pub gives_out : GivesOut (scans old.target.task) taken gives new
+  pub gives_out : GivesOut (scans old.target.task) step.turned taken step.gives new
 
 -- so they do where a reply came before its request was written
-pub record ResumesAndGives (old : ClientState) (gives : List JobMove) (new : ClientState) : Type 0 where
+pub record ResumesAndGives (old : ClientState) (step : JobStep) (new : ClientState) : Type 0 where
   pub early : HasEarlyReply old
   pub heard : ClientState
   pub hears : HearsPiece old [] heard
-  pub gives_out : GivesOut (scans old.target.task) heard gives new
+  pub gives_out : GivesOut (scans old.target.task) step.turned heard step.gives new
 
 -- bytes of the file go out behind no other move
-abbrev pub MoveAndGives : ClientState → JobMove → List JobMove → ClientState → Type 0
-MoveAndGives old (Hears piece) gives new = HearsAndGives old piece gives new
-MoveAndGives old (Takes piece) gives new = TakesAndGives old piece gives new
-MoveAndGives old Resumes gives new = ResumesAndGives old gives new
-MoveAndGives old (Gives bytes) gives new = ⊥
-MoveAndGives old move gives new = (gives ≡ []) × MoveLeads old move new
+abbrev pub MoveAndGives : ClientState → JobMove → JobStep → ClientState → Type 0
+MoveAndGives old (Hears piece) step new = HearsAndGives old piece step new
+MoveAndGives old (Takes piece) step new = TakesAndGives old piece step new
+MoveAndGives old Resumes step new = ResumesAndGives old step new
+MoveAndGives old (Gives bytes) step new = ⊥
+MoveAndGives old move step new = (step.gives ≡ []) × (step.turned ≡ false) × MoveLeads old move new
 
 abbrev pub StepLeads : ClientState → JobStep → ClientState → Type 0
-StepLeads old step new = MoveAndGives old step.move step.gives new
+StepLeads old step new = MoveAndGives old step.move step new
 
 abbrev pub is_failed_write : JobMove → Bool
 is_failed_write (Fails bytes) = true
@@ -72,10 +95,20 @@ abbrev pub StepsLead : ClientState → List JobStep → ClientState → Type 0
 StepsLead first [] last = last ≡ first
 StepsLead first (step ∷ steps) last = (mid : ClientState) × StepsLead first steps mid × (has_failed steps ≡ false) × StepLeads mid step last
 
--- the bytes of the job's file that went out
+-- the bytes that went out of the file under way
 abbrev pub given_by_steps : List JobStep → List ℕ
 given_by_steps [] = []
-given_by_steps (step ∷ steps) = given_by_steps steps ++ given_by step.gives
+given_by_steps (step ∷ steps) = if step.turned then [] else given_by_steps steps ++ given_by step.gives
+
+-- the files of the pages that were turned, in their order
+abbrev pub files_by_steps : List JobStep → List (List ℕ)
+files_by_steps [] = []
+files_by_steps (step ∷ steps) = if step.turned then files_by_steps steps ++ (given_by_steps steps ++ given_by step.gives) ∷ [] else files_by_steps steps
+
+-- the files of these pages, and the bytes of the one under way
+pub record StepsGive (steps : List JobStep) (pages : List JoinHistory) (text : List ℕ) : Type 0 where
+  pub turned : texts_of pages ≡ files_by_steps steps
+  pub under_way : text ≡ given_by_steps steps
 
 -- ---- the moves of steps
 

@@ -23,7 +23,7 @@ use Rattle.scan_job.specs.declared.outcome.Why.TheVariants as whys
 use Rattle.scan_job.specs.declared.report.Reports.{Reports}
 use Rattle.scan_job.specs.declared.stop.Stop.{Stop}
 use Rattle.net_jobs.specs.JobJournal.{JobMove, MovesLead, bytes_written_by, heard_by, given_by, dialled_by, has_write_failed, HasLoss}
-use Rattle.net_jobs.specs.JobSteps.{MovesAreSteps}
+use Rattle.net_jobs.specs.JobSteps.{MovesAreSteps, given_by_steps}
 use Rattle.net_jobs.specs.JobTraces.{JobTrace, BytesMatchTrace, EndWell, ports_named}
 use Rattle.net_jobs.specs.Links.{JobLinks, LinkViews, Calls, HasBrought, BeginWith}
 
@@ -95,6 +95,7 @@ pub record RanDone {L : Type 0} (views : LinkViews L) (job : Job) (was now : See
   pub text : List ℕ
   pub taken : Appends was.output now.output text
   pub gave : text ≡ given_by ran.moves
+  pub went_out : text ≡ given_by_steps steps.steps
   pub file : job.task ≡ tasks.Scan → (p : Picture) × ShowsFrames ran.trace.protocol.history.ended p × Denotes text p
   pub none : job.task ≢ tasks.Scan → text ≡ []
 
@@ -124,7 +125,6 @@ pub record RanEnded {L : Type 0} (views : LinkViews L) (job : Job) (was now : Se
   pub ran : RanWithTrace views job was now
   pub cause : HasEndingCause ran.moves ran.trace.protocol ran.rest (Ended stop.status stop.why)
   pub last_told : IsToldAs ran.last.outcome (Ended stop.status stop.why)
-  pub steps : ran.last.outcome ≡ Ended stop.status stop.why → MovesAreSteps ran.first ran.moves ran.last
   pub all : stop.why ≢ whys.Sink → has_write_failed ran.moves ≡ false → ran.left ≡ []
   pub refusal : stop.status ≢ statuses.Good
   pub text : List ℕ
@@ -132,6 +132,7 @@ pub record RanEnded {L : Type 0} (views : LinkViews L) (job : Job) (was now : Se
   pub behind : List ℕ
   pub gave : text ≡ given_by ran.moves ++ behind
   pub none_behind : stop.why ≢ whys.Sink → behind ≡ []
+  pub steps : ran.last.outcome ≡ Ended stop.status stop.why → (s : MovesAreSteps ran.first ran.moves ran.last) × (text ≡ given_by_steps s.steps)
   pub not_whole : IsWhole text → ⊥
 
 abbrev pub refused_as : JobFault → Outcome

@@ -8,7 +8,7 @@ ghost use Rattle.scan_job.specs.Shelves.{Stock, ReturnedOutput};
 ghost use Rattle.frame_join.specs.FrameHistory.{JoinHistory};
 ghost use Rattle.client_replies.specs.ProtocolStates.{scans};
 ghost use Rattle.net_client.specs.ClientStates.{IsNewClient};
-ghost use Rattle.net_jobs.specs.Inside.{TakesMore, TakesFront, IsFiling, HasFiled, HasFiledShort, BatchHasCome, closed_as, GivesAll, KeepsNotes, no_notes, notes_of};
+ghost use Rattle.net_jobs.specs.Inside.{TakesMore, TakesFront, IsFiling, HasFiled, HasFiledShort, BatchHasCome, closed_as, GivesAll, GivesPage, KeepsNotes, no_notes, notes_of};
 ghost use Rattle.scan_job.specs.FileOutputs.{GivesBack};
 ghost use Rattle.net_jobs.specs.Batches.{BatchDone, BatchEnded, RefusesBatch};
 ghost use Rattle.net_jobs.specs.JobJournal.{JobMove, given_by};
@@ -99,7 +99,8 @@ fn drain<S: Shelf>(
         × ((before : Option Stock) (outputs : List ReturnedOutput) (k : ℕ) (past : JoinHistory)
         → IsFiling past client.old k before outputs (S.stock shelf.old)
         (option_map S.Out.contents under.old)
-        → HasFiled past client.old k before outputs (given_by gives) client.new
+        → GivesPage client.old gives client.new
+        × HasFiled past client.old k before outputs (given_by gives) client.new
         (S.stock shelf.new) (option_map S.Out.contents under.new)) }
     ensures short { result ≡ false → (gives : List JobMove) × GivesAll client.old gives client.new
         × ((before : Option Stock) (outputs : List ReturnedOutput) (k : ℕ) (past : JoinHistory)
@@ -148,7 +149,8 @@ fn fill<S: Shelf>(
         × ((before : Option Stock) (outputs : List ReturnedOutput) (k : ℕ) (past : JoinHistory)
         → IsFiling past client.old k before outputs (S.stock shelf.old)
         (option_map S.Out.contents under.old)
-        → HasFiled past client.old k before outputs (given_by gives) client.new
+        → GivesPage client.old gives client.new
+        × HasFiled past client.old k before outputs (given_by gives) client.new
         (S.stock shelf.new) (option_map S.Out.contents under.new)) }
     ensures short { result ≡ false → (gives : List JobMove) × GivesAll client.old gives client.new
         × ((before : Option Stock) (outputs : List ReturnedOutput) (k : ℕ) (past : JoinHistory)
@@ -198,7 +200,7 @@ where
     let mut stream = None;
     let mut has_looked = false;
     while !client.is_over() {
-        go_on(
+        let came = go_on(
             &mut client,
             control,
             dial,
@@ -208,7 +210,7 @@ where
             &mut has_looked,
             tally,
         );
-        if !client.is_over() && !fill(&mut client, is_scanning, room, shelf, under, tally) {
+        if came && !client.is_over() && !fill(&mut client, is_scanning, room, shelf, under, tally) {
             return Err(Stop::failed_output());
         }
     }

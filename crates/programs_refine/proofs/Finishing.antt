@@ -5,6 +5,7 @@ use Rattle.std.proofs.lemmas.Bool.Decides.{nat_tests}
 use Rattle.page_picture.specs.Source.{SourceState}
 use Rattle.page_picture.specs.declared.sources.kinds.Source.{Source}
 use Rattle.scan_job.specs.declared.job.Job.{Job}
+use Rattle.client_replies.specs.declared.progress.Link.TheVariants as links
 use Rattle.client_replies.specs.ProtocolStates.{is_running}
 use Rattle.net_client.specs.ClientStates.{ClientState}
 use Rattle.saned_core.specs.declared.session_slot.SessionId.{SessionId}
@@ -23,7 +24,7 @@ use Rattle.programs_refine.proofs.Lists.{there}
 use Rattle.programs_refine.proofs.Passed.{Passed, Traffics}
 use Rattle.programs_refine.proofs.Replied.{ends_as}
 use Rattle.programs_refine.proofs.Serving.{comes}
-use Rattle.programs_refine.proofs.Tracks.{Follows, IsUnlinked, JobTracks, Moved, Tracks, not_moved}
+use Rattle.programs_refine.proofs.Tracks.{FilesTrack, Follows, IsUnlinked, JobTracks, Moved, Tracks, files_kept, new_files_track, not_moved, over_behind_loss}
 use Rattle.programs_refine.proofs.Tracks.JobTracks.{Unlinked, Linked, Left}
 
 -- an event behind another of the same job
@@ -36,11 +37,11 @@ record Ends (source : Source → SourceState) (first w : WorldCore) (i : ℕ) (x
   e : Core
   m : Moved source first w i q e
   ended : is_running c.outcome ≡ false → q.client.outcome ≡ c.outcome
-  file : q.file ≡ Some x.given
+  files : FilesTrack x.turned x.given q
 
 -- a job whose session stands loses its control connection
-lost_now : (source : Source → SourceState) (before : List Event) (first w : WorldCore) (i : ℕ) (x : Traffics) (c : ClientState) (p : Endpoint) (id : SessionId) (pending dropped : Bool) → LeadsBy source first before w → slice_get w.endpoints i ≡ Some p → p.link ≡ Some id → Follows pending dropped c p.client → p.file ≡ Some x.given → Ends source first w i x c
-lost_now source before first w i x c p id pending dropped l at link follows file =
+lost_now : (source : Source → SourceState) (before : List Event) (first w : WorldCore) (i : ℕ) (x : Traffics) (c : ClientState) (p : Endpoint) (id : SessionId) (pending dropped : Bool) → LeadsBy source first before w → slice_get w.endpoints i ≡ Some p → p.link ≡ Some id → Follows pending dropped c p.client → FilesTrack x.turned x.given p → Ends source first w i x c
+lost_now source before first w i x c p id pending dropped l at link follows files =
     let q : Endpoint = without_link (after_move p) in
     let e : Core = after_end_session w.daemon id.number in
     let does : Does w.daemon p events.LoseControl e q = if_linked p.link id id.number (λ j. (e ≡ after_end_session w.daemon j) × (q ≡ without_link (after_move p))) link refl (refl, refl) in
@@ -49,7 +50,7 @@ lost_now source before first w i x c p id pending dropped l at link follows file
       e = e;
       m = comes source before first w i p q events.LoseControl e l at tt (subst IsSome (sym link) refl) does;
       ended = λ over. ends_as pending dropped (is_running p.client.outcome) c p.client refl follows over;
-      file = file;
+      files = files_kept x.turned x.given p q (record { file = refl; pages = refl; finished = refl; task = refl; over = over_behind_loss links.Control p.client }) files;
     }
 
 -- one that was not connected is connected first, or finds no place
@@ -62,8 +63,8 @@ connects_late source before first w owner opened passed i x job c p l at u = by 
     waits : p.was_connected ≡ false
     waits = ap (λ (z : Endpoint). z.was_connected) u.new.rest
 
-    file : p.file ≡ Some x.given
-    file = ap (λ (z : Endpoint). z.file) u.new.rest ∙ sym (ap (λ (z : Traffics). Some z.given) u.rest)
+    files : FilesTrack x.turned x.given p
+    files = new_files_track job p x.turned x.given u.new (ap (λ (z : Traffics). z.turned) u.rest) (ap (λ (z : Traffics). z.given) u.rest)
 
     by : (b : Bool) → is_closed w.daemon ≡ b → Ends source first w i x c
     by true full =
@@ -74,7 +75,7 @@ connects_late source before first w owner opened passed i x job c p l at u = by 
           e = w.daemon;
           m = comes source before first w i p q events.Connect w.daemon l at tt (runs, waits) does;
           ended = λ over. ends_as false false (is_running p.client.outcome) c p.client refl u.follows over;
-          file = file;
+          files = files_kept x.turned x.given p q (record { file = refl; pages = refl; finished = refl; task = refl; over = over_behind_loss links.Control p.client }) files;
         }
     by false room =
         let id : SessionId = record { number = w.daemon.opened } in
@@ -82,14 +83,15 @@ connects_late source before first w owner opened passed i x job c p l at u = by 
         let e : Core = after_open_session w.daemon 1 in
         let does : Does w.daemon p events.Connect e q = (1, subst (λ (b : Bool). Connects 1 b w.daemon p e q) (sym room) (id, refl, refl, refl)) in
         let m = comes source before first w i p q events.Connect e l at tt (runs, waits) does in
-        let lost = lost_now source m.events first m.v i x c q id false false m.leads m.own refl u.follows file in
-        record { q = lost.q; e = lost.e; m = twice source first w i q lost.q e lost.e m lost.m; ended = lost.ended; file = lost.file }
+        let linked = files_kept x.turned x.given p q (record { file = refl; pages = refl; finished = refl; task = refl; over = λ over. over }) files in
+        let lost = lost_now source m.events first m.v i x c q id false false m.leads m.own refl u.follows linked in
+        record { q = lost.q; e = lost.e; m = twice source first w i q lost.q e lost.e m lost.m; ended = lost.ended; files = lost.files }
 
 finish_one : (source : Source → SourceState) (before : List Event) (first w : WorldCore) (owner : Owner) (opened : ℕ) (flying : ℕ → List ℕ) (passed : ℕ → Passed) (i : ℕ) (x : Traffics) (job : Job) (c : ClientState) (p : Endpoint) → LeadsBy source first before w → slice_get w.endpoints i ≡ Some p → JobTracks owner opened flying passed x i job c p
     → Ends source first w i x c
 finish_one source before first w owner opened flying passed i x job c p l at (Unlinked u) = connects_late source before first w owner opened passed i x job c p l at u
-finish_one source before first w owner opened flying passed i x job c p l at (Linked k own low k_linked) = lost_now source before first w i x c p k_linked.id k_linked.pending (passed k).dropped l at k_linked.link k_linked.follows k_linked.file
-finish_one source before first w owner opened flying passed i x job c p l at (Left k own low shut h) = record { q = p; e = w.daemon; m = not_moved source before first w i p l at; ended = h.ended; file = h.file }
+finish_one source before first w owner opened flying passed i x job c p l at (Linked k own low k_linked) = lost_now source before first w i x c p k_linked.id k_linked.pending (passed k).dropped l at k_linked.link k_linked.follows k_linked.files
+finish_one source before first w owner opened flying passed i x job c p l at (Left k own low shut h) = record { q = p; e = w.daemon; m = not_moved source before first w i p l at; ended = h.ended; files = h.files }
 
 -- ---- all jobs in turn
 
@@ -98,7 +100,7 @@ pub record IsAsEnded (v : WorldCore) (i : ℕ) (x : Traffics) (c : ClientState) 
   pub q : Endpoint
   pub at : slice_get v.endpoints i ≡ Some q
   pub ended : is_running c.outcome ≡ false → q.client.outcome ≡ c.outcome
-  pub file : q.file ≡ Some x.given
+  pub files : FilesTrack x.turned x.given q
 
 -- the jobs before this place are, and the others as they were
 pub record FinishedTo (source : Source → SourceState) (first w : WorldCore) (jobs : List Job) (done : ℕ → Traffics) (c : ℕ → ClientState) (n : ℕ) : Type 0 where
@@ -123,10 +125,10 @@ one_more source first owner jobs passed done d c t n low f =
     record { events = x.m.events; v = x.m.v; leads = x.m.leads; ended = λ i less within. by x i within (decide i n) less; kept = λ i high. x.m.others i (λ same. absurd (omega (arith, same, high))) ∙ f.kept i (omega (arith, high)) }
   where
     by : (x : Ends source first f.v n (done n) (c n)) → (i : ℕ) → i < length jobs → (i ≡ n) ⊎ (i ≢ n) → i < n + 1 → IsAsEnded x.m.v i (done i) (c i)
-    by x i within (inl same) less = subst (λ (k : ℕ). IsAsEnded x.m.v k (done k) (c k)) (sym same) (record { q = x.q; at = x.m.own; ended = x.ended; file = x.file })
+    by x i within (inl same) less = subst (λ (k : ℕ). IsAsEnded x.m.v k (done k) (c k)) (sym same) (record { q = x.q; at = x.m.own; ended = x.ended; files = x.files })
     by x i within (inr off) less =
         let was = f.ended i (less_than i n less off) within in
-        record { q = was.q; at = x.m.others i off ∙ was.at; ended = was.ended; file = was.file }
+        record { q = was.q; at = x.m.others i off ∙ was.at; ended = was.ended; files = was.files }
 
 pub finish_all : (source : Source → SourceState) (first : WorldCore) (owner : Owner) (jobs : List Job) (passed : ℕ → Passed) (done : ℕ → Traffics) (d : Core) (c : ℕ → ClientState) (t : Tracks source first owner jobs passed done d c) (n : ℕ) → n ≤ length jobs → FinishedTo source first t.w jobs done c n
 finish_all source first owner jobs passed done d c t zero low = record { events = t.events; v = t.w; leads = t.leads; ended = λ i less within. absurd (omega (arith, less)); kept = λ i high. refl }

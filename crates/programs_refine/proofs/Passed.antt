@@ -1,4 +1,5 @@
 -- What passed between a session and its job, and how each act of the server and each step of the job changes it.
+use Rattle.std.specs.Prelude.{if◌then◌else◌}
 use Rattle.std.proofs.Common.{◌≡◌, ◌≢◌, ◌∙◌, ℕ, ◌+◌, Bool, true, false, ◌||◌, cond, Option, List, [], ◌∷◌, ◌++◌, refl, ap}
 use Rattle.std.proofs.Math.Dec.{eqb}
 use Rattle.std.proofs.lemmas.Bool.{eq-eqb}
@@ -12,7 +13,7 @@ use Rattle.saned_serve.specs.Journal.LoopAction.{Of, Full, Waits, Refuses, Turne
 use Rattle.saned_serve.proofs.ActionSteps.{eqb_off, life_at, life_off}
 use Rattle.saned_serve.proofs.Summing.{nobody}
 use Rattle.net_jobs.specs.JobJournal.{given_by}
-use Rattle.net_jobs.specs.JobSteps.{JobStep, given_by_steps, has_failed, is_failed_write}
+use Rattle.net_jobs.specs.JobSteps.{JobStep, given_by_steps, has_failed, is_failed_write, files_by_steps}
 use Rattle.interleaving.specs.Interleavings.{JointAction, accepted_after, accepted_with, bytes_heard, bytes_sent, bytes_taken, connections_accepted, connections_made, heard_with, job_journal, made_with, sent_with, taken_with}
 use Rattle.interleaving.specs.Interleavings.JointAction.{OfJob}
 use Rattle.programs_refine.specs.StepTraffic.{traffic_of}
@@ -148,11 +149,13 @@ pub record Traffics : Type 0 where
   pub taken : List ℕ
   pub made : ℕ
   pub failed : Bool
+  -- the files of the pages that were turned, and what went out of the one under way
+  pub turned : List (List ℕ)
   pub given : List ℕ
 
 abbrev pub traffics_of : List JobStep → Traffics
 traffics_of steps =
-    record { sent = bytes_sent traffic_of steps; heard = bytes_heard traffic_of steps; taken = bytes_taken traffic_of steps; made = connections_made traffic_of steps; failed = has_failed steps; given = given_by_steps steps }
+    record { sent = bytes_sent traffic_of steps; heard = bytes_heard traffic_of steps; taken = bytes_taken traffic_of steps; made = connections_made traffic_of steps; failed = has_failed steps; turned = files_by_steps steps; given = given_by_steps steps }
 
 abbrev pub traffics_after : JobStep → Traffics → Traffics
 traffics_after step x = record {
@@ -161,18 +164,19 @@ traffics_after step x = record {
   taken = taken_with (traffic_of step) x.taken;
   made = made_with (traffic_of step) x.made;
   failed = is_failed_write step.move || x.failed;
-  given = x.given ++ given_by step.gives;
+  turned = if step.turned then x.turned ++ (x.given ++ given_by step.gives) ∷ [] else x.turned;
+  given = if step.turned then [] else x.given ++ given_by step.gives;
 }
 
 pub traffics_on : (step : JobStep) (steps : List JobStep) → traffics_of (step ∷ steps) ≡ traffics_after step (traffics_of steps)
 unfolding bytes_sent bytes_heard bytes_taken connections_made
 traffics_on step steps = refl
 
-pub no_traffics : traffics_of [] ≡ record { sent = []; heard = []; taken = []; made = 0; failed = false; given = [] }
+pub no_traffics : traffics_of [] ≡ record { sent = []; heard = []; taken = []; made = 0; failed = false; turned = []; given = [] }
 unfolding bytes_sent bytes_heard bytes_taken connections_made
 no_traffics = refl
 
-pub only_sent : traffics_of [] ≡ record { sent = (traffics_of []).sent; heard = []; taken = []; made = 0; failed = (traffics_of []).failed; given = [] }
+pub only_sent : traffics_of [] ≡ record { sent = (traffics_of []).sent; heard = []; taken = []; made = 0; failed = (traffics_of []).failed; turned = []; given = [] }
 unfolding bytes_sent bytes_heard bytes_taken connections_made
 only_sent = refl
 

@@ -29,11 +29,14 @@ traffics_moved move x = record {
   taken = taken_with (traffic_of_move move) x.taken;
   made = made_with (traffic_of_move move) x.made;
   failed = is_failed_write move || x.failed;
+  turned = x.turned;
   given = x.given;
 }
 
-pub gave_none : (move : JobMove) (gives : List JobMove) (x : Traffics) → gives ≡ [] → traffics_after (record { move = move; gives = gives }) x ≡ traffics_moved move x
-gave_none move gives x e = ap (λ (g : List JobMove). traffics_after (record { move = move; gives = g }) x) e ∙ ap (λ (f : List ℕ). record (traffics_moved move x) { given = f }) (append-nil x.given)
+pub gave_none : (move : JobMove) (gives : List JobMove) (turned : Bool) (x : Traffics) → gives ≡ [] → turned ≡ false → traffics_after (record { move = move; gives = gives; turned = turned }) x ≡ traffics_moved move x
+gave_none move gives turned x e still =
+    ap (λ (g : List JobMove). traffics_after (record { move = move; gives = g; turned = turned }) x) e ∙ ap (λ (b : Bool). traffics_after (record { move = move; gives = []; turned = b }) x) still
+    ∙ ap (λ (f : List ℕ). record (traffics_moved move x) { given = f }) (append-nil x.given)
 
 -- what all these have in common
 record Here : Type 0 where
@@ -55,7 +58,7 @@ IsTimely owner opened passed i = (k : ℕ) → owner k ≡ Some i → k < opened
 
 -- the traffic that was, but for what was sent
 abbrev only_sent : Traffics → Traffics → Type 0
-only_sent x y = (y.heard ≡ x.heard) × (y.taken ≡ x.taken) × (y.made ≡ x.made) × (y.given ≡ x.given)
+only_sent x y = (y.heard ≡ x.heard) × (y.taken ≡ x.taken) × (y.made ≡ x.made) × (y.turned ≡ x.turned) × (y.given ≡ x.given)
 
 says : (h : Here) (x : Traffics) (sent : List ℕ) (failed : Bool) (c new : ClientState) (p : Endpoint) → IsTimely h.owner h.opened h.passed h.i
     → ((pending dropped : Bool) → Follows pending dropped c p.client → Follows pending dropped new p.client)
@@ -80,8 +83,7 @@ says h x sent failed c new p timely follows out (Linked k own low l) = Linked k 
   out = out (h.passed k).heard l.out;
   said = l.said;
   image = l.image;
-  plain = l.plain;
-  file = l.file;
+  files = l.files;
 })
 says h x sent failed c new p timely follows out (Left k own low shut l) = never_both (h.passed k).is_open (timely k own low) shut
 
@@ -142,8 +144,7 @@ dials h x c new p port timely d (Linked k own low l) =
       out = subst (λ (z : List ℕ). OutTracks x.failed x.sent (h.passed k).heard p.client.out z) (sym (ap (λ (z : ClientState). z.out) d.new_is)) l.out;
       said = l.said;
       image = image_dialled (h.passed k) x.taken l.pending p l.image;
-      plain = l.plain;
-      file = l.file;
+      files = l.files;
     })
 dials h x c new p port timely d (Left k own low shut l) = never_both (h.passed k).is_open (timely k own low) shut
 

@@ -4,7 +4,7 @@ use Rattle.std.proofs.Common.{◌≡◌, ◌≢◌, ◌∙◌, inl, inr, ℕ, Bo
 use Rattle.client_replies.specs.declared.progress.Link.TheVariants as links
 use Rattle.client_replies.specs.declared.progress.Progress.{Progress}
 use Rattle.client_replies.specs.declared.progress.Progress.TheVariants as stages
-use Rattle.client_replies.specs.ProtocolStates.{is_batch, is_imaging, is_lost_by, is_receiving, is_running, wanted_port}
+use Rattle.client_replies.specs.ProtocolStates.{is_imaging, is_lost_by, is_receiving, is_running, wanted_port}
 use Rattle.net_client.specs.ClientStates.{ClientState}
 use Rattle.saned_core.specs.declared.session_slot.Fed.{Fed}
 use Rattle.saned_core.specs.declared.session_slot.Fed.TheVariants as feds
@@ -27,7 +27,7 @@ use Rattle.programs_refine.proofs.Flowing.{waits_as}
 use Rattle.programs_refine.proofs.Lists.{delivers, keeps_rest, left_of, more_behind, moves_on, some_bytes, some_wait}
 use Rattle.programs_refine.proofs.Outgoing.{never_both, not_over, receiving_at, runs_by}
 use Rattle.programs_refine.proofs.Passed.{Passed, Traffics}
-use Rattle.programs_refine.proofs.Tracks.{Follows, HasLeft, ImageTracks, IsLinked, image_bytes, lost_outcome, with_out}
+use Rattle.programs_refine.proofs.Tracks.{Follows, HasLeft, ImageTracks, IsLinked, KeepsFiles, files_kept, image_bytes, lost_outcome, over_behind_loss, with_out}
 use Rattle.programs_refine.proofs.Tracks.Follows.{Alike, Dialled, Lost, Cut}
 
 -- ---- replies that are taken
@@ -44,8 +44,7 @@ takes_replies own flying x k c p bytes l = record {
   out = l.out;
   said = λ ok. more_behind x.heard own.said flying bytes (l.said ok);
   image = record { way = l.image.way; stands = l.image.stands; last_is = l.image.last_is };
-  plain = l.plain;
-  file = l.file;
+  files = l.files;
 }
 
 -- the data connection is handed back
@@ -61,8 +60,7 @@ hangs_up own flying x k c p l = record {
   out = l.out;
   said = l.said;
   image = record { way = l.image.way; stands = λ on last told. never_both false on refl; last_is = l.image.last_is };
-  plain = l.plain;
-  file = l.file;
+  files = l.files;
 }
 
 -- ---- requests that are fed
@@ -85,18 +83,17 @@ record IsFedAs (fed : Fed) (p q : Endpoint) : Type 0 where
   client : q.client ≡ p.client
   link : q.link ≡ p.link
   image : q.image ≡ p.image
-  task : q.task ≡ p.task
-  file : q.file ≡ p.file
+  keeps : KeepsFiles p q
 
 fed_as : (fed : Fed) (p : Endpoint) → IsFedAs fed p (after_fed fed p)
-fed_as feds.Standing p = record { is = refl; client = refl; link = refl; image = refl; task = refl; file = refl }
-fed_as feds.Over p = record { is = refl; client = refl; link = refl; image = refl; task = refl; file = refl }
-fed_as feds.Starved p = record { is = refl; client = refl; link = refl; image = refl; task = refl; file = refl }
+fed_as feds.Standing p = record { is = refl; client = refl; link = refl; image = refl; keeps = record { file = refl; pages = refl; finished = refl; task = refl; over = λ over. over } }
+fed_as feds.Over p = record { is = refl; client = refl; link = refl; image = refl; keeps = record { file = refl; pages = refl; finished = refl; task = refl; over = λ over. over } }
+fed_as feds.Starved p = record { is = refl; client = refl; link = refl; image = refl; keeps = record { file = refl; pages = refl; finished = refl; task = refl; over = λ over. over } }
 
 -- the client's bytes are fewer, and else it is the same
-fed_linked : (own : Passed) (flying flying_new : List ℕ) (starved : Bool) (x : Traffics) (k : ℕ) (c : ClientState) (p q : Endpoint) (piece up rest out : List ℕ) → (l : IsLinked own flying x k c p) → l.out.up ≡ piece ++ up → out ≡ up ++ l.out.rest → q.client ≡ with_out out p.client → q.link ≡ p.link → q.image ≡ p.image → q.task ≡ p.task → q.file ≡ p.file
+fed_linked : (own : Passed) (flying flying_new : List ℕ) (starved : Bool) (x : Traffics) (k : ℕ) (c : ClientState) (p q : Endpoint) (piece up rest out : List ℕ) → (l : IsLinked own flying x k c p) → l.out.up ≡ piece ++ up → out ≡ up ++ l.out.rest → q.client ≡ with_out out p.client → q.link ≡ p.link → q.image ≡ p.image → KeepsFiles p q
     → (starved ≡ false → (flying_new ≡ flying) × (own.starved ≡ false)) → IsLinked (record own { heard = own.heard ++ piece; starved = starved }) flying_new x k c q
-fed_linked own flying flying_new starved x k c p q piece up rest out l is there client link image task file still = record {
+fed_linked own flying flying_new starved x k c p q piece up rest out l is there client link image keeps still = record {
   id = l.id;
   link = link ∙ l.link;
   number = l.number;
@@ -113,8 +110,7 @@ fed_linked own flying flying_new starved x k c p q piece up rest out l is there 
   };
   said = λ ok. (let kept = still ok in l.said kept.1 ∙ ap (λ (z : List ℕ). x.heard ++ z) (sym kept.0));
   image = subst (λ (z : Option Image). ImageTracks l.pending (record own { heard = own.heard ++ piece; starved = starved }) x.taken z) (sym image) (record { way = l.image.way; stands = l.image.stands; last_is = l.image.last_is });
-  plain = ap is_batch task ∙ l.plain;
-  file = file ∙ l.file;
+  files = files_kept x.turned x.given p q keeps l.files;
 }
 
 pub feeds : (w e : Core) (k : ℕ) (own : Passed) (flying flying_new : List ℕ) (starved : Bool) (x : Traffics) (c : ClientState) (p : Endpoint) (piece : List ℕ) (fed : Fed) → IsLinked own flying x k c p → (starved ≡ false → (flying_new ≡ flying) × (own.starved ≡ false)) → piece ≢ [] → length piece ≤ 4096 → IsFront (own.heard ++ piece) x.sent → Feeds k w piece fed e
@@ -132,7 +128,7 @@ feeds w e k own flying flying_new starved x c p piece fed l still some short fro
       q = q;
       can = (subst IsSome (sym l.link) refl, some_wait piece (f.0 ++ l.out.rest) p.client.out some waits, some_bytes piece some);
       does = if_linked p.link l.id k (λ j. FeedsPiece j n w p e q) l.link l.number (fed, subst (λ (z : List ℕ). Feeds k w z fed e) (sym just) h, refl);
-      tracks = fed_linked own flying flying_new starved x k c p q piece f.0 l.out.rest (bytes_not_delivered n p.client.out) l f.1 kept became.client became.link became.image became.task became.file still;
+      tracks = fed_linked own flying flying_new starved x k c p q piece f.0 l.out.rest (bytes_not_delivered n p.client.out) l f.1 kept became.client became.link became.image (record { file = became.keeps.file; pages = became.keeps.pages; finished = became.keeps.finished; task = became.keeps.task; over = became.keeps.over }) still;
     }
 
 -- ---- the data connection is accepted
@@ -180,8 +176,7 @@ connects w k own flying x c p l less none waits =
         out = l.out;
         said = l.said;
         image = record { way = λ off told. sym (ap (λ (z : List ℕ). z ++ []) none); stands = λ a b d. refl; last_is = λ z at. (let same : record { bytes = []; is_last = false } ≡ z = cc in sym (ap (λ (y : Image). y.is_last) same)) };
-        plain = l.plain;
-        file = l.file;
+        files = files_kept x.turned x.given p q (record { file = refl; pages = refl; finished = refl; task = refl; over = λ over. over }) l.files;
       };
     }
 
@@ -200,8 +195,7 @@ record Shown (step : DataStep) (buf : List ℕ) (image new : Image) (e : Core) (
   image_is : q.image ≡ Some new
   client : q.client ≡ p.client
   link : q.link ≡ p.link
-  task : q.task ≡ p.task
-  file : q.file ≡ p.file
+  keeps : KeepsFiles p q
 
 -- what a step makes of the image and of the endpoint
 abbrev image_then : DataStep → List ℕ → Image → Image
@@ -217,11 +211,10 @@ shows Idle buf image e p at = record {
   image_is = refl;
   client = refl;
   link = refl;
-  task = refl;
-  file = refl;
+  keeps = record { file = refl; pages = refl; finished = refl; task = refl; over = λ over. over };
 }
-shows (Bytes n) buf image e p at = record { bytes = refl; last = λ still. refl; sends = λ k. inl (image, at, refl, refl); image_is = refl; client = refl; link = refl; task = refl; file = refl }
-shows (Last n) buf image e p at = record { bytes = refl; last = λ still. refl; sends = λ k. inl (image, at, refl, refl); image_is = refl; client = refl; link = refl; task = refl; file = refl }
+shows (Bytes n) buf image e p at = record { bytes = refl; last = λ still. refl; sends = λ k. inl (image, at, refl, refl); image_is = refl; client = refl; link = refl; keeps = record { file = refl; pages = refl; finished = refl; task = refl; over = λ over. over } }
+shows (Last n) buf image e p at = record { bytes = refl; last = λ still. refl; sends = λ k. inl (image, at, refl, refl); image_is = refl; client = refl; link = refl; keeps = record { file = refl; pages = refl; finished = refl; task = refl; over = λ over. over } }
 
 image_shown : (own : Passed) (pending : Bool) (taken bytes : List ℕ) (step : DataStep) (image new : Image) (old : Option Image) → own.last ≡ false → ImageTracks pending own taken old → old ≡ Some image → new.bytes ≡ image.bytes ++ bytes → (image.is_last ≡ false → new.is_last ≡ (false || is_end_record step))
     → ImageTracks pending (record own { shown = own.shown ++ bytes; last = own.last || is_end_record step }) taken (Some new)
@@ -259,8 +252,7 @@ turns w e k own flying x c p step buf bytes l there open_still flows front t = b
             out = l.out;
             said = l.said;
             image = image_shown own l.pending x.taken bytes step image new p.image open_still l.image at more s.last;
-            plain = l.plain;
-            file = l.file;
+            files = files_kept x.turned x.given p q s.keeps l.files;
           };
         }
 
@@ -351,8 +343,7 @@ drops w k own flying x c p l image no_wish =
         out = record { up = l.out.up; rest = l.out.rest; sent_is = l.out.sent_is; out_is = out ∙ l.out.out_is; rest_is = l.out.rest_is };
         said = l.said;
         image = record { way = λ off told. never_both true refl told; stands = λ a d told. never_both true refl told; last_is = λ z at. absurd (let wrong : None ≡ Some z = at in cc) };
-        plain = l.plain;
-        file = l.file;
+        files = files_kept x.turned x.given p q (record { file = refl; pages = refl; finished = refl; task = refl; over = over_behind_loss links.Image p.client }) l.files;
       };
     }
 
@@ -375,8 +366,7 @@ drops_idle own flying x k c p l = record {
   out = l.out;
   said = l.said;
   image = record { way = λ off told. never_both true refl told; stands = λ a d told. never_both true refl told; last_is = l.image.last_is };
-  plain = l.plain;
-  file = l.file;
+  files = l.files;
 }
 
 -- ---- the session is left
@@ -405,5 +395,5 @@ leaves w k own flying x c p l =
       q = q;
       can = subst IsSome (sym l.link) refl;
       does = if_linked p.link l.id k (λ j. (after_end_session w k ≡ after_end_session w j) × (q ≡ without_link (after_move p))) l.link l.number (refl, refl);
-      left = record { ended = λ over. ends_as l.pending own.dropped (is_running p.client.outcome) c p.client refl l.follows over; file = l.file };
+      left = record { ended = λ over. ends_as l.pending own.dropped (is_running p.client.outcome) c p.client refl l.follows over; files = files_kept x.turned x.given p q (record { file = refl; pages = refl; finished = refl; task = refl; over = over_behind_loss links.Control p.client }) l.files };
     }

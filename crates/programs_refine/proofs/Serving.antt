@@ -6,7 +6,7 @@ use Rattle.std.proofs.lemmas.Bool.Decides.{nat_tests}
 use Rattle.page_picture.specs.Source.{SourceState}
 use Rattle.page_picture.specs.declared.sources.kinds.Source.{Source}
 use Rattle.scan_job.specs.declared.job.Job.{Job}
-use Rattle.client_replies.specs.ProtocolStates.{is_batch, is_running, wanted_port}
+use Rattle.client_replies.specs.ProtocolStates.{is_running, wanted_port}
 use Rattle.net_client.specs.ClientStates.{ClientState}
 use Rattle.saned_core.specs.declared.session_slot.SessionId.{SessionId}
 use Rattle.saned_core.specs.declared.session_slot.Fed.{Fed}
@@ -46,7 +46,7 @@ use Rattle.programs_refine.proofs.Lists.{there}
 use Rattle.programs_refine.proofs.Outgoing.{never_both}
 use Rattle.programs_refine.proofs.Passed.{Passed, Traffics, is_starved, nothing_passed, passed_after, passed_of, passes_other, passes_own}
 use Rattle.programs_refine.proofs.Replied.{connects, drops, drops_idle, feeds, hangs_up, leaves, takes_replies, turns, turns_idle}
-use Rattle.programs_refine.proofs.Tracks.{HasLeft, IsCalm, IsLinked, IsUnlinked, JobTracks, Moved, Tracks, at_endpoint, goes_on, image_bytes, moved, not_moved, stays, world_with}
+use Rattle.programs_refine.proofs.Tracks.{HasLeft, IsCalm, IsLinked, IsUnlinked, JobTracks, Moved, Tracks, at_endpoint, files_kept, goes_on, image_bytes, moved, new_files_track, not_moved, stays, world_with}
 use Rattle.programs_refine.proofs.Tracks.JobTracks.{Unlinked, Linked, Left}
 
 -- ---- what is assumed throughout
@@ -54,7 +54,6 @@ use Rattle.programs_refine.proofs.Tracks.JobTracks.{Unlinked, Linked, Left}
 pub record Setting (source : Source → SourceState) (first : WorldCore) (owner : Owner) (jobs : List Job) : Type 0 where
   pub one : HaveOneSession owner
   pub within : (k i : ℕ) → owner k ≡ Some i → i < length jobs
-  pub plain : (i : ℕ) (job : Job) → slice_get jobs i ≡ Some job → is_batch job.task ≡ false
   pub wants : AlwaysWantsBeforeItFlows source first
   pub hears : AlwaysHearsInTurn source first
 
@@ -520,9 +519,9 @@ no_flying : (flying : ℕ → List ℕ) (d e : Core) (n : ℕ) → DiffersInFlig
 no_flying flying d e n h here away =
     sym (append-nil (flying n)) ∙ sym (ap (λ (z : Option Slot). flying n ++ replies_in z) here) ∙ sym (h.sessions n).replies ∙ ap replies_in away
 
-opened_linked : (own : Passed) (flying : List ℕ) (x : Traffics) (n port : ℕ) (i : ℕ) (owner : Owner) (opened : ℕ) (passed : ℕ → Passed) (job : Job) (c : ClientState) (p : Endpoint) (id : SessionId) → id.number ≡ n → own ≡ nothing_passed → flying ≡ [] → is_batch job.task ≡ false → IsUnlinked owner opened passed x i job c p
+opened_linked : (own : Passed) (flying : List ℕ) (x : Traffics) (n port : ℕ) (i : ℕ) (owner : Owner) (opened : ℕ) (passed : ℕ → Passed) (job : Job) (c : ClientState) (p : Endpoint) (id : SessionId) → id.number ≡ n → own ≡ nothing_passed → flying ≡ [] → IsUnlinked owner opened passed x i job c p
     → IsLinked (passed_after (Opens port) own) flying x n c (with_link id (after_move p))
-opened_linked own flying x n port i owner opened passed job c p id number silent none plain u = record {
+opened_linked own flying x n port i owner opened passed job c p id number silent none u = record {
   id = id;
   link = refl;
   number = number;
@@ -537,8 +536,8 @@ opened_linked own flying x n port i owner opened passed job c p id number silent
     stands = λ imaging last told. never_both false imaging refl;
     last_is = λ z at. absurd (let wrong : None ≡ Some z = sym image ∙ at in cc);
   };
-  plain = ap (λ (z : Endpoint). is_batch z.task) u.new.rest ∙ plain;
-  file = ap (λ (z : Endpoint). z.file) u.new.rest ∙ sym (ap (λ (z : Traffics). Some z.given) u.rest);
+  files = files_kept x.turned x.given p (with_link id (after_move p)) (record { file = refl; pages = refl; finished = refl; task = refl; over = λ over. over })
+      (new_files_track job p x.turned x.given u.new (ap (λ (z : Traffics). z.turned) u.rest) (ap (λ (z : Traffics). z.given) u.rest));
 }
   where
     image : p.image ≡ None
@@ -601,7 +600,7 @@ open_act source first owner jobs journal done d d_new c t s n i port own few a =
           more = omega (arith, opened);
           above = λ k off high. (let next = next_one d.opened k high (λ same. off (same ∙ sym a.numbered)) in omega (arith, opened, next));
           low = (let numbered = a.numbered in omega (arith, opened, numbered));
-          mine = inl (opened_linked (passed_of journal n) (t.flying n) (done i) n port i owner d.opened (passed_of journal) job (c i) p id refl (u.silent n own) nothing (s.plain i job at) u);
+          mine = inl (opened_linked (passed_of journal n) (t.flying n) (done i) n port i owner d.opened (passed_of journal) job (c i) p id refl (u.silent n own) nothing u);
         })
 
     by : (job : Job) → slice_get jobs i ≡ Some job → (p : Endpoint) → slice_get t.w.endpoints i ≡ Some p → JobTracks owner d.opened t.flying (passed_of journal) (done i) i job (c i) p → TracksBehind source first owner jobs (Of n (Opens port) ∷ journal) done d_new c

@@ -1,7 +1,7 @@
 -- How a world stands behind what the programs did so far: its daemon has the replies that are on their way still, and the client of each
 -- job is that of its loop, but for what the daemon has not seen yet.
-use Rattle.std.specs.Prelude.{◌<◌, ◌≤◌, ◌||◌, IsSome}
-use Rattle.std.proofs.Common.{◌≡◌, ◌≢◌, ◌∙◌, ◌⊎◌, inl, inr, ℕ, ◌+◌, Bool, true, false, cond, Option, Some, None, List, [], ◌∷◌, ◌++◌, slice_get, slice_set, refl, sym, ap, subst, arith}
+use Rattle.std.specs.Prelude.{◌<◌, ◌≤◌, ◌||◌, IsSome, if◌then◌else◌}
+use Rattle.std.proofs.Common.{◌≡◌, ◌≢◌, ◌∙◌, ◌⊎◌, inl, inr, ℕ, ◌+◌, Bool, true, false, cond, Option, Some, None, List, [], ◌∷◌, ◌++◌, slice_get, slice_set, refl, sym, ap, subst, arith, length}
 use Rattle.sane_fixed.specs.declared.status.Status.TheVariants as statuses
 use Rattle.page_picture.specs.Source.{SourceState}
 use Rattle.page_picture.specs.declared.sources.kinds.Source.{Source}
@@ -9,8 +9,9 @@ use Rattle.scan_job.specs.declared.job.Job.{Job}
 use Rattle.scan_job.specs.declared.outcome.Outcome.{Outcome}
 use Rattle.scan_job.specs.declared.outcome.Outcome.TheVariants.{Ended}
 use Rattle.scan_job.specs.declared.outcome.Why.TheVariants as whys
-use Rattle.client_replies.specs.ProtocolStates.{is_batch, is_receiving, is_running, wanted_port}
-use Rattle.net_client.specs.ClientStates.{ClientState}
+use Rattle.client_replies.specs.declared.progress.Link.{Link}
+use Rattle.client_replies.specs.ProtocolStates.{is_batch, is_lost_by, is_receiving, is_running, wanted_port}
+use Rattle.net_client.specs.ClientStates.{ClientState, after_client_end}
 use Rattle.saned_core.specs.declared.session_slot.SessionId.{SessionId}
 use Rattle.saned_core.specs.DaemonStates.{Core, session_slot_of}
 use Rattle.in_flight.specs.InFlight.{DiffersInFlight}
@@ -19,10 +20,11 @@ use Rattle.scan_world.specs.declared.event.Event.{Event}
 use Rattle.scan_world.specs.declared.event.JobEvent.{JobEvent}
 use Rattle.scan_world.specs.declared.endpoint.Endpoint.{Endpoint}
 use Rattle.scan_world.specs.declared.endpoint.Image.{Image}
-use Rattle.scan_world.specs.Endpoints.{IsNew, with_data_opened}
+use Rattle.scan_world.specs.Endpoints.{IsNew, after_link_loss, with_data_opened}
 use Rattle.scan_world.specs.JobEvents.{Can, Does, Happens, IsFlowing, frame_state_at}
 use Rattle.scan_world.specs.Worlds.{AtEndpoint, Leads, Runs, WorldCore}
 use Rattle.in_flight.proofs.Slots.{decide}
+use Rattle.programs_refine.specs.Programs.{HasFilesOf}
 use Rattle.programs_refine.specs.WorldHistory.{AreOfConnections, IsOfConnections, LeadsBy}
 use Rattle.programs_refine.proofs.Lists.{same_there, set_other, set_there, within}
 use Rattle.programs_refine.proofs.Passed.{Passed, Traffics, nothing_passed}
@@ -67,6 +69,51 @@ pub record ImageTracks (pending : Bool) (own : Passed) (taken : List ℕ) (image
 abbrev pub count_of : Bool → ℕ
 count_of pending = cond pending 1 0
 
+-- ---- its files
+
+-- the file under way is what went out of it; or a batch is done with its last page, and that is finished too
+pub data FilesTrack (turned : List (List ℕ)) (given : List ℕ) (p : Endpoint) : Type 0 where
+  UnderWay : HasFilesOf turned given p → FilesTrack turned given p
+  AllFinished : is_batch p.task ≡ true → is_running p.client.outcome ≡ false → HasFilesOf (turned ++ given ∷ []) [] p → FilesTrack turned given p
+
+-- nothing of its files changes, and it does not run again
+pub record KeepsFiles (p q : Endpoint) : Type 0 where
+  pub file : q.file ≡ p.file
+  pub pages : q.pages ≡ p.pages
+  pub finished : q.finished ≡ p.finished
+  pub task : q.task ≡ p.task
+  pub over : is_running p.client.outcome ≡ false → is_running q.client.outcome ≡ false
+
+has_files : (finished : List (List ℕ)) (text : List ℕ) (p q : Endpoint) → KeepsFiles p q → HasFilesOf finished text p → HasFilesOf finished text q
+has_files finished text p q k h = record {
+  file = k.file ∙ h.file;
+  count = k.finished ∙ h.count;
+  room = ap length k.pages ∙ h.room;
+  each = λ n bytes at. ap (λ (l : List (Option (List ℕ))). slice_get l n) k.pages ∙ h.each n bytes at;
+}
+
+pub files_kept : (turned : List (List ℕ)) (given : List ℕ) (p q : Endpoint) → KeepsFiles p q → FilesTrack turned given p → FilesTrack turned given q
+files_kept turned given p q k (UnderWay h) = UnderWay (has_files turned given p q k h)
+files_kept turned given p q k (AllFinished batch over h) = AllFinished (ap is_batch k.task ∙ batch) (k.over over) (has_files (turned ++ given ∷ []) [] p q k h)
+
+-- those of a job that was just begun
+pub new_files_track : (job : Job) (p : Endpoint) (turned : List (List ℕ)) (given : List ℕ) → IsNew job p → turned ≡ [] → given ≡ [] → FilesTrack turned given p
+new_files_track job p turned given n no_pages no_bytes =
+    subst (λ (l : List (List ℕ)). FilesTrack l given p) (sym no_pages) (subst (λ (t : List ℕ). FilesTrack [] t p) (sym no_bytes) (UnderWay (record {
+      file = ap (λ (z : Endpoint). z.file) n.rest;
+      count = ap (λ (z : Endpoint). z.finished) n.rest;
+      room = ap (λ (z : Endpoint). length z.pages) n.rest;
+      each = λ k bytes at. absurd (let wrong : None ≡ Some bytes = at in cc);
+    })))
+
+-- a job that is over runs no more behind a loss
+pub over_behind_loss : (link : Link) (c : ClientState) → is_running c.outcome ≡ false → is_running (after_link_loss link c).outcome ≡ false
+over_behind_loss link c over = by (is_lost_by link c.outcome c.progress)
+  where
+    by : (b : Bool) → is_running (if b then after_client_end statuses.IoError whys.Lost c else c).outcome ≡ false
+    by true = refl
+    by false = over
+
 -- ---- one job
 
 -- no session was opened for it
@@ -76,7 +123,7 @@ pub record IsUnlinked (owner : Owner) (opened : ℕ) (passed : ℕ → Passed) (
   pub silent : (k : ℕ) → owner k ≡ Some i → passed k ≡ nothing_passed
   pub follows : Follows false false c p.client
   pub out : OutTracks done.failed done.sent [] p.client.out c.out
-  pub rest : done ≡ record { sent = done.sent; heard = []; taken = []; made = 0; failed = done.failed; given = [] }
+  pub rest : done ≡ record { sent = done.sent; heard = []; taken = []; made = 0; failed = done.failed; turned = []; given = [] }
 
 -- its session is that of number k
 pub record IsLinked (own : Passed) (flying : List ℕ) (done : Traffics) (k : ℕ) (c : ClientState) (p : Endpoint) : Type 0 where
@@ -90,13 +137,12 @@ pub record IsLinked (own : Passed) (flying : List ℕ) (done : Traffics) (k : �
   pub out : OutTracks done.failed done.sent own.heard p.client.out c.out
   pub said : own.starved ≡ false → own.said ≡ done.heard ++ flying
   pub image : ImageTracks pending own done.taken p.image
-  pub plain : is_batch p.task ≡ false
-  pub file : p.file ≡ Some done.given
+  pub files : FilesTrack done.turned done.given p
 
 -- its session was left
 pub record HasLeft (done : Traffics) (c : ClientState) (p : Endpoint) : Type 0 where
   pub ended : is_running c.outcome ≡ false → p.client.outcome ≡ c.outcome
-  pub file : p.file ≡ Some done.given
+  pub files : FilesTrack done.turned done.given p
 
 pub data JobTracks (owner : Owner) (opened : ℕ) (flying : ℕ → List ℕ) (passed : ℕ → Passed) (done : Traffics) (i : ℕ) (job : Job) (c : ClientState) (p : Endpoint) : Type 0 where
   Unlinked : IsUnlinked owner opened passed done i job c p → JobTracks owner opened flying passed done i job c p

@@ -1,5 +1,5 @@
 -- The promise of a world, of what programs come to.
-use Rattle.std.specs.Prelude.{ℕ, ◌≡◌, false, Some, List, All, slice_get}
+use Rattle.std.specs.Prelude.{ℕ, ◌≡◌, ◌+◌, false, Some, List, All, length, slice_get}
 use Rattle.page_picture.specs.SourceView.{source_state}
 use Rattle.device_api.specs.ScannerLimits.{HasLimits}
 use Rattle.device_api.specs.State.{DeviceState}
@@ -8,14 +8,12 @@ use Rattle.scan_job.specs.declared.job.Job.{Job}
 use Rattle.client_replies.specs.ProtocolStates.{is_running}
 use Rattle.net_client.specs.ClientStates.{ClientState}
 use Rattle.saned_core.specs.DaemonStates.{Core}
-use Rattle.net_jobs.specs.JobSteps.{given_by_steps}
-use Rattle.interleaving.specs.Interleavings.{job_journal}
 use Rattle.interleaving.specs.HandingOn.{Owner}
 use Rattle.scan_world.specs.declared.event.Event.{Event}
 use Rattle.scan_world.specs.Worlds.{IsFitJob, WorldCore}
 use Rattle.world_refines.specs.NewWorlds.{IsNewDaemon}
 use Rattle.world_contract.specs.Histories.{History, LedTo}
-use Rattle.world_contract.specs.Promise.{FileIsKept, OutcomeIsKept}
+use Rattle.world_contract.specs.Promise.{CountIsKept, FileIsKept, OutcomeIsKept, PageIsKept}
 use Rattle.programs_refine.specs.Programs.{Acts, EndsAlike, IsWorldOf, RunOverConnections}
 use Rattle.programs_refine.specs.WorldHistory.{AlwaysHearsInTurn, AlwaysWantsBeforeItFlows, AreOfConnections}
 
@@ -38,11 +36,13 @@ WorldsHearInTurn = (devices : List DeviceState) (jobs : List Job) (other : Job) 
 abbrev pub history_of : List DeviceState → List Job → Core → List Event → History
 history_of devices jobs d events = record { devices = devices; users = d.users; jobs = jobs; events = events }
 
--- a world's promise on the outcome and the file of a job, said of what its loop came to; memory ran out where it did in the world
+-- a world's promise on the outcome and the files of a job, said of what its loop came to; memory ran out where it did in the world
 pub record LoopIsKept (h : History) (v : WorldCore) (i : ℕ) (job : Job) (acts : Acts) (last : ClientState) : Type 0 where
   pub ends : EndsAlike v i acts last
   pub outcome : OutcomeIsKept h i job ends.endpoint.out_of_memory last.outcome
-  pub file : FileIsKept h job ends.endpoint.out_of_memory last.outcome (Some (given_by_steps (job_journal i acts)))
+  pub file : FileIsKept h job ends.endpoint.out_of_memory last.outcome (Some ends.text)
+  pub pages : (k : ℕ) (bytes : List ℕ) → slice_get ends.finished k ≡ Some bytes → PageIsKept h job ends.endpoint.out_of_memory (length ends.finished) (k + 1) (Some bytes)
+  pub count : CountIsKept job last.outcome (length ends.finished)
 
 -- of each job that is over, in a world that events of connections led to
 pub record AllLoopsAreKept (devices : List DeviceState) (jobs : List Job) (d : Core) (acts : Acts) (last : ℕ → ClientState) : Type 0 where

@@ -1,12 +1,14 @@
 -- What a server and the loops of jobs do over connections is what some list of events does to a world.
-use Rattle.std.specs.Prelude.{ℕ, ◌≡◌, ◌<◌, false, Option, Some, None, List, [], ◌∷◌, All, length, slice_get}
+use Rattle.std.specs.Prelude.{ℕ, ◌≡◌, ◌<◌, ◌⊎◌, ◌++◌, true, false, Option, Some, None, List, [], ◌∷◌, All, length, slice_get}
 use Rattle.page_picture.specs.Source.{SourceState}
 use Rattle.page_picture.specs.declared.sources.kinds.Source.{Source}
 use Rattle.scan_job.specs.declared.job.Job.{Job}
+use Rattle.scan_job.specs.declared.job.Task.{Task}
+use Rattle.scan_job.specs.JobSize.{HasCount}
 use Rattle.client_replies.specs.ProtocolStates.{is_batch, is_running}
 use Rattle.net_client.specs.ClientStates.{ClientState, IsNewClient}
 use Rattle.saned_core.specs.DaemonStates.{Core}
-use Rattle.net_jobs.specs.JobSteps.{JobStep, StepsLead, given_by_steps}
+use Rattle.net_jobs.specs.JobSteps.{JobStep, StepsLead, files_by_steps, given_by_steps}
 use Rattle.in_flight.specs.InFlight.{DiffersInFlight}
 use Rattle.saned_serve.specs.ListenerTraces.{ListenerTrace}
 use Rattle.saned_serve.specs.Journal.{JournalLeads, LoopAction, projection_of}
@@ -54,12 +56,26 @@ LostBringNoMore owner (OfJob i step ∷ past) = LostBringNoMore owner past × Br
 
 -- ---- what they come to
 
--- a job that is over has that outcome in the world, and its file is what went out
+-- the files of a job in a world: those of its finished pages, in their order, and the one under way
+pub record HasFilesOf (finished : List (List ℕ)) (text : List ℕ) (p : Endpoint) : Type 0 where
+  pub file : p.file ≡ Some text
+  pub count : p.finished ≡ length finished
+  pub room : length p.pages ≡ 16
+  pub each : (k : ℕ) (bytes : List ℕ) → slice_get finished k ≡ Some bytes → slice_get p.pages k ≡ Some (Some bytes)
+
+-- they are what went out; with its last page a batch that is done has none under way any more
+abbrev pub WentOut : Task → List (List ℕ) → List ℕ → List (List ℕ) → List ℕ → Type 0
+WentOut task turned last finished text = ((finished ≡ turned) × (text ≡ last)) ⊎ ((is_batch task ≡ true) × (finished ≡ turned ++ last ∷ []) × (text ≡ []))
+
+-- a job that is over has that outcome in the world, and its files are what went out
 pub record EndsAlike (v : WorldCore) (i : ℕ) (acts : Acts) (last : ClientState) : Type 0 where
   pub endpoint : Endpoint
   pub at : slice_get v.endpoints i ≡ Some endpoint
   pub outcome : endpoint.client.outcome ≡ last.outcome
-  pub file : endpoint.file ≡ Some (given_by_steps (job_journal i acts))
+  pub finished : List (List ℕ)
+  pub text : List ℕ
+  pub files : HasFilesOf finished text endpoint
+  pub went_out : WentOut endpoint.task (files_by_steps (job_journal i acts)) (given_by_steps (job_journal i acts)) finished text
 
 -- events of connections lead to a world whose daemon is the server's, but for replies that are on their way to their jobs
 pub record HasDaemonOf (source : Source → SourceState) (w : WorldCore) (end : Core) : Type 0 where
@@ -83,8 +99,8 @@ pub record AreAWorld (source : Source → SourceState) (jobs : List Job) (w : Wo
 pub record RunOverConnections (jobs : List Job) (owner : Owner) (d : Core) (acts : Acts) (last : ℕ → ClientState) : Type 0 where
   pub new : HasOpenedNone d
   pub owns : OwnersAreJobs owner jobs
-  -- no job is a batch
-  pub plain : All (λ (job : Job). is_batch job.task ≡ false) jobs
+  -- a batch has 1 to 16 pages
+  pub counts : All (λ (job : Job). HasCount job.task) jobs
   pub loops : JobsLead jobs acts last
   pub end : Core
   pub before : Option ListenerTrace

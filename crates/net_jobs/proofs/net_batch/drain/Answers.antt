@@ -2,6 +2,7 @@ use Rattle.std.proofs.Common.{◌≡◌, ◌∙◌, ◌∷◌, ◌++◌, rules, 
 use Rattle.std.specs.Prelude.{Option, option_map}
 use Rattle.std.proofs.lemmas.List.{append-nil, length-take}
 use Rattle.client_replies.specs.ProtocolStates.{turns}
+use Rattle.net_client.specs.ClientStates.{ClientState}
 use Rattle.scan_job.specs.FileOutputs.{GivesBack}
 use Rattle.net_jobs.specs.JobJournal.{Gives, GivesFileBytes, given_by}
 use Rattle.net_jobs.specs.Inside.{PageGoesOn, TurnsOn}
@@ -22,13 +23,17 @@ returns-then-n-eq0-clause-drained g c = λ done.
     = record { carried = λ q at. (c.take_file-n.ensures.taken q at).carried; ended = c.take_file-n.ensures.ended; same = c.take_file-n.ensures.same; page = λ on q at. (c.take_file-n.ensures.taken q at).page on; size = size } in
     let gives : GivesFileBytes c.loop-i.client piece c.take_file-n.new.self =
     gives_by c.loop-i.client c.take_file-n.new.self piece c.take_file-n.result _ size (omega (arith, c.loop-i.invariant.room, c.requires)) c.take_file-n.ensures.outcome c.take_file-n.ensures.ended c.take_file-n.ensures.same c.take_file-n.ensures.taken in
+    let all = gives_more c.args.client.now c.loop-i.client c.take_file-n.new.self c.loop-i.invariant.gave.0 piece c.loop-i.invariant.gave.1 gives in
     let same : given_by c.loop-i.invariant.gave.0 ≡ given_by (Gives piece ∷ c.loop-i.invariant.gave.0) = sym (append-nil (given_by c.loop-i.invariant.gave.0)) ∙ ap (λ (l : List ℕ). given_by (Gives l ∷ c.loop-i.invariant.gave.0)) (sym none) in (
       Gives piece ∷ c.loop-i.invariant.gave.0,
-      gives_more c.args.client.now c.loop-i.client c.take_file-n.new.self c.loop-i.invariant.gave.0 piece c.loop-i.invariant.gave.1 gives,
-      λ before outputs k past filing. inl (subst (λ (l : List ℕ). PageGoesOn past c.args.client.now k before outputs l c.take_file-n.new.self (g.S.Shelf.stock c.loop-i.shelf) (option_map g.S.Out.Write.contents c.loop-i.under)) same
+      all,
+      λ before outputs k past filing.
+          let on = subst (λ (l : List ℕ). PageGoesOn past c.args.client.now k before outputs l c.take_file-n.new.self (g.S.Shelf.stock c.loop-i.shelf) (option_map g.S.Out.Write.contents c.loop-i.under)) same
           (at_end past c.args.client.now c.loop-i.client c.take_file-n.new.self k c.loop-i._i c.take_file-n.result before outputs _ _ (given_by c.loop-i.invariant.gave.0) piece none pulls
           (λ q at alive joined p shows. (c.take_file-n.ensures.taken q at).denotes alive joined none (omega (arith, c.loop-i.invariant.room, c.requires)) p shows)
-          (c.loop-i.invariant.gave.2 before outputs k past filing))),
+          (c.loop-i.invariant.gave.2 before outputs k past filing)) in
+          (inl (record { are = all.are; leads = all.leads; before = c.loop-i.invariant.gave.0; dry = ap (λ (l : List ℕ). Gives l ∷ c.loop-i.invariant.gave.0) none },
+          ap (λ (v : ClientState). turns v.outcome v.progress) on.rest), inl on),
     )
 
 pub returns-then-not-shelve-clause-short : goal.returns-then-not-shelve-clause-short
@@ -56,14 +61,27 @@ returns-then-not-is_turning-clause-drained g c = λ done.
     gives_by c.loop-i.client c.take_file-n.new.self piece c.take_file-n.result _ size (omega (arith, c.loop-i.invariant.room, c.requires)) c.take_file-n.ensures.outcome c.take_file-n.ensures.ended c.take_file-n.ensures.same c.take_file-n.ensures.taken in (
       Gives piece ∷ c.loop-i.invariant.gave.0,
       gives_more c.args.client.now c.loop-i.client c.take_file-n.new.self c.loop-i.invariant.gave.0 piece c.loop-i.invariant.gave.1 gives,
-      λ before outputs k past filing. inr (
+      λ before outputs k past filing.
+          let out =
           subst (λ (o : Option g.row.S-Out.Denot). TurnsOn past c.args.client.now k before outputs (given_by c.loop-i.invariant.gave.0 ++ piece) true c.take_file-n.new.self (g.S.Shelf.stock c.put_back.new.shelf) (option_map g.S.Out.Write.contents o)) (sym c.take.ensures.after)
           (turned past c.args.client.now c.loop-i.client c.take_file-n.new.self k c.loop-i._i c.take_file-n.result c.file_number-number.result before outputs _ (g.S.Shelf.stock c.shelve.new.shelf) _ _ (option_map g.S.Out.Write.contents c.shelve.new.under) true (given_by c.loop-i.invariant.gave.0) piece
           c.if-n-eq0.false pulls (sym c.is_turning-is_page.ensures ∙ c.if-is_page.true) (sym c.is_turning.ensures ∙ c.if-not-is_turning.true) c.file_number-number.ensures filing.number
           (λ had h. c.shelve.ensures.whole (search rules) before outputs had h)
           (subst (λ (b : Bool). GivesBack (g.S.Shelf.stock c.shelve.new.shelf) (option_map g.S.Out.Write.contents c.shelve.new.under) b (g.S.Shelf.stock c.put_back.new.shelf)) done
           (subst (λ (o : Option g.row.S-Out.Denot). GivesBack (g.S.Shelf.stock c.shelve.new.shelf) (option_map g.S.Out.Write.contents o) c.put_back.result (g.S.Shelf.stock c.put_back.new.shelf)) c.take.ensures.value c.put_back.ensures))
-          (c.loop-i.invariant.gave.2 before outputs k past filing))),
+          (c.loop-i.invariant.gave.2 before outputs k past filing)) in
+          (inr (record {
+            begins = out.turning;
+            before = c.loop-i.invariant.gave.0;
+            bytes = piece;
+            gives_are = refl;
+            are = c.loop-i.invariant.gave.1.are;
+            mid = c.loop-i.client;
+            leads = c.loop-i.invariant.gave.1.leads;
+            turning = sym c.is_turning-is_page.ensures ∙ c.if-is_page.true;
+            last = gives;
+            turned = sym c.is_turning.ensures ∙ c.if-not-is_turning.true;
+          }), inr out),
     )
 
 pub returns-then-not-is_turning-clause-short : goal.returns-then-not-is_turning-clause-short

@@ -1,15 +1,17 @@
-use Rattle.std.proofs.Common.{◌≡◌, ◌∙◌, true, false, ap, refl, sym, subst, rules}
+use Rattle.std.proofs.Common.{◌≡◌, ◌∙◌, true, false, inl, inr, ap, refl, sym, subst, rules}
 use Rattle.std.specs.Prelude.{Option, option_map}
 use Rattle.std.specs.Result.{is_ok}
 use Rattle.std.proofs.lemmas.Result.{err_from_is_err_and}
 use Rattle.scan_job.specs.declared.outcome.Outcome.{Outcome}
-use Rattle.client_replies.specs.ProtocolStates.{is_running}
+use Rattle.client_replies.specs.ProtocolStates.{is_ended, is_running}
 use Rattle.net_jobs.specs.Inside.{StopsAs, CallNotes, ahead_of, left_ahead}
-use Rattle.net_jobs.proofs.JobEnds.{leaves_links, err_of}
-use Rattle.net_jobs.proofs.RunInvariants.{going_on}
+use Rattle.net_jobs.proofs.JobEnds.{leaves_links, done_told, err_of, runs_on}
+use Rattle.net_jobs.proofs.RunInvariants.{turns_on, turned_delivers, turned_still}
+use Rattle.net_jobs.proofs.Steps.{to_be_given}
+use Rattle.net_jobs.proofs.Turning.{is_over_by, runs_by}
 use Rattle.net_jobs.proofs.Shelving.{lying_fresh, lying_gave, lying_went, laid_then, shut_parted}
 use Rattle.net_jobs.proofs.Batching.{came_done, came_sunk, came_stopped}
-use Rattle.net_jobs.proofs.net_batch.run_client.Goals.{else-not-is_over-via-then-not-is_over+else-not-fill, else-not-is_over-via-else-not-is_over, else-is_ok-via-then-is_ok+else-not-fill-2, else-is_ok-via-else-is_ok}
+use Rattle.net_jobs.proofs.net_batch.run_client.Goals.{else-came-via-then-came+then-not-is_over+else-not-fill, else-came-via-then-came+else-not-is_over, else-came-via-else-came, else-is_ok-via-then-is_ok+else-not-fill-2, else-is_ok-via-else-is_ok}
 use Rattle.net_jobs.proofs.net_batch.run_client.Goals as goal
 
 pub loop-client-init : goal.loop-client-init
@@ -24,41 +26,54 @@ loop-client-init g c = record {
 pub returns-then-not-fill-clause-came : goal.returns-then-not-fill-clause-came
 returns-then-not-fill-clause-came g c = λ job fresh count scanning none.
     let p = c.loop-client.invariant.lying job fresh count scanning none in
-    let going = going_on _ (left_ahead g.D.Conn.Read.remaining) job _ _ p.laid.given _ _ c.go_on.ensures.moved.0 c.go_on.ensures.moved.2 p.laid.going in
-    rw (c.failed_output.ensures, c.fill.ensures.calls.0) (came_sunk _ (left_ahead g.D.Conn.Read.remaining) job _ _ _ _ _ _ _ (ahead_of c.go_on.new.stream c.go_on.new.ahead) c.go_on.new.client c.loop-client.client c.fill.new.client _ _ _ p.laid.given p.laid.going.stage.history c.args.is_scanning c.fill.result scanning count c.whole_shows.ensures p.laid.shelf
-    going c.if-not-fill.true (λ e. (c.fill.ensures.none e).0) (c.fill.ensures.short c.if-not-fill.true))
+    let before = runs_by (is_running c.loop-client.client.outcome) c.is_over.result c.is_over.ensures c.loop-client-test.true in
+    let t = turns_on _ (left_ahead g.D.Conn.Read.remaining) job _ _ p.laid.given c.go_on-came.result _ _ c.go_on-came.ensures.moved.0 c.go_on-came.ensures.moved.1 c.go_on-came.ensures.moved.2 before p.laid.going p.laid.steps in
+    let runs = runs_by (is_running c.go_on-came.new.client.outcome) c.is_over-then-came.result c.is_over-then-came.ensures c.if-not-is_over.true in
+    rw (c.failed_output.ensures, c.fill.ensures.calls.0) (came_sunk _ (left_ahead g.D.Conn.Read.remaining) job _ _ _ _ _ _ _ (ahead_of c.go_on-came.new.stream c.go_on-came.new.ahead) c.go_on-came.new.client c.loop-client.client c.fill.new.client _ _ _ p.laid.given p.laid.going.stage.history c.args.is_scanning c.fill.result scanning count c.whole_shows.ensures p.laid.shelf
+    t.going (runs_on c.go_on-came.new.client.outcome runs) c.if-not-fill.true (λ e. (c.fill.ensures.none e).0) (c.fill.ensures.short c.if-not-fill.true))
 
 pub loop-client-preserved : goal.loop-client-preserved
 loop-client-preserved g c = record {
   room = search rules;
-  within = search rules;
-  held = elim c.else-not-is_over.branch [
-    | else-not-is_over-via-then-not-is_over+else-not-fill w ↦ rw (w.client-is, w.tally-is) (λ e. ap (λ (n : CallNotes). n.loss) w.fill.ensures.calls.0 ∙ c.go_on.ensures.held (sym (ap is_running w.fill.ensures.outcome) ∙ e))
-    | else-not-is_over-via-else-not-is_over w ↦ rw (w.client-is, w.tally-is) c.go_on.ensures.held
+  within = c.go_on-came.ensures.within;
+  held = elim c.else-came.branch [
+    | else-came-via-then-came+then-not-is_over+else-not-fill w ↦ rw (w.client-is, w.tally-is) (λ e. ap (λ (n : CallNotes). n.loss) w.fill.ensures.calls.0 ∙ c.go_on-came.ensures.held (sym (ap is_running w.fill.ensures.outcome) ∙ e))
+    | else-came-via-then-came+else-not-is_over w ↦ rw (w.client-is, w.tally-is) c.go_on-came.ensures.held
+    | else-came-via-else-came w ↦ rw (w.client-is, w.tally-is) c.go_on-came.ensures.held
   ];
-  up = elim c.else-not-is_over.branch [
-    | else-not-is_over-via-then-not-is_over+else-not-fill w ↦ rw (w.client-is, w.tally-is) (λ e. ap (λ (n : CallNotes). n.write_failed) w.fill.ensures.calls.0 ∙ c.go_on.ensures.up (sym (ap is_running w.fill.ensures.outcome) ∙ e))
-    | else-not-is_over-via-else-not-is_over w ↦ rw (w.client-is, w.tally-is) c.go_on.ensures.up
+  up = elim c.else-came.branch [
+    | else-came-via-then-came+then-not-is_over+else-not-fill w ↦ rw (w.client-is, w.tally-is) (λ e. ap (λ (n : CallNotes). n.write_failed) w.fill.ensures.calls.0 ∙ c.go_on-came.ensures.up (sym (ap is_running w.fill.ensures.outcome) ∙ e))
+    | else-came-via-then-came+else-not-is_over w ↦ rw (w.client-is, w.tally-is) c.go_on-came.ensures.up
+    | else-came-via-else-came w ↦ rw (w.client-is, w.tally-is) c.go_on-came.ensures.up
   ];
   lying = λ job fresh count scanning none.
       let p = c.loop-client.invariant.lying job fresh count scanning none in
-      let going = going_on _ (left_ahead g.D.Conn.Read.remaining) job _ _ p.laid.given _ _ c.go_on.ensures.moved.0 c.go_on.ensures.moved.2 p.laid.going in
-      elim c.else-not-is_over.branch [
-        | else-not-is_over-via-then-not-is_over+else-not-fill w ↦
-            (let runs : is_running c.go_on.new.client.outcome ≡ true = search rules in
-            rw (w.client-is, w.shelf-is, w.under-is, w.tally-is, w.fill.ensures.calls.0) (lying_gave _ (left_ahead g.D.Conn.Read.remaining) job _ _ _ _ _ _ (ahead_of c.go_on.new.stream c.go_on.new.ahead) w.fill.new.client _ _ c.not_whole_before.ensures (ap is_running w.fill.ensures.outcome ∙ runs)
-            (laid_then _ (left_ahead g.D.Conn.Read.remaining) job _ _ _ _ _ _ _ (ahead_of c.go_on.new.stream c.go_on.new.ahead) c.go_on.new.client c.loop-client.client w.fill.new.client _ _ _ p.laid.given p.laid.going.stage.history c.args.is_scanning scanning count c.whole_shows.ensures p.laid.shelf going
+      let before = runs_by (is_running c.loop-client.client.outcome) c.is_over.result c.is_over.ensures c.loop-client-test.true in
+      let t = turns_on _ (left_ahead g.D.Conn.Read.remaining) job _ _ p.laid.given c.go_on-came.result _ _ c.go_on-came.ensures.moved.0 c.go_on-came.ensures.moved.1 c.go_on-came.ensures.moved.2 before p.laid.going p.laid.steps in
+      elim c.else-came.branch [
+        | else-came-via-then-came+then-not-is_over+else-not-fill w ↦
+            (let runs = runs_by (is_running c.go_on-came.new.client.outcome) w.is_over-then-came.result w.is_over-then-came.ensures w.if-not-is_over.true in
+            let last = turned_delivers _ (left_ahead g.D.Conn.Read.remaining) job _ _ p.laid.given c.go_on-came.result _ t w.if-came.true runs in
+            rw (w.client-is, w.shelf-is, w.under-is, w.tally-is, w.fill.ensures.calls.0) (lying_gave _ (left_ahead g.D.Conn.Read.remaining) job _ _ _ _ _ _ (ahead_of c.go_on-came.new.stream c.go_on-came.new.ahead) w.fill.new.client _ _ c.not_whole_before.ensures (ap is_running w.fill.ensures.outcome ∙ runs)
+            (laid_then _ (left_ahead g.D.Conn.Read.remaining) job _ _ _ _ _ _ _ (ahead_of c.go_on-came.new.stream c.go_on-came.new.ahead) c.go_on-came.new.client c.loop-client.client w.fill.new.client _ _ _ p.laid.given p.laid.going.stage.history c.args.is_scanning scanning count c.whole_shows.ensures p.laid.shelf t.going last
             (λ e. ((w.fill.ensures.none e).1, ap (λ (x : g.row.S.Denot). g.S.Shelf.stock x) (w.fill.ensures.none e).2, ap (λ (o : Option g.row.S-Out.Denot). option_map g.S.Out.Write.contents o) (w.fill.ensures.none e).3))
             (λ is. w.fill.ensures.drained is w.if-not-fill.false))))
-        | else-not-is_over-via-else-not-is_over w ↦ rw (w.client-is, w.shelf-is, w.under-is, w.tally-is) (lying_went _ (left_ahead g.D.Conn.Read.remaining) job _ _ _ _ _ _ _ _ _ (ahead_of c.loop-client.stream c.loop-client.ahead) (ahead_of c.go_on.new.stream c.go_on.new.ahead) c.loop-client.client c.go_on.new.client _ _ p going)
+        | else-came-via-then-came+else-not-is_over w ↦
+            (let over = is_over_by (is_running c.go_on-came.new.client.outcome) w.is_over-then-came.result w.is_over-then-came.ensures w.if-not-is_over.false in
+            rw (w.client-is, w.shelf-is, w.under-is, w.tally-is) (lying_went _ (left_ahead g.D.Conn.Read.remaining) job _ _ _ _ _ _ _ _ _ (ahead_of c.loop-client.stream c.loop-client.ahead) (ahead_of c.go_on-came.new.stream c.go_on-came.new.ahead) c.loop-client.client c.go_on-came.new.client _ _ p t.going
+            (turned_still _ (left_ahead g.D.Conn.Read.remaining) job _ _ p.laid.given c.go_on-came.result _ t (inr over))))
+        | else-came-via-else-came w ↦ rw (w.client-is, w.shelf-is, w.under-is, w.tally-is) (lying_went _ (left_ahead g.D.Conn.Read.remaining) job _ _ _ _ _ _ _ _ _ (ahead_of c.loop-client.stream c.loop-client.ahead) (ahead_of c.go_on-came.new.stream c.go_on-came.new.ahead) c.loop-client.client c.go_on-came.new.client _ _ p t.going
+            (turned_still _ (left_ahead g.D.Conn.Read.remaining) job _ _ p.laid.given c.go_on-came.result _ t (inl w.if-came.false)))
       ];
 }
 
 pub returns-then-not-fill-2-clause-came : goal.returns-then-not-fill-2-clause-came
 returns-then-not-fill-2-clause-came g c = λ job fresh count scanning none.
     let p = c.loop-client.invariant.lying job fresh count scanning none in
+    let done = done_told c.outcome.result.now c.told_of-told.result _ (sym c.is_ok.ensures.value ∙ c.if-is_ok.true) c.told_of-told.ensures.told in
+    let alive = ap is_ended (sym c.outcome.ensures ∙ done.1) in
     rw (c.failed_output-then-not-fill-2.ensures, c.fill-then-is_ok.ensures.calls.0) (came_sunk _ (left_ahead g.D.Conn.Read.remaining) job _ _ _ _ _ _ _ (ahead_of c.loop-client.stream c.loop-client.ahead) c.loop-client.client c.loop-client.client c.fill-then-is_ok.new.client _ _ _ p.laid.given p.laid.going.stage.history c.args.is_scanning c.fill-then-is_ok.result scanning count c.whole_shows.ensures p.laid.shelf
-    p.laid.going c.if-not-fill-2.true (λ e. (c.fill-then-is_ok.ensures.none e).0) (c.fill-then-is_ok.ensures.short c.if-not-fill-2.true))
+    p.laid.going alive c.if-not-fill-2.true (λ e. (c.fill-then-is_ok.ensures.none e).0) (c.fill-then-is_ok.ensures.short c.if-not-fill-2.true))
 
 pub returns-in_err-told-clause-came : goal.returns-in_err-told-clause-came
 returns-in_err-told-clause-came g c = λ job fresh count scanning none.
@@ -77,11 +92,13 @@ returns-clause-came g c = λ job fresh count scanning none.
     let p = c.loop-client.invariant.lying job fresh count scanning none in
     elim c.else-is_ok.branch [
       | else-is_ok-via-then-is_ok+else-not-fill-2 w ↦
+          (let done = sym (rw w.client-is at c.part-outcome.ensures.outcome) ∙ c.in-Done.is in
+          let last = to_be_given job.task p.laid.going.fresh p.laid.going.moves c.loop-client.client p.laid.given c.in-Done.reports (sym w.fill-then-is_ok.ensures.outcome ∙ done) p.laid.steps in
           rw (w.shelf-is, w.under-is) (came_done _ (left_ahead g.D.Conn.Read.remaining) job _ _ _ _ _ _ (ahead_of c.loop-client.stream c.loop-client.ahead) w.fill-then-is_ok.new.client _ _ c.in-Done.reports count c.whole_shows.ensures (sym (rw w.client-is at c.part-outcome.ensures.outcome) ∙ c.in-Done.is)
           (shut_parted _ (left_ahead g.D.Conn.Read.remaining) job _ _ _ _ _ _ _ _ (ahead_of c.loop-client.stream c.loop-client.ahead) w.fill-then-is_ok.new.client _ _ (ap is_running (sym (rw w.client-is at c.part-outcome.ensures.outcome) ∙ c.in-Done.is))
           (leaves_links g.C.Read.remaining g.C.Write.contents g.D.Dial.ports c.loop-client.control c.part-outcome.new.control c.loop-client.dial _ _ _ (rw (w.client-is, w.tally-is, w.fill-then-is_ok.ensures.calls.0) at c.part-outcome.ensures.left))
-          (laid_then _ (left_ahead g.D.Conn.Read.remaining) job _ _ _ _ _ _ _ (ahead_of c.loop-client.stream c.loop-client.ahead) c.loop-client.client c.loop-client.client w.fill-then-is_ok.new.client _ _ _ p.laid.given p.laid.going.stage.history c.args.is_scanning scanning count c.whole_shows.ensures p.laid.shelf p.laid.going
+          (laid_then _ (left_ahead g.D.Conn.Read.remaining) job _ _ _ _ _ _ _ (ahead_of c.loop-client.stream c.loop-client.ahead) c.loop-client.client c.loop-client.client w.fill-then-is_ok.new.client _ _ _ p.laid.given p.laid.going.stage.history c.args.is_scanning scanning count c.whole_shows.ensures p.laid.shelf p.laid.going last
           (λ e. ((w.fill-then-is_ok.ensures.none e).1, ap (λ (x : g.row.S.Denot). g.S.Shelf.stock x) (w.fill-then-is_ok.ensures.none e).2, ap (λ (o : Option g.row.S-Out.Denot). option_map g.S.Out.Write.contents o) (w.fill-then-is_ok.ensures.none e).3))
-          (λ is. w.fill-then-is_ok.ensures.drained is w.if-not-fill-2.false))).0)
+          (λ is. w.fill-then-is_ok.ensures.drained is w.if-not-fill-2.false))).0))
       | else-is_ok-via-else-is_ok w ↦ absurd (let clash : true ≡ false = sym (c.is_ok.ensures.value ∙ ap is_ok c.in_ok-told.was) ∙ w.if-is_ok.false in cc)
     ]

@@ -89,7 +89,7 @@ returns-clause-ran g c = λ job fresh single scan.
     elim c.else-is_ok.branch [
       | else-is_ok-via-then-is_ok+else-not-give-2 w ↦
           (let done = sym (rw w.client-is at c.part-outcome.ensures.outcome) ∙ c.in-Done.is in
-          let last = to_be_given job.task p.drained.going.fresh p.drained.going.moves c.loop-client.client c.in-Done.reports (sym w.give-then-is_ok.ensures.outcome ∙ done) p.drained.steps in
+          let last = to_be_given job.task p.drained.going.fresh p.drained.going.moves c.loop-client.client p.drained.given c.in-Done.reports (sym w.give-then-is_ok.ensures.outcome ∙ done) p.drained.steps in
           rw w.out-is (run_done _ (left_ahead g.D.Conn.Read.remaining) job _ _ _ _ _ _ (ahead_of c.loop-client.stream c.loop-client.ahead) w.give-then-is_ok.new.client _ c.in-Done.reports single c.whole_shows.ensures done
           (closed_parted _ (left_ahead g.D.Conn.Read.remaining) job _ _ _ _ _ _ _ _ (ahead_of c.loop-client.stream c.loop-client.ahead) w.give-then-is_ok.new.client _ (ap is_running done)
           (leaves_links g.C.Read.remaining g.C.Write.contents g.D.Dial.ports c.loop-client.control c.part-outcome.new.control c.loop-client.dial _ _ _ (rw (w.client-is, w.tally-is, w.give-then-is_ok.ensures.calls.0) at c.part-outcome.ensures.left))
