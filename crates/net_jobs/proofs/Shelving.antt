@@ -215,8 +215,8 @@ laid_next views left_of job first coming0 before notes control coming stream c n
     let page : JoinHistory = after_pull (given_by gives) g.stage.history in
     let turned = page_turned views left_of job first coming0 before notes control coming stream c now then_ out given gives true shows g all e in
     let t = turned.0 in
-    let batch : is_batch c.target.task ≡ true = turning_batch c.target.task c.outcome c.progress g.stage.history e.turning g.stage.serves.fits in
-    let steps = steps_turned job.task g.fresh g.moves c given page gives now scanning (ap (λ (l : List ℕ). l ++ given_by gives) g.stage.given_is) last (batch, goes_out c (record c { join = e.join }) now gives e.turning e.client out_of) in
+    let batch : is_batch job.task ≡ true = sym (ap is_batch (task_is c job g.stage.target)) ∙ turning_batch c.target.task c.outcome c.progress g.stage.history e.turning g.stage.serves.fits in
+    let steps = steps_turned job.task g.fresh g.moves c given page gives now scanning batch (ap (λ (l : List ℕ). l ++ given_by gives) g.stage.given_is) last (goes_out c (record c { join = e.join }) now gives e.turning e.client out_of) in
     record {
       given = turned_given given page;
       going = t.going;

@@ -10,7 +10,7 @@ use Rattle.scan_job.specs.declared.outcome.Why.TheVariants as whys
 use Rattle.scan_job.specs.declared.report.Reports.{Reports}
 use Rattle.client_replies.specs.declared.progress.Link.{Link}
 use Rattle.client_replies.specs.declared.progress.Link.TheVariants as links
-use Rattle.client_replies.specs.ProtocolStates.{is_ended, is_lost_by, is_running, scans}
+use Rattle.client_replies.specs.ProtocolStates.{is_batch, is_ended, is_lost_by, is_running, scans}
 use Rattle.net_client.specs.ClientStates.{ClientState, after_client_end}
 use Rattle.frame_join.specs.FrameHistory.{JoinHistory}
 use Rattle.net_jobs.specs.JobJournal.{AreGives, JobMove, MoveLeads, after_loss, given_by, has_write_failed}
@@ -24,7 +24,7 @@ use Rattle.net_jobs.proofs.InvariantRecords.{GivenFiles, more_given, no_files_gi
 -- ---- no write failed
 
 gives_of : (b turned : Bool) (old : ClientState) (gives : List JobMove) (new : ClientState) → GivesOut b turned old gives new → AreGives gives
-gives_of true true old gives new out = subst AreGives (sym out.1.gives_are) out.1.are
+gives_of true true old gives new out = subst AreGives (sym out.gives_are) out.are
 gives_of true false old gives new (inl out) = out.runs_out.are
 gives_of true false old gives new (inr none) = subst AreGives (sym none.1.0) tt
 gives_of false turned old gives new none = subst AreGives (sym none.1.0) tt
@@ -106,22 +106,22 @@ pub record LastDelivers (task : Task) (first : ClientState) (moves : List JobMov
   pub leads : MoveLeads mid move last
   pub task_is : mid.target.task ≡ task
 
-delivery_leads : (old : ClientState) (move : JobMove) (mid : ClientState) (gives : List JobMove) (turned : Bool) (new : ClientState) (b : Bool) → scans old.target.task ≡ b → IsDelivery move → MoveLeads old move mid → GivesOut b turned mid gives new
+delivery_leads : (old : ClientState) (move : JobMove) (mid : ClientState) (gives : List JobMove) (turned : Bool) (new : ClientState) (b : Bool) → scans old.target.task ≡ b → (turned ≡ true → is_batch old.target.task ≡ true) → IsDelivery move → MoveLeads old move mid → GivesOut b turned mid gives new
     → StepLeads old (record { move = move; gives = gives; turned = turned }) new
-delivery_leads old (Hears piece) mid gives turned new b e is m out = record { is_piece = m.1; heard = mid; hears = m.0; gives_out = subst (λ (x : Bool). GivesOut x turned mid gives new) (sym e) out }
-delivery_leads old (Takes piece) mid gives turned new b e is m out = record { is_piece = m.1; taken = mid; takes = m.0; gives_out = subst (λ (x : Bool). GivesOut x turned mid gives new) (sym e) out }
-delivery_leads old Resumes mid gives turned new b e is m out = record { early = m.1; heard = mid; hears = m.0; gives_out = subst (λ (x : Bool). GivesOut x turned mid gives new) (sym e) out }
-delivery_leads old (Writes bytes) mid gives turned new b e is m out = absurd is
-delivery_leads old (Fails bytes) mid gives turned new b e is m out = absurd is
-delivery_leads old (Dials port made) mid gives turned new b e is m out = absurd is
-delivery_leads old (Gives bytes) mid gives turned new b e is m out = absurd is
-delivery_leads old (Loses link reason) mid gives turned new b e is m out = absurd is
+delivery_leads old (Hears piece) mid gives turned new b e batch is m out = record { is_piece = m.1; heard = mid; hears = m.0; gives_out = subst (λ (x : Bool). GivesOut x turned mid gives new) (sym e) out; batch = batch }
+delivery_leads old (Takes piece) mid gives turned new b e batch is m out = record { is_piece = m.1; taken = mid; takes = m.0; gives_out = subst (λ (x : Bool). GivesOut x turned mid gives new) (sym e) out; batch = batch }
+delivery_leads old Resumes mid gives turned new b e batch is m out = record { early = m.1; heard = mid; hears = m.0; gives_out = subst (λ (x : Bool). GivesOut x turned mid gives new) (sym e) out; batch = batch }
+delivery_leads old (Writes bytes) mid gives turned new b e batch is m out = absurd is
+delivery_leads old (Fails bytes) mid gives turned new b e batch is m out = absurd is
+delivery_leads old (Dials port made) mid gives turned new b e batch is m out = absurd is
+delivery_leads old (Gives bytes) mid gives turned new b e batch is m out = absurd is
+delivery_leads old (Loses link reason) mid gives turned new b e batch is m out = absurd is
 
-steps_on : (task : Task) (first : ClientState) (moves : List JobMove) (last : ClientState) (given : GivenFiles) (gives : List JobMove) (turned : Bool) (now : ClientState) (b : Bool) → scans task ≡ b → (d : LastDelivers task first moves last given) → GivesOut b turned last gives now → MovesAreSteps first (gives ++ moves) now
-steps_on task first moves last given gives turned now b e d out = record {
+steps_on : (task : Task) (first : ClientState) (moves : List JobMove) (last : ClientState) (given : GivenFiles) (gives : List JobMove) (turned : Bool) (now : ClientState) (b : Bool) → scans task ≡ b → (turned ≡ true → is_batch task ≡ true) → (d : LastDelivers task first moves last given) → GivesOut b turned last gives now → MovesAreSteps first (gives ++ moves) now
+steps_on task first moves last given gives turned now b e batch d out = record {
   steps = record { move = d.move; gives = gives; turned = turned } ∷ d.steps.steps.steps;
   moves_are = ap (λ (l : List JobMove). gives ++ l) (d.moves_are ∙ ap (λ (l : List JobMove). d.move ∷ l) d.steps.steps.moves_are);
-  lead = (d.mid, d.steps.steps.lead, none_failed first d.before d.mid d.up d.steps.steps, delivery_leads d.mid d.move last gives turned now b (ap scans d.task_is ∙ e) d.delivers d.leads out);
+  lead = (d.mid, d.steps.steps.lead, none_failed first d.before d.mid d.up d.steps.steps, delivery_leads d.mid d.move last gives turned now b (ap scans d.task_is ∙ e) (λ on. ap is_batch d.task_is ∙ batch on) d.delivers d.leads out);
 }
 
 -- they go out, and the client goes on with its file
@@ -129,7 +129,7 @@ pub steps_given : (task : Task) (first : ClientState) (moves : List JobMove) (la
     → StepsSoFar first (gives ++ moves) now (more_given given (given_by gives))
 unfolding steps_on
 steps_given task first moves last given gives now b e d out = record {
-  steps = steps_on task first moves last given gives false now b e d out;
+  steps = steps_on task first moves last given gives false now b e (λ on. absurd (let wrong : false ≡ true = on in cc)) d out;
   give = record { turned = d.steps.give.turned; under_way = ap (λ (l : List ℕ). l ++ given_by gives) d.steps.give.under_way };
 }
 
@@ -137,7 +137,7 @@ steps_given task first moves last given gives now b e d out = record {
 pub steps_still : (task : Task) (first : ClientState) (moves : List JobMove) (last : ClientState) (given : GivenFiles) (b : Bool) → scans task ≡ b → LastDelivers task first moves last given → GivesOut b false last [] last → StepsSoFar first moves last given
 unfolding steps_on
 steps_still task first moves last given b e d out = record {
-  steps = steps_on task first moves last given [] false last b e d out;
+  steps = steps_on task first moves last given [] false last b e (λ on. absurd (let wrong : false ≡ true = on in cc)) d out;
   give = record { turned = d.steps.give.turned; under_way = d.steps.give.under_way ∙ sym (append-nil (given_by_steps d.steps.steps.steps)) };
 }
 
@@ -146,11 +146,11 @@ texts_more [] page = refl
 texts_more (other ∷ pages) page = ap (λ (l : List (List ℕ)). other.given ∷ l) (texts_more pages page)
 
 -- they were a page's last
-pub steps_turned : (task : Task) (first : ClientState) (moves : List JobMove) (last : ClientState) (given : GivenFiles) (page : JoinHistory) (gives : List JobMove) (now : ClientState) → scans task ≡ true → page.given ≡ given.bytes ++ given_by gives
+pub steps_turned : (task : Task) (first : ClientState) (moves : List JobMove) (last : ClientState) (given : GivenFiles) (page : JoinHistory) (gives : List JobMove) (now : ClientState) → scans task ≡ true → is_batch task ≡ true → page.given ≡ given.bytes ++ given_by gives
     → LastDelivers task first moves last given → GivesOut true true last gives now → StepsSoFar first (gives ++ moves) now (turned_given given page)
 unfolding steps_on
-steps_turned task first moves last given page gives now e is d out = record {
-  steps = steps_on task first moves last given gives true now true e d out;
+steps_turned task first moves last given page gives now e batch is d out = record {
+  steps = steps_on task first moves last given gives true now true e (λ on. batch) d out;
   give = record {
     turned = texts_more given.pages page ∙ ap (λ (l : List (List ℕ)). l ++ page.given ∷ []) d.steps.give.turned
         ∙ ap (λ (t : List ℕ). files_by_steps d.steps.steps.steps ++ t ∷ []) (is ∙ ap (λ (l : List ℕ). l ++ given_by gives) d.steps.give.under_way);

@@ -44,11 +44,15 @@ pub record PageEnds (old : ClientState) (gives : List JobMove) (new : ClientStat
 abbrev pub GivesNone : ClientState → List JobMove → ClientState → Type 0
 GivesNone old gives new = (gives ≡ []) × (new ≡ old)
 
--- a job that scans nothing has no file, one that has ended gives nothing more of it, and only a batch has another page
+-- a job that scans nothing has no file, and one that has ended gives nothing more of it
 abbrev pub GivesOut : Bool → Bool → ClientState → List JobMove → ClientState → Type 0
-GivesOut true true old gives new = (is_batch old.target.task ≡ true) × PageEnds old gives new
+GivesOut true true old gives new = PageEnds old gives new
 GivesOut true false old gives new = FileGoesOn old gives new ⊎ ((is_ended old.outcome ≡ true) × GivesNone old gives new)
 GivesOut false turned old gives new = (turned ≡ false) × GivesNone old gives new
+
+-- only a batch has a next page
+abbrev pub TurnsForBatch : ClientState → JobStep → Type 0
+TurnsForBatch old step = step.turned ≡ true → is_batch old.target.task ≡ true
 
 -- a piece comes, and then bytes of the file go out
 pub record HearsAndGives (old : ClientState) (piece : List ℕ) (step : JobStep) (new : ClientState) : Type 0 where
@@ -56,12 +60,14 @@ pub record HearsAndGives (old : ClientState) (piece : List ℕ) (step : JobStep)
   pub heard : ClientState
   pub hears : HearsPiece old piece heard
   pub gives_out : GivesOut (scans old.target.task) step.turned heard step.gives new
+  pub batch : TurnsForBatch old step
 
 pub record TakesAndGives (old : ClientState) (piece : List ℕ) (step : JobStep) (new : ClientState) : Type 0 where
   pub is_piece : IsPiece piece
   pub taken : ClientState
   pub takes : TakesPiece old piece taken
   pub gives_out : GivesOut (scans old.target.task) step.turned taken step.gives new
+  pub batch : TurnsForBatch old step
 
 -- so they do where a reply came before its request was written
 pub record ResumesAndGives (old : ClientState) (step : JobStep) (new : ClientState) : Type 0 where
@@ -69,6 +75,7 @@ pub record ResumesAndGives (old : ClientState) (step : JobStep) (new : ClientSta
   pub heard : ClientState
   pub hears : HearsPiece old [] heard
   pub gives_out : GivesOut (scans old.target.task) step.turned heard step.gives new
+  pub batch : TurnsForBatch old step
 
 -- bytes of the file go out behind no other move
 abbrev pub MoveAndGives : ClientState → JobMove → JobStep → ClientState → Type 0

@@ -7,8 +7,8 @@ use Rattle.client_replies.specs.ProtocolStates.{is_batch, is_receiving, is_runni
 use Rattle.net_client.specs.ClientStates.{ClientRepresents, ClientState}
 use Rattle.net_client.specs.ReplyPieces.{Heeds}
 use Rattle.net_client.specs.FramePieces.{Receives}
-use Rattle.net_jobs.specs.JobJournal.{JobMove, given_by}
-use Rattle.net_jobs.specs.JobSteps.{HearsAndGives, TakesAndGives}
+use Rattle.net_jobs.specs.JobJournal.{given_by}
+use Rattle.net_jobs.specs.JobSteps.{HearsAndGives, JobStep, TakesAndGives}
 use Rattle.saned_core.specs.declared.session_slot.SessionId.{SessionId}
 use Rattle.saned_core.specs.DaemonLimits.{HaveOwnNumbers}
 use Rattle.saned_core.specs.DaemonStates.{Core, after_taken, on_session_slot, replies_of, session_slot_of}
@@ -23,13 +23,15 @@ use Rattle.in_flight.proofs.Slots.{Change, KeepsNumber, Slot, decide, own_slot}
 use Rattle.scan_world.specs.declared.event.JobEvent.TheVariants as events
 use Rattle.scan_world.specs.declared.endpoint.Endpoint.{Endpoint}
 use Rattle.scan_world.specs.declared.endpoint.Image.{Image}
-use Rattle.scan_world.specs.Endpoints.{after_move, laid_by}
+use Rattle.scan_world.specs.Endpoints.{after_move}
+use Rattle.scan_world.specs.FileInvariant.{FilesRepresent}
 use Rattle.scan_world.specs.JobEvents.{Can, Does, HasImage, HeedsPiece, IfLinked, TakesDataPiece, bytes_not_delivered, delivered_bytes, is_done, still_open, with_image, with_last_page, without_ended_image, without_taken}
-use Rattle.programs_refine.proofs.Giving.{Holds, drains_to, laid, more_of}
+use Rattle.programs_refine.proofs.Giving.{Holds, drains_to, filed, filed_as, files_filed, holds_some, last_as, last_files, low_by, never_turned, running_files}
 use Rattle.programs_refine.proofs.Lists.{delivers, keeps_rest, left_of, moves_on, some_bytes, some_wait}
 use Rattle.programs_refine.proofs.Outgoing.{dialled_receives, never_both, not_over, receiving_at}
-use Rattle.programs_refine.proofs.Passed.{Passed, Traffics}
-use Rattle.programs_refine.proofs.Tracks.{Follows, ImageTracks, IsLinked, OutTracks, image_bytes, with_out}
+use Rattle.programs_refine.proofs.Passed.{Passed, Traffics, with_given}
+use Rattle.programs_refine.proofs.Tracks.{FilesTrack, Follows, ImageTracks, IsLinked, OutTracks, files_kept, image_bytes, with_out}
+use Rattle.programs_refine.proofs.Tracks.FilesTrack.{UnderWay}
 use Rattle.programs_refine.proofs.Tracks.Follows.{Alike, Dialled, Lost, Cut}
 
 -- ---- a linked endpoint
@@ -68,28 +70,32 @@ pub record HearsThere (w : Core) (flying : ℕ → List ℕ) (d : Core) (k : ℕ
   pub is_slot : (m : ℕ) → session_slot_of e.slots m ≢ None → session_slot_of w.slots m ≢ None
   pub tracks : IsLinked own left y k c q
 
-heard_so : (piece given : List ℕ) (up : List ℕ) (p : Endpoint) (old mid c : ClientState) (gives : List JobMove) → p.client ≡ with_unheard up old → is_batch p.task ≡ false → p.task ≡ old.target.task → (h : HearsAndGives old piece gives c)
-    → HeedsPiece piece (after_move p) (laid (after_move p) (with_unheard up c) (given_by gives))
-heard_so piece given up p old mid c gives there plain task h =
+heard_so : (piece up : List ℕ) (p : Endpoint) (old c : ClientState) (step : JobStep) → p.client ≡ with_unheard up old → p.task ≡ old.target.task → (h : HearsAndGives old piece step c) → HeedsPiece piece (after_move p) (filed step.turned (after_move p) (with_unheard up c) (given_by step.gives))
+heard_so piece up p old c step there task h =
     let runs : is_running p.client.outcome ≡ true = ap (λ (z : ClientState). is_running z.outcome) there ∙ h.hears.running in
     record {
       over = λ e. never_both (is_running p.client.outcome) runs e;
       mid = with_unheard up h.heard;
       heeds = λ _ past serves. subst (λ (z : ClientState). Heeds z past piece (with_unheard up h.heard)) (sym there)
           (replies_alike up old past piece h.heard (h.hears.heeds past ((histories_alike up past old).1 (subst (ClientRepresents past) there serves))));
-      drains = λ _. drains_to (scans old.target.task) (after_move p) up h.heard c gives plain (ap scans task) h.gives_out;
+      drains = λ _. drains_to (scans old.target.task) step.turned (after_move p) up h.heard c step.gives (ap scans task) h.gives_out;
     }
 
 replies_wait : (flying : ℕ → List ℕ) (d w : Core) (k : ℕ) (piece rest : List ℕ) → DiffersInFlight flying d w → flying k ≡ piece ++ rest → replies_of w k ≡ piece ++ (rest ++ replies_of d k)
 replies_wait flying d w k piece rest differs e = (differs.sessions k).replies ∙ ap (λ (x : List ℕ). x ++ replies_of d k) e ∙ append_assoc piece rest (replies_of d k)
 
 -- of a client that is alike and hears
-hears_alike : (w : Core) (flying : ℕ → List ℕ) (d : Core) (k : ℕ) (own : Passed) (x : Traffics) (old c : ClientState) (p : Endpoint) (piece rest : List ℕ) (gives : List JobMove) → DiffersInFlight flying d w → (l : IsLinked own (flying k) x k old p) → l.pending ≡ false → x.failed ≡ false
-    → p.client ≡ with_unheard l.out.up old → p.task ≡ old.target.task → flying k ≡ piece ++ rest → HearsAndGives old piece gives c → HearsThere w flying d k own x (record x { heard = x.heard ++ piece; given = x.given ++ given_by gives }) c p (length piece)
-hears_alike w flying d k own x old c p piece rest gives differs l off ok there task flies h =
+hears_alike : (w : Core) (flying : ℕ → List ℕ) (d : Core) (k : ℕ) (own : Passed) (x : Traffics) (old c : ClientState) (p : Endpoint) (piece rest : List ℕ) (step : JobStep) → DiffersInFlight flying d w → Holds p → (l : IsLinked own (flying k) x k old p) → l.pending ≡ false → x.failed ≡ false
+    → p.client ≡ with_unheard l.out.up old → p.task ≡ old.target.task → flying k ≡ piece ++ rest → HearsAndGives old piece step c → HearsThere w flying d k own x (with_given step (record x { heard = x.heard ++ piece })) c p (length piece)
+hears_alike w flying d k own x old c p piece rest step differs holds l off ok there task flies h =
     let n = length piece in
     let up = l.out.up in
-    let q : Endpoint = laid (after_move p) (with_unheard up c) (given_by gives) in
+    let mid : Endpoint = after_move p in
+    let q : Endpoint = filed step.turned mid (with_unheard up c) (given_by step.gives) in
+    let went = filed_as step.turned mid (with_unheard up c) (given_by step.gives) in
+    let runs : is_running p.client.outcome ≡ true = ap (λ (z : ClientState). is_running z.outcome) there ∙ h.hears.running in
+    let room : step.turned ≡ true → p.finished < 16 = λ on. holds.room (ap is_batch task ∙ h.batch on) in
+    let had = running_files x.turned x.given p mid (record { file = refl; pages = refl; finished = refl; task = refl; over = λ over. over }) runs l.files in
     let e : Core = record w { slots = on_session_slot (after_taken n) k w.slots } in
     let wait = replies_wait flying d w k piece rest differs flies in
     let just = delivers piece (rest ++ replies_of d k) (replies_of w k) h.is_piece.1 wait in
@@ -100,35 +106,35 @@ hears_alike w flying d k own x old c p piece rest gives differs l off ok there t
       e = e;
       can = (if_linked p.link l.id k (λ j. replies_of w j ≢ []) l.link l.number (some_wait piece (rest ++ replies_of d k) (replies_of w k) h.is_piece.0 wait), some_bytes piece h.is_piece.0);
       does = if_linked p.link l.id k (λ j. (e ≡ without_taken j n w) × HeedsPiece (delivered_bytes n (replies_of w j)) (after_move p) q) l.link l.number
-          (taken, subst (λ (z : List ℕ). HeedsPiece z (after_move p) q) (sym just) (heard_so piece [] up p old old c gives there l.plain task h));
+          (taken, subst (λ (z : List ℕ). HeedsPiece z (after_move p) q) (sym just) (heard_so piece up p old c step there task h));
       left = rest;
       differs = both.1;
       is_slot = λ m some. slot_was (after_taken n) k w.opened m w.slots (keeps_taken n) differs.limits_there.1 some;
       tracks = record {
         id = l.id;
-        link = l.link;
+        link = went.link ∙ l.link;
         number = l.number;
         is_open = l.is_open;
         pending = false;
         made = l.made ∙ ap (λ (b : Bool). own.accepted + cond b 1 0) off;
-        follows = Alike refl refl;
-        out = out_again x.failed x.sent own.heard p.client.out old.out c l.out;
+        follows = Alike refl (went.client ∙ ap (λ (v : ClientState). with_out v.out c) (sym went.client));
+        out = subst (λ (v : ClientState). OutTracks x.failed x.sent own.heard v.out c.out) (sym went.client) (out_again x.failed x.sent own.heard p.client.out old.out c l.out);
         said = λ ok_now. moves_on x.heard own.said piece (flying k) rest (l.said ok_now) flies;
-        image = subst (λ (b : Bool). ImageTracks b own x.taken p.image) off l.image;
-        plain = l.plain;
-        file = ap (more_of (given_by gives)) l.file;
+        image = subst (λ (z : Option Image). ImageTracks false own x.taken z) (sym went.image) (subst (λ (b : Bool). ImageTracks b own x.taken p.image) off l.image);
+        files = UnderWay (files_filed step.turned x.turned x.given (given_by step.gives) mid (with_unheard up c) room had);
       };
     }
 
-pub hears : (w : Core) (flying : ℕ → List ℕ) (d : Core) (k : ℕ) (own : Passed) (x : Traffics) (old c : ClientState) (p : Endpoint) (piece : List ℕ) (gives : List JobMove) → DiffersInFlight flying d w → Holds p → IsLinked own (flying k) x k old p → x.failed ≡ false → own.starved ≡ false → IsFront (x.heard ++ piece) own.said
-    → HearsAndGives old piece gives c → HearsThere w flying d k own x (record x { heard = x.heard ++ piece; given = x.given ++ given_by gives }) c p (length piece)
-hears w flying d k own x old c p piece gives differs holds l ok memory front h =
+pub hears : (w : Core) (flying : ℕ → List ℕ) (d : Core) (k : ℕ) (own : Passed) (x : Traffics) (old c : ClientState) (p : Endpoint) (piece : List ℕ) (step : JobStep) → DiffersInFlight flying d w → FilesRepresent p → IsLinked own (flying k) x k old p → x.failed ≡ false → own.starved ≡ false → IsFront (x.heard ++ piece) own.said
+    → HearsAndGives old piece step c → HearsThere w flying d k own x (with_given step (record x { heard = x.heard ++ piece })) c p (length piece)
+hears w flying d k own x old c p piece step differs files l ok memory front h =
     let f = left_of x.heard own.said piece (flying k) (l.said memory) front in
     by l.follows f.0 f.1
   where
-    by : Follows l.pending own.dropped old p.client → (rest : List ℕ) → flying k ≡ piece ++ rest → HearsThere w flying d k own x (record x { heard = x.heard ++ piece; given = x.given ++ given_by gives }) c p (length piece)
+    by : Follows l.pending own.dropped old p.client → (rest : List ℕ) → flying k ≡ piece ++ rest → HearsThere w flying d k own x (with_given step (record x { heard = x.heard ++ piece })) c p (length piece)
     by (Alike off same) rest flies =
-        hears_alike w flying d k own x old c p piece rest gives differs l off ok (alike_as old p.client x.failed x.sent own.heard ok l.out same) (holds.holds.task ∙ ap (λ (z : ClientState). z.target.task) same) flies h
+        let holds = holds_some p files (ap (λ (z : ClientState). is_running z.outcome) same ∙ h.hears.running) in
+        hears_alike w flying d k own x old c p piece rest step differs holds l off ok (alike_as old p.client x.failed x.sent own.heard ok l.out same) (holds.holds.task ∙ ap (λ (z : ClientState). z.target.task) same) flies h
     by (Dialled on wants runs same) rest flies =
         never_both (is_receiving old.outcome old.progress) (ap (λ (z : ClientState). is_receiving z.outcome z.progress) same ∙ dialled_receives p.client runs wants) h.hears.quiet
     by (Lost runs over wants) rest flies = not_over old.outcome over h.hears.running
@@ -142,13 +148,6 @@ pub record TakesThere (w : Core) (flying : List ℕ) (k : ℕ) (own : Passed) (y
   pub can : Can w p (events.DataToClient n)
   pub does : Does w p (events.DataToClient n) w q
   pub tracks : IsLinked own flying y k c q
-
-none_and : (a b : Bool) → b ≡ false → (a && b) ≡ false
-none_and true b e = e
-none_and false b e = refl
-
-not_last : (p : Endpoint) → is_batch p.task ≡ false → p ≡ with_last_page p
-not_last p plain = ap (λ (v : Bool). if v then laid_by p else p) (sym (none_and (is_done p.client.outcome) (is_batch p.task) plain))
 
 -- the connection stands until its last byte is taken
 abbrev open_if : Bool → Image → Option Image
@@ -195,9 +194,9 @@ has_piece [] rest None some e = absurd (some refl)
 has_piece (b ∷ piece) rest None some e = absurd (let wrong : [] ≡ b ∷ (piece ++ rest) = e in cc)
 has_piece piece rest (Some x) some e = record { x = x; at = refl; bytes = e }
 
-taken_so : (piece : List ℕ) (up : List ℕ) (p old_p : Endpoint) (old c : ClientState) (gives : List JobMove) → old_p.client ≡ with_unheard up old → is_batch old_p.task ≡ false → old_p.task ≡ old.target.task → (h : TakesAndGives old piece gives c)
-    → TakesDataPiece piece old_p (laid old_p (with_unheard up c) (given_by gives))
-taken_so piece up p old_p old c gives there plain task h =
+taken_so : (piece up : List ℕ) (old_p : Endpoint) (old c : ClientState) (step : JobStep) → old_p.client ≡ with_unheard up old → old_p.task ≡ old.target.task → (h : TakesAndGives old piece step c)
+    → TakesDataPiece piece old_p (with_last_page (filed step.turned old_p (with_unheard up c) (given_by step.gives)))
+taken_so piece up old_p old c step there task h =
     let receives : is_receiving old_p.client.outcome old_p.client.progress ≡ true = ap (λ (z : ClientState). is_receiving z.outcome z.progress) there ∙ h.takes.receiving in
     let runs = (receiving_at old_p.client.outcome old_p.client.progress receives).runs in
     record {
@@ -206,42 +205,50 @@ taken_so piece up p old_p old c gives there plain task h =
       idle = λ e. never_both (is_receiving old_p.client.outcome old_p.client.progress) receives e;
       receives = λ _ past serves. subst (λ (z : ClientState). Receives z past piece (with_unheard up h.taken)) (sym there)
           (records_alike up old past piece h.taken (h.takes.receives past ((histories_alike up past old).1 (subst (ClientRepresents past) there serves))));
-      after = laid old_p (with_unheard up c) (given_by gives);
-      drains = λ _. drains_to (scans old.target.task) old_p up h.taken c gives plain (ap scans task) h.gives_out;
-      finishes = λ _. not_last (laid old_p (with_unheard up c) (given_by gives)) plain;
+      after = filed step.turned old_p (with_unheard up c) (given_by step.gives);
+      drains = λ _. drains_to (scans old.target.task) step.turned old_p up h.taken c step.gives (ap scans task) h.gives_out;
+      finishes = λ _. refl;
     }
 
-takes_alike : (w : Core) (flying : List ℕ) (k : ℕ) (own : Passed) (x : Traffics) (old c : ClientState) (p : Endpoint) (piece rest : List ℕ) (gives : List JobMove) → (l : IsLinked own flying x k old p) → l.pending ≡ false → x.failed ≡ false → own.dropped ≡ false
-    → p.client ≡ with_unheard l.out.up old → p.task ≡ old.target.task → HasPiece piece rest p.image → TakesAndGives old piece gives c → TakesThere w flying k own (record x { taken = x.taken ++ piece; given = x.given ++ given_by gives }) c p (length piece)
-takes_alike w flying k own x old c p piece rest gives l off ok standing there task has h =
+takes_alike : (w : Core) (flying : List ℕ) (k : ℕ) (own : Passed) (x : Traffics) (old c : ClientState) (p : Endpoint) (piece rest : List ℕ) (step : JobStep) → Holds p → (l : IsLinked own flying x k old p) → l.pending ≡ false → x.failed ≡ false → own.dropped ≡ false
+    → p.client ≡ with_unheard l.out.up old → p.task ≡ old.target.task → HasPiece piece rest p.image → TakesAndGives old piece step c → TakesThere w flying k own (with_given step (record x { taken = x.taken ++ piece })) c p (length piece)
+takes_alike w flying k own x old c p piece rest step holds l off ok standing there task has h =
     let n = length piece in
     let up = l.out.up in
     let image = has.x in
     let left : Image = record image { bytes = bytes_not_delivered n image.bytes } in
     let mid : Endpoint = with_image left (after_move p) in
-    let r : Endpoint = laid mid (with_unheard up c) (given_by gives) in
+    let r : Endpoint = with_last_page (filed step.turned mid (with_unheard up c) (given_by step.gives)) in
+    let filed_there : Endpoint = filed step.turned mid (with_unheard up c) (given_by step.gives) in
+    let first = filed_as step.turned mid (with_unheard up c) (given_by step.gives) in
+    let went = last_as (with_unheard up c) mid filed_there first in
+    let runs : is_running p.client.outcome ≡ true = ap (λ (z : ClientState). is_running z.outcome) there ∙ (receiving_at old.outcome old.progress h.takes.receiving).runs in
+    let room : step.turned ≡ true → p.finished < 16 = λ on. holds.room (ap is_batch task ∙ h.batch on) in
+    let had = running_files x.turned x.given p mid (record { file = refl; pages = refl; finished = refl; task = refl; over = λ over. over }) runs l.files in
+    let low : is_done filed_there.client.outcome ≡ true → is_batch filed_there.task ≡ true → filed_there.finished < 16 = λ done batch.
+    low_by step.turned mid (with_unheard up c) (given_by step.gives) (never_turned (scans old.target.task) step.turned h.taken step.gives c h.gives_out (sym (ap (λ (z : ClientState). is_done z.outcome) first.client) ∙ done)) (holds.room (sym (ap is_batch first.task) ∙ batch)) in
     let q : Endpoint = without_ended_image r in
     let just = delivers piece rest image.bytes h.is_piece.1 has.bytes in
     let kept : bytes_not_delivered n image.bytes ≡ rest = keeps_rest piece rest image.bytes h.is_piece.1 has.bytes in
-    let still : q.image ≡ still_open (Some (record image { bytes = rest })) = ap (λ (z : List ℕ). still_open (Some (record image { bytes = z }))) kept in
+    let still : q.image ≡ still_open (Some (record image { bytes = rest })) = ap still_open went.image ∙ ap (λ (z : List ℕ). still_open (Some (record image { bytes = z }))) kept in
     record {
       q = q;
       can = (subst (λ (z : Option Image). HasImage z (λ bytes. bytes ≢ [])) (sym has.at) (some_wait piece rest image.bytes h.is_piece.0 has.bytes), some_bytes piece h.is_piece.0);
-      does = (refl, (image, has.at, (r, subst (λ (z : List ℕ). TakesDataPiece z mid r) (sym just) (taken_so piece up p mid old c gives there l.plain task h), refl)));
+      does = (refl, (image, has.at, (r, subst (λ (z : List ℕ). TakesDataPiece z mid r) (sym just) (taken_so piece up mid old c step there task h), refl)));
       tracks = record {
         id = l.id;
-        link = l.link;
+        link = went.link ∙ l.link;
         number = l.number;
         is_open = l.is_open;
         pending = false;
         made = l.made ∙ ap (λ (b : Bool). own.accepted + cond b 1 0) off;
-        follows = Alike refl refl;
-        out = out_again x.failed x.sent own.heard p.client.out old.out c l.out;
+        follows = Alike refl (went.client ∙ ap (λ (v : ClientState). with_out v.out c) (sym went.client));
+        out = subst (λ (v : ClientState). OutTracks x.failed x.sent own.heard v.out c.out) (sym went.client) (out_again x.failed x.sent own.heard p.client.out old.out c l.out);
         said = l.said;
         image = subst (λ (z : Option Image). ImageTracks false own (x.taken ++ piece) z) (sym still)
             (image_taken own x.taken piece rest p.image image (subst (λ (b : Bool). ImageTracks b own x.taken p.image) off l.image) has.at has.bytes standing);
-        plain = l.plain;
-        file = ap (more_of (given_by gives)) l.file;
+        files = files_kept (with_given step (record x { taken = x.taken ++ piece })).turned (with_given step (record x { taken = x.taken ++ piece })).given r q (record { file = refl; pages = refl; finished = refl; task = refl; over = λ over. over })
+            (last_files (with_given step (record x { taken = x.taken ++ piece })).turned (with_given step (record x { taken = x.taken ++ piece })).given filed_there low (files_filed step.turned x.turned x.given (given_by step.gives) mid (with_unheard up c) room had));
       };
     }
 
@@ -249,9 +256,9 @@ none_pending : (accepted made : ℕ) (b : Bool) → made ≡ accepted + cond b 1
 none_pending accepted made true e same = absurd (let one : made ≡ accepted + 1 = e in omega (arith, one, same))
 none_pending accepted made false e same = refl
 
-pub takes : (w : Core) (flying : List ℕ) (k : ℕ) (own : Passed) (x : Traffics) (old c : ClientState) (p : Endpoint) (piece : List ℕ) (gives : List JobMove) → Holds p → IsLinked own flying x k old p → x.failed ≡ false → own.dropped ≡ false → own.accepted ≡ x.made → IsFront (x.taken ++ piece) own.shown
-    → TakesAndGives old piece gives c → TakesThere w flying k own (record x { taken = x.taken ++ piece; given = x.given ++ given_by gives }) c p (length piece)
-takes w flying k own x old c p piece gives holds l ok standing same_count front h = by l.follows
+pub takes : (w : Core) (flying : List ℕ) (k : ℕ) (own : Passed) (x : Traffics) (old c : ClientState) (p : Endpoint) (piece : List ℕ) (step : JobStep) → FilesRepresent p → IsLinked own flying x k old p → x.failed ≡ false → own.dropped ≡ false → own.accepted ≡ x.made → IsFront (x.taken ++ piece) own.shown
+    → TakesAndGives old piece step c → TakesThere w flying k own (with_given step (record x { taken = x.taken ++ piece })) c p (length piece)
+takes w flying k own x old c p piece step files l ok standing same_count front h = by l.follows
   where
     off : l.pending ≡ false
     off = none_pending own.accepted x.made l.pending l.made same_count
@@ -259,9 +266,10 @@ takes w flying k own x old c p piece gives holds l ok standing same_count front 
     f : IsFront piece (image_bytes p.image)
     f = left_of x.taken own.shown piece (image_bytes p.image) (l.image.way off standing) front
 
-    by : Follows l.pending own.dropped old p.client → TakesThere w flying k own (record x { taken = x.taken ++ piece; given = x.given ++ given_by gives }) c p (length piece)
+    by : Follows l.pending own.dropped old p.client → TakesThere w flying k own (with_given step (record x { taken = x.taken ++ piece })) c p (length piece)
     by (Alike none same) =
-        takes_alike w flying k own x old c p piece f.0 gives l off ok standing (alike_as old p.client x.failed x.sent own.heard ok l.out same) (holds.holds.task ∙ ap (λ (z : ClientState). z.target.task) same)
+        let holds = holds_some p files (ap (λ (z : ClientState). is_running z.outcome) same ∙ (receiving_at old.outcome old.progress h.takes.receiving).runs) in
+        takes_alike w flying k own x old c p piece f.0 step holds l off ok standing (alike_as old p.client x.failed x.sent own.heard ok l.out same) (holds.holds.task ∙ ap (λ (z : ClientState). z.target.task) same)
         (has_piece piece f.0 p.image h.is_piece.0 f.1) h
     by (Dialled on wants runs same) = never_both l.pending on off
     by (Lost runs over wants) = not_over old.outcome over (receiving_at old.outcome old.progress h.takes.receiving).runs

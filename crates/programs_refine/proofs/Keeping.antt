@@ -1,6 +1,9 @@
 -- The promise of a world, of the programs.
-use Rattle.std.specs.Prelude.{IsSome, min}
-use Rattle.std.proofs.Common.{◌≡◌, ◌∙◌, inl, inr, ℕ, true, false, Option, Some, None, option_map, option_and_then, List, [], ◌∷◌, slice_get, refl, sym, ap, subst}
+use Rattle.std.specs.Prelude.{◌<◌, ◌≤◌, ◌+◌, ◌-◌, ◌==◌, ◌||◌, nat_lt, if◌then◌else◌, slice_index_or, IsSome, min}
+use Rattle.std.proofs.Common.{◌≡◌, ◌∙◌, inl, inr, ℕ, zero, suc, Bool, true, false, Option, Some, None, option_map, option_and_then, List, [], ◌∷◌, length, slice_get, refl, sym, ap, subst, arith}
+use Rattle.std.proofs.Math.Nat.{min-eq_left}
+use Rattle.std.proofs.lemmas.Bool.Decides.{nat_tests}
+use Rattle.std.proofs.lemmas.Option.{get_or_from_slice_get, slice_get_within}
 use Rattle.page_picture.specs.SourceView.{source_state}
 use Rattle.device_api.specs.State.{DeviceState, HeldPage}
 use Rattle.sane_fixed.specs.declared.device_info.DeviceInfo.{DeviceInfo}
@@ -32,10 +35,11 @@ use Rattle.world_refines.proofs.frames.TurnEvents.{Started, started_by}
 use Rattle.world_contract.specs.Calls.{AnswersAre, MovesNext, finished_by, is_starved, moves_answered}
 use Rattle.world_contract.specs.Histories.{History, LedTo}
 use Rattle.world_contract.specs.Laws.{AllIsRight}
-use Rattle.world_contract.specs.Promise.{FileIsKept, JobAnswers, OutcomeIsKept}
+use Rattle.world_contract.specs.Promise.{CountIsKept, FileIsKept, JobAnswers, OutcomeIsKept, PageIsKept}
 use Rattle.programs_refine.specs.Keeping.{history_of, AllLoopsAreKept, AreFit, LoopIsKept, ProgramsKeepAll, WorldsHearInTurn, WorldsWantBeforeItFlows}
-use Rattle.programs_refine.specs.Programs.{Acts, ComeToAWorld, EndsAlike, IsWorldOf}
+use Rattle.programs_refine.specs.Programs.{Acts, ComeToAWorld, EndsAlike, HasFilesOf, IsWorldOf}
 use Rattle.programs_refine.specs.WorldHistory.{LeadsBy, AreOfConnections, WantsBeforeItFlows}
+use Rattle.programs_refine.proofs.Lists.{there}
 use Rattle.programs_refine.proofs.Outgoing.{never_both}
 use Rattle.programs_refine.proofs.Programs.{programs_are}
 
@@ -125,6 +129,35 @@ answers_are w i p at over = record {
     none : IsNextMove w.daemon i p None
     none = record { job_event = None; event_is = refl; runs = λ on. never_both (is_running p.client.outcome) on over; over = λ off. refl }
 
+-- a finished page is one of sixteen
+within_room : (texts : List (List ℕ)) (text : List ℕ) (p : Endpoint) (n : ℕ) (bytes : List ℕ) → HasFilesOf texts text p → slice_get texts n ≡ Some bytes → n < 16
+within_room texts text p n bytes h at = let low = slice_get_within p.pages n (Some bytes) (h.each n bytes at) in omega (arith, low, h.room)
+
+last_within : (texts : List (List ℕ)) (text : List ℕ) (p : Endpoint) (n : ℕ) → HasFilesOf texts text p → length texts ≡ n → n ≤ 16
+last_within texts text p zero h e = omega arith
+last_within texts text p (suc n) h e = let x = there texts n (omega (arith, e)) in let low = within_room texts text p n x.0 h x.1 in omega (arith, low)
+
+few_finished : (p : Endpoint) (texts : List (List ℕ)) (text : List ℕ) → HasFilesOf texts text p → min p.finished 16 ≡ length texts
+few_finished p texts text h = let few = last_within texts text p (length texts) h refl in min-eq_left (omega (arith, h.count, few)) ∙ h.count
+
+-- what a world answers of a page is what went out of it
+finished_at : (p : Endpoint) (n : ℕ) (bytes : List ℕ) (a b c : Bool) → (n + 1 == 0) ≡ a → nat_lt p.finished (n + 1) ≡ b → nat_lt 16 (n + 1) ≡ c → a ≡ false → b ≡ false → c ≡ false → slice_get p.pages n ≡ Some (Some bytes) → finished_page p (n + 1) ≡ Some bytes
+finished_at p n bytes a b c d e f is_none is_low is_few at =
+    ap (λ (x : Bool). if (x || nat_lt p.finished (n + 1)) || nat_lt 16 (n + 1) then None else slice_index_or p.pages ((n + 1) - 1) None) (d ∙ is_none)
+    ∙ ap (λ (x : Bool). if x || nat_lt 16 (n + 1) then None else slice_index_or p.pages ((n + 1) - 1) None) (e ∙ is_low)
+    ∙ ap (λ (x : Bool). if x then None else slice_index_or p.pages ((n + 1) - 1) None) (f ∙ is_few)
+    ∙ ap (λ (k : ℕ). slice_index_or p.pages k None) (omega arith) ∙ get_or_from_slice_get p.pages n (Some bytes) None at
+
+page_kept : (h : History) (job : Job) (p : Endpoint) (texts : List (List ℕ)) (text : List ℕ) (n : ℕ) (bytes : List ℕ) → HasFilesOf texts text p → slice_get texts n ≡ Some bytes → PageIsKept h job p.out_of_memory (min p.finished 16) (n + 1) (finished_page p (n + 1))
+    → PageIsKept h job p.out_of_memory (length texts) (n + 1) (Some bytes)
+page_kept h job p texts text n bytes files at k =
+    let low = slice_get_within texts n bytes at in
+    let few = within_room texts text p n bytes files at in
+    let count = files.count in
+    subst (λ (f : Option (List ℕ)). PageIsKept h job p.out_of_memory (length texts) (n + 1) f)
+    (finished_at p n bytes (n + 1 == 0) (nat_lt p.finished (n + 1)) (nat_lt 16 (n + 1)) refl refl refl (grind (arith, nat_tests)) (grind (arith, nat_tests, low, count)) (grind (arith, nat_tests, few)) (files.each n bytes at))
+    (subst (λ (m : ℕ). PageIsKept h job p.out_of_memory m (n + 1) (finished_page p (n + 1))) (few_finished p texts text files) k)
+
 kept_by : (right : AllIsRight) (h : History) (v : WorldCore) (acts : Acts) (i : ℕ) (job : Job) (last : ClientState) → LedTo h v → slice_get h.jobs i ≡ Some job → is_running last.outcome ≡ false → EndsAlike v i acts last → LoopIsKept h v i job acts last
 kept_by right h v acts i job last led at over x =
     let p = x.endpoint in
@@ -132,7 +165,9 @@ kept_by right h v acts i job last led at over x =
     record {
       ends = x;
       outcome = subst (OutcomeIsKept h i job p.out_of_memory) x.outcome k.outcome;
-      file = subst (λ (f : Option (List ℕ)). FileIsKept h job p.out_of_memory last.outcome f) x.file (subst (λ (o : Outcome). FileIsKept h job p.out_of_memory o p.file) x.outcome k.file);
+      file = subst (λ (f : Option (List ℕ)). FileIsKept h job p.out_of_memory last.outcome f) x.files.file (subst (λ (o : Outcome). FileIsKept h job p.out_of_memory o p.file) x.outcome k.file);
+      pages = λ n bytes at. page_kept h job p x.finished x.text n bytes x.files at (k.pages (n + 1));
+      count = subst (λ (f : ℕ). CountIsKept job last.outcome f) (few_finished p x.finished x.text x.files) (subst (λ (o : Outcome). CountIsKept job o (min p.finished 16)) x.outcome k.count);
     }
 
 led_by : (devices : List DeviceState) (jobs : List Job) (d : Core) (first v : WorldCore) (events : List Event) → AreFit devices jobs d → IsWorldOf d jobs first → LeadsBy source_state first events v → LedTo (history_of devices jobs d events) v

@@ -157,6 +157,13 @@ abbrev pub traffics_of : List JobStep → Traffics
 traffics_of steps =
     record { sent = bytes_sent traffic_of steps; heard = bytes_heard traffic_of steps; taken = bytes_taken traffic_of steps; made = connections_made traffic_of steps; failed = has_failed steps; turned = files_by_steps steps; given = given_by_steps steps }
 
+-- the files of a job, behind what goes out of them by a step
+abbrev pub with_given : JobStep → Traffics → Traffics
+with_given step x = record x {
+  turned = if step.turned then x.turned ++ (x.given ++ given_by step.gives) ∷ [] else x.turned;
+  given = if step.turned then [] else x.given ++ given_by step.gives;
+}
+
 abbrev pub traffics_after : JobStep → Traffics → Traffics
 traffics_after step x = record {
   sent = sent_with (traffic_of step) x.sent;

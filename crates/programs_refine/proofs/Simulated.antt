@@ -117,7 +117,7 @@ by_job : (source : Source → SourceState) (owner : Owner) (jobs : List Job) (fi
 unfolding server_journal HandsOn
 by_job source owner jobs first new i job step past d c setting files none at l s t =
     let was = client_before i s.mid c in
-    steps_on source (start_world jobs new first) owner jobs (passed_of (server_journal past)) (λ j. traffics_of (job_journal j past)) (λ j. traffics_of (job_journal j (OfJob i step ∷ past))) d was c t i job step.move step.gives setting.one setting.hears (λ k own. not_starved owner i k (server_journal past) own l.timely.1)
+    steps_on source (start_world jobs new first) owner jobs (passed_of (server_journal past)) (λ j. traffics_of (job_journal j past)) (λ j. traffics_of (job_journal j (OfJob i step ∷ past))) d was c t i job step.move step.gives step.turned setting.one setting.hears (λ k own. not_starved owner i k (server_journal past) own l.timely.1)
     (stands_run source t.events (start_world jobs new first) t.w t.leads.runs files) at (one_steps i step past s.mid c)
     (λ k own low. stands (server_journal past) new d k none l.runs low (not_left owner i k (server_journal past) own l.timely.1)) s.whole (may_step owner i past (traffic_of step) l.hands.1) (stands_step owner i (server_journal past) (traffic_of step) l.lost.1)
     (subst (λ (z : ClientState). StepLeads z step (c i)) (sym (before_own i s.mid c)) s.leads)

@@ -7,10 +7,7 @@ use Rattle.std.proofs.lemmas.Bool.Decides.{nat_tests}
 use Rattle.page_picture.specs.Source.{SourceState}
 use Rattle.page_picture.specs.declared.sources.kinds.Source.{Source}
 use Rattle.scan_job.specs.declared.job.Job.{Job}
-use Rattle.scan_job.specs.declared.job.Task.{Task}
-use Rattle.scan_job.specs.declared.job.Task.TheVariants as tasks
 use Rattle.scan_job.specs.JobSize.{HasCount}
-use Rattle.client_replies.specs.ProtocolStates.{is_batch}
 use Rattle.net_client.specs.ClientStates.{ClientState, IsNewClient}
 use Rattle.saned_core.specs.declared.session_slot.Fed.{Fed}
 use Rattle.saned_core.specs.declared.session_slot.Fed.TheVariants as feds
@@ -89,15 +86,8 @@ endpoint_at [] first i job at = absurd (let wrong : None ≡ Some job = at in cc
 endpoint_at (other ∷ jobs) first zero job at = ap (λ (j : Job). Some (endpoint_of j (first 0))) (let same : other ≡ job = cc in same)
 endpoint_at (other ∷ jobs) first (suc i) job at = endpoint_at jobs (λ k. first (suc k)) i job at
 
-has_count : (task : Task) → is_batch task ≡ false → HasCount task
-has_count tasks.List plain = tt
-has_count tasks.Show plain = tt
-has_count tasks.SetOnly plain = tt
-has_count tasks.Scan plain = tt
-has_count (tasks.Batch count) plain = absurd (let wrong : true ≡ false = plain in cc)
-
-pub new_files : (jobs : List Job) (first : ℕ → ClientState) → ((i : ℕ) (job : Job) → slice_get jobs i ≡ Some job → is_batch job.task ≡ false) → AreNew jobs (endpoints_of jobs first) → AllFilesRepresent (endpoints_of jobs first)
-new_files jobs first plain new = λ k p at. new_posts jobs (endpoints_of jobs first) k p (λ j job there. has_count job.task (plain j job there)) new at
+pub new_files : (jobs : List Job) (first : ℕ → ClientState) → ((i : ℕ) (job : Job) → slice_get jobs i ≡ Some job → HasCount job.task) → AreNew jobs (endpoints_of jobs first) → AllFilesRepresent (endpoints_of jobs first)
+new_files jobs first counts new = λ k p at. new_posts jobs (endpoints_of jobs first) k p counts new at
 
 pub begun : (source : Source → SourceState) (owner : Owner) (jobs : List Job) (d : Core) (first c : ℕ → ClientState) → HasOpenedNone d → ((i : ℕ) (job : Job) → slice_get jobs i ≡ Some job → IsNewClient job (first i)) → ((i : ℕ) (job : Job) → slice_get jobs i ≡ Some job → c i ≡ first i)
     → Tracks source (record { daemon = d; endpoints = endpoints_of jobs first }) owner jobs (passed_of []) (λ i. traffics_of []) d c

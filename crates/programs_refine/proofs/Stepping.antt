@@ -26,7 +26,6 @@ use Rattle.world_refines.proofs.state.ListEntries.{nil_both}
 use Rattle.programs_refine.specs.WorldHistory.{AlwaysHearsInTurn}
 use Rattle.programs_refine.specs.StepTraffic.{traffic_of}
 use Rattle.programs_refine.proofs.Delivered.{hears, takes}
-use Rattle.programs_refine.proofs.Giving.{holds_some}
 use Rattle.programs_refine.proofs.Lists.{front_of_none}
 use Rattle.programs_refine.proofs.Outgoing.{dialled_receives, never_both, not_over}
 use Rattle.programs_refine.proofs.Passed.{Passed, Traffics, traffics_after}
@@ -69,11 +68,11 @@ quietly source first owner jobs passed done done_new d c c_new t i job step at o
     (λ other there. subst (λ (x : Job). JobTracks owner d.opened t.flying passed (done_new i) i x (c_new i) e.0) (let same : Some job ≡ Some other = sym at ∙ there in cc)
     (subst (λ (x : Traffics). JobTracks owner d.opened t.flying passed x i job (c_new i) e.0) (sym one.own) (leads e.0 e.2)))
 
-by_quiet_move : (source : Source → SourceState) (first : WorldCore) (owner : Owner) (jobs : List Job) (passed : ℕ → Passed) (done done_new : ℕ → Traffics) (d : Core) (c c_new : ℕ → ClientState) (t : Behind source first owner jobs passed done d c) (i : ℕ) (job : Job) (move : JobMove) (gives : List JobMove) → slice_get jobs i ≡ Some job
-    → OneSteps done done_new c c_new i (record { move = move; gives = gives }) → IsQuiet move → IsTimely owner d.opened passed i → (done i).failed ≡ false → gives ≡ [] → MoveLeads (c i) move (c_new i) → Behind source first owner jobs passed done_new d c_new
-by_quiet_move source first owner jobs passed done done_new d c c_new t i job move gives at one is timely ok none m =
-    quietly source first owner jobs passed done done_new d c c_new t i job (record { move = move; gives = gives }) at one
-    (λ p tracks. subst (λ (x : Traffics). JobTracks owner d.opened t.flying passed x i job (c_new i) p) (sym (gave_none move gives (done i) none))
+by_quiet_move : (source : Source → SourceState) (first : WorldCore) (owner : Owner) (jobs : List Job) (passed : ℕ → Passed) (done done_new : ℕ → Traffics) (d : Core) (c c_new : ℕ → ClientState) (t : Behind source first owner jobs passed done d c) (i : ℕ) (job : Job) (move : JobMove) (gives : List JobMove) (turned : Bool) → slice_get jobs i ≡ Some job
+    → OneSteps done done_new c c_new i (record { move = move; gives = gives; turned = turned }) → IsQuiet move → IsTimely owner d.opened passed i → (done i).failed ≡ false → gives ≡ [] → turned ≡ false → MoveLeads (c i) move (c_new i) → Behind source first owner jobs passed done_new d c_new
+by_quiet_move source first owner jobs passed done done_new d c c_new t i job move gives turned at one is timely ok none still m =
+    quietly source first owner jobs passed done done_new d c c_new t i job (record { move = move; gives = gives; turned = turned }) at one
+    (λ p tracks. subst (λ (x : Traffics). JobTracks owner d.opened t.flying passed x i job (c_new i) p) (sym (gave_none move gives turned (done i) none still))
     (quiet_move owner d.opened t.flying passed i job (done i) (c i) (c_new i) p move is timely ok m tracks))
 
 -- a job that no session was opened for hears nothing
@@ -93,9 +92,9 @@ nothing_taken owner opened passed x i job c p piece u k own front =
 
 -- ---- a piece of the control connection
 
-hears_step : (source : Source → SourceState) (first : WorldCore) (owner : Owner) (jobs : List Job) (passed : ℕ → Passed) (done done_new : ℕ → Traffics) (d : Core) (c c_new : ℕ → ClientState) (t : Behind source first owner jobs passed done d c) (i : ℕ) (job : Job) (piece : List ℕ) (gives : List JobMove) → HaveOneSession owner → HasMemoryFor owner passed i → AllFilesRepresent t.w.endpoints
-    → slice_get jobs i ≡ Some job → OneSteps done done_new c c_new i (record { move = Hears piece; gives = gives }) → IsTimely owner d.opened passed i → (done i).failed ≡ false → MayStep owner passed (done i) i (ReadsBytes piece) → HearsAndGives (c i) piece gives (c_new i) → Behind source first owner jobs passed done_new d c_new
-hears_step source first owner jobs passed done done_new d c c_new t i job piece gives only memory files at one timely ok may h =
+hears_step : (source : Source → SourceState) (first : WorldCore) (owner : Owner) (jobs : List Job) (passed : ℕ → Passed) (done done_new : ℕ → Traffics) (d : Core) (c c_new : ℕ → ClientState) (t : Behind source first owner jobs passed done d c) (i : ℕ) (job : Job) (piece : List ℕ) (gives : List JobMove) (turned : Bool) → HaveOneSession owner → HasMemoryFor owner passed i → AllFilesRepresent t.w.endpoints
+    → slice_get jobs i ≡ Some job → OneSteps done done_new c c_new i (record { move = Hears piece; gives = gives; turned = turned }) → IsTimely owner d.opened passed i → (done i).failed ≡ false → MayStep owner passed (done i) i (ReadsBytes piece) → HearsAndGives (c i) piece (record { move = Hears piece; gives = gives; turned = turned }) (c_new i) → Behind source first owner jobs passed done_new d c_new
+hears_step source first owner jobs passed done done_new d c c_new t i job piece gives turned only memory files at one timely ok may h =
     let e = t.each i job at in by e.0 e.1 e.2
   where
     same_job : (other : Job) → slice_get jobs i ≡ Some other → job ≡ other
@@ -103,7 +102,7 @@ hears_step source first owner jobs passed done done_new d c c_new t i job piece 
 
     linked : (p : Endpoint) → slice_get t.w.endpoints i ≡ Some p → (k : ℕ) → owner k ≡ Some i → k < d.opened → IsFront ((done i).heard ++ piece) (passed k).said → IsLinked (passed k) (t.flying k) (done i) k (c i) p → Behind source first owner jobs passed done_new d c_new
     linked p there k own low front l =
-        let x = hears t.w.daemon t.flying d k (passed k) (done i) (c i) (c_new i) p piece gives t.differs (holds_some p (files i p there) l.plain) l ok (memory k own) front h in
+        let x = hears t.w.daemon t.flying d k (passed k) (done i) (c i) (c_new i) p piece (record { move = Hears piece; gives = gives; turned = turned }) t.differs (files i p there) l ok (memory k own) front h in
         let m = comes source t.events first t.w i p x.q (events.ToClient (length piece)) x.e t.leads there tt x.can x.does in
         let flying = undelivered_with k x.left t.flying in
         goes_on source first owner jobs passed passed done done_new d d c c_new t i x.q x.e m flying x.differs (λ n some. t.slots n (x.is_slot n some)) t.owned
@@ -111,7 +110,7 @@ hears_step source first owner jobs passed done done_new d c c_new t i job piece 
         (λ j off n theirs. (λ high. high, refl, other_flying k n x.left t.flying (λ same. off (let both : Some j ≡ Some i = sym theirs ∙ ap owner same ∙ own in cc)))) one.others
         (λ other here. subst (λ (y : Job). JobTracks owner d.opened flying passed (done_new i) i y (c_new i) x.q) (same_job other here)
         (subst (λ (y : Traffics). JobTracks owner d.opened flying passed y i job (c_new i) x.q) (sym one.own)
-        (Linked k own low (subst (λ (z : List ℕ). IsLinked (passed k) z (traffics_after (record { move = Hears piece; gives = gives }) (done i)) k (c_new i) x.q) (sym (own_flying k k x.left t.flying refl)) x.tracks))))
+        (Linked k own low (subst (λ (z : List ℕ). IsLinked (passed k) z (traffics_after (record { move = Hears piece; gives = gives; turned = turned }) (done i)) k (c_new i) x.q) (sym (own_flying k k x.left t.flying refl)) x.tracks))))
 
     by : (p : Endpoint) → slice_get t.w.endpoints i ≡ Some p → JobTracks owner d.opened t.flying passed (done i) i job (c i) p → Behind source first owner jobs passed done_new d c_new
     by p there (Unlinked u) = absurd (h.is_piece.0 (nothing_heard owner d.opened passed (done i) i job (c i) p piece u may.0 may.1 may.2))
@@ -120,10 +119,10 @@ hears_step source first owner jobs passed done done_new d c c_new t i job piece 
 
 -- ---- a piece of the data connection
 
-takes_step : (source : Source → SourceState) (first : WorldCore) (owner : Owner) (jobs : List Job) (passed : ℕ → Passed) (done done_new : ℕ → Traffics) (d : Core) (c c_new : ℕ → ClientState) (t : Behind source first owner jobs passed done d c) (i : ℕ) (job : Job) (piece : List ℕ) (gives : List JobMove) → HaveOneSession owner → AllFilesRepresent t.w.endpoints
-    → slice_get jobs i ≡ Some job → OneSteps done done_new c c_new i (record { move = Takes piece; gives = gives }) → IsTimely owner d.opened passed i → (done i).failed ≡ false → MayStep owner passed (done i) i (TakesBytes piece) → Standing owner passed i (TakesBytes piece) → TakesAndGives (c i) piece gives (c_new i)
+takes_step : (source : Source → SourceState) (first : WorldCore) (owner : Owner) (jobs : List Job) (passed : ℕ → Passed) (done done_new : ℕ → Traffics) (d : Core) (c c_new : ℕ → ClientState) (t : Behind source first owner jobs passed done d c) (i : ℕ) (job : Job) (piece : List ℕ) (gives : List JobMove) (turned : Bool) → HaveOneSession owner → AllFilesRepresent t.w.endpoints
+    → slice_get jobs i ≡ Some job → OneSteps done done_new c c_new i (record { move = Takes piece; gives = gives; turned = turned }) → IsTimely owner d.opened passed i → (done i).failed ≡ false → MayStep owner passed (done i) i (TakesBytes piece) → Standing owner passed i (TakesBytes piece) → TakesAndGives (c i) piece (record { move = Takes piece; gives = gives; turned = turned }) (c_new i)
     → Behind source first owner jobs passed done_new d c_new
-takes_step source first owner jobs passed done done_new d c c_new t i job piece gives only files at one timely ok may stands h =
+takes_step source first owner jobs passed done done_new d c c_new t i job piece gives turned only files at one timely ok may stands h =
     let e = t.each i job at in by e.0 e.1 e.2
   where
     same_job : (other : Job) → slice_get jobs i ≡ Some other → job ≡ other
@@ -131,7 +130,7 @@ takes_step source first owner jobs passed done done_new d c c_new t i job piece 
 
     linked : (p : Endpoint) → slice_get t.w.endpoints i ≡ Some p → (k : ℕ) → owner k ≡ Some i → k < d.opened → (passed k).accepted ≡ (done i).made → IsFront ((done i).taken ++ piece) (passed k).shown → IsLinked (passed k) (t.flying k) (done i) k (c i) p → Behind source first owner jobs passed done_new d c_new
     linked p there k own low count front l =
-        let x = takes t.w.daemon (t.flying k) k (passed k) (done i) (c i) (c_new i) p piece gives (holds_some p (files i p there) l.plain) l ok (stands k own) count front h in
+        let x = takes t.w.daemon (t.flying k) k (passed k) (done i) (c i) (c_new i) p piece (record { move = Takes piece; gives = gives; turned = turned }) (files i p there) l ok (stands k own) count front h in
         let m = comes source t.events first t.w i p x.q (events.DataToClient (length piece)) t.w.daemon t.leads there tt x.can x.does in
         goes_on source first owner jobs passed passed done done_new d d c c_new t i x.q t.w.daemon m t.flying t.differs t.slots t.owned t.calm (omega arith)
         (λ j off n theirs. (λ high. high, refl, refl)) one.others
@@ -183,15 +182,15 @@ never_early source first owner jobs passed done d c t i job hears at timely ok e
 
 -- ---- every step
 
-pub steps_on : (source : Source → SourceState) (first : WorldCore) (owner : Owner) (jobs : List Job) (passed : ℕ → Passed) (done done_new : ℕ → Traffics) (d : Core) (c c_new : ℕ → ClientState) (t : Behind source first owner jobs passed done d c) (i : ℕ) (job : Job) (move : JobMove) (gives : List JobMove) → HaveOneSession owner → AlwaysHearsInTurn source first → HasMemoryFor owner passed i → AllFilesRepresent t.w.endpoints
-    → slice_get jobs i ≡ Some job → OneSteps done done_new c c_new i (record { move = move; gives = gives }) → IsTimely owner d.opened passed i → (done i).failed ≡ false → MayStep owner passed (done i) i (traffic_of (record { move = move; gives = gives })) → Standing owner passed i (traffic_of (record { move = move; gives = gives }))
-    → StepLeads (c i) (record { move = move; gives = gives }) (c_new i) → Behind source first owner jobs passed done_new d c_new
-steps_on source first owner jobs passed done done_new d c c_new t i job (Writes bytes) gives only hears memory files at one timely ok may stands s = by_quiet_move source first owner jobs passed done done_new d c c_new t i job (Writes bytes) gives at one tt timely ok s.0 s.1
-steps_on source first owner jobs passed done done_new d c c_new t i job (Fails bytes) gives only hears memory files at one timely ok may stands s = by_quiet_move source first owner jobs passed done done_new d c c_new t i job (Fails bytes) gives at one tt timely ok s.0 s.1
-steps_on source first owner jobs passed done done_new d c c_new t i job (Dials port true) gives only hears memory files at one timely ok may stands s = by_quiet_move source first owner jobs passed done done_new d c c_new t i job (Dials port true) gives at one tt timely ok s.0 s.1
-steps_on source first owner jobs passed done done_new d c c_new t i job (Dials port false) gives only hears memory files at one timely ok may stands s = by_quiet_move source first owner jobs passed done done_new d c c_new t i job (Dials port false) gives at one tt timely ok s.0 s.1
-steps_on source first owner jobs passed done done_new d c c_new t i job (Loses link reason) gives only hears memory files at one timely ok may stands s = by_quiet_move source first owner jobs passed done done_new d c c_new t i job (Loses link reason) gives at one tt timely ok s.0 s.1
-steps_on source first owner jobs passed done done_new d c c_new t i job (Hears piece) gives only hears memory files at one timely ok may stands s = hears_step source first owner jobs passed done done_new d c c_new t i job piece gives only memory files at one timely ok may s
-steps_on source first owner jobs passed done done_new d c c_new t i job (Takes piece) gives only hears memory files at one timely ok may stands s = takes_step source first owner jobs passed done done_new d c c_new t i job piece gives only files at one timely ok may stands s
-steps_on source first owner jobs passed done done_new d c c_new t i job (Gives bytes) gives only hears memory files at one timely ok may stands s = absurd s
-steps_on source first owner jobs passed done done_new d c c_new t i job Resumes gives only hears memory files at one timely ok may stands s = absurd (never_early source first owner jobs passed done d c t i job hears at timely ok (s.early, s.hears.running, s.hears.quiet))
+pub steps_on : (source : Source → SourceState) (first : WorldCore) (owner : Owner) (jobs : List Job) (passed : ℕ → Passed) (done done_new : ℕ → Traffics) (d : Core) (c c_new : ℕ → ClientState) (t : Behind source first owner jobs passed done d c) (i : ℕ) (job : Job) (move : JobMove) (gives : List JobMove) (turned : Bool) → HaveOneSession owner → AlwaysHearsInTurn source first → HasMemoryFor owner passed i → AllFilesRepresent t.w.endpoints
+    → slice_get jobs i ≡ Some job → OneSteps done done_new c c_new i (record { move = move; gives = gives; turned = turned }) → IsTimely owner d.opened passed i → (done i).failed ≡ false → MayStep owner passed (done i) i (traffic_of (record { move = move; gives = gives; turned = turned })) → Standing owner passed i (traffic_of (record { move = move; gives = gives; turned = turned }))
+    → StepLeads (c i) (record { move = move; gives = gives; turned = turned }) (c_new i) → Behind source first owner jobs passed done_new d c_new
+steps_on source first owner jobs passed done done_new d c c_new t i job (Writes bytes) gives turned only hears memory files at one timely ok may stands s = by_quiet_move source first owner jobs passed done done_new d c c_new t i job (Writes bytes) gives turned at one tt timely ok s.0 s.1 s.2
+steps_on source first owner jobs passed done done_new d c c_new t i job (Fails bytes) gives turned only hears memory files at one timely ok may stands s = by_quiet_move source first owner jobs passed done done_new d c c_new t i job (Fails bytes) gives turned at one tt timely ok s.0 s.1 s.2
+steps_on source first owner jobs passed done done_new d c c_new t i job (Dials port true) gives turned only hears memory files at one timely ok may stands s = by_quiet_move source first owner jobs passed done done_new d c c_new t i job (Dials port true) gives turned at one tt timely ok s.0 s.1 s.2
+steps_on source first owner jobs passed done done_new d c c_new t i job (Dials port false) gives turned only hears memory files at one timely ok may stands s = by_quiet_move source first owner jobs passed done done_new d c c_new t i job (Dials port false) gives turned at one tt timely ok s.0 s.1 s.2
+steps_on source first owner jobs passed done done_new d c c_new t i job (Loses link reason) gives turned only hears memory files at one timely ok may stands s = by_quiet_move source first owner jobs passed done done_new d c c_new t i job (Loses link reason) gives turned at one tt timely ok s.0 s.1 s.2
+steps_on source first owner jobs passed done done_new d c c_new t i job (Hears piece) gives turned only hears memory files at one timely ok may stands s = hears_step source first owner jobs passed done done_new d c c_new t i job piece gives turned only memory files at one timely ok may s
+steps_on source first owner jobs passed done done_new d c c_new t i job (Takes piece) gives turned only hears memory files at one timely ok may stands s = takes_step source first owner jobs passed done done_new d c c_new t i job piece gives turned only files at one timely ok may stands s
+steps_on source first owner jobs passed done done_new d c c_new t i job (Gives bytes) gives turned only hears memory files at one timely ok may stands s = absurd s
+steps_on source first owner jobs passed done done_new d c c_new t i job Resumes gives turned only hears memory files at one timely ok may stands s = absurd (never_early source first owner jobs passed done d c t i job hears at timely ok (s.early, s.hears.running, s.hears.quiet))

@@ -84,7 +84,7 @@ pub record KeepsFiles (p q : Endpoint) : Type 0 where
   pub task : q.task ≡ p.task
   pub over : is_running p.client.outcome ≡ false → is_running q.client.outcome ≡ false
 
-has_files : (finished : List (List ℕ)) (text : List ℕ) (p q : Endpoint) → KeepsFiles p q → HasFilesOf finished text p → HasFilesOf finished text q
+pub has_files : (finished : List (List ℕ)) (text : List ℕ) (p q : Endpoint) → KeepsFiles p q → HasFilesOf finished text p → HasFilesOf finished text q
 has_files finished text p q k h = record {
   file = k.file ∙ h.file;
   count = k.finished ∙ h.count;

@@ -108,13 +108,13 @@ snoc_at [] x q (suc k) e = absurd (let clash : None ≡ Some q = e in cc)
 snoc_at (p ∷ pages) x q zero e = inl e
 snoc_at (p ∷ pages) x q (suc k) e = snoc_suc pages p x q k (snoc_at pages x q k e)
 
-set_beyond : (xs : List (Option (List ℕ))) (n k : ℕ) (a : Option (List ℕ)) → k < n → slice_get (slice_set xs n a) k ≡ slice_get xs k
+pub set_beyond : (xs : List (Option (List ℕ))) (n k : ℕ) (a : Option (List ℕ)) → k < n → slice_get (slice_set xs n a) k ≡ slice_get xs k
 set_beyond [] n k a h = refl
 set_beyond (x ∷ xs) zero k a h = absurd (omega (arith, h))
 set_beyond (x ∷ xs) (suc n) zero a h = refl
 set_beyond (x ∷ xs) (suc n) (suc k) a h = set_beyond xs n k a (omega (arith, h))
 
-set_here : (xs : List (Option (List ℕ))) (n : ℕ) (a : Option (List ℕ)) → n < length xs → slice_get (slice_set xs n a) n ≡ Some a
+pub set_here : (xs : List (Option (List ℕ))) (n : ℕ) (a : Option (List ℕ)) → n < length xs → slice_get (slice_set xs n a) n ≡ Some a
 set_here [] n a h = absurd (omega (arith, h))
 set_here (x ∷ xs) zero a h = refl
 set_here (x ∷ xs) (suc n) a h = set_here xs n a (omega (arith, h))
