@@ -31,9 +31,13 @@ returns-then-n-eq0-clause-drained g c = λ done.
           let on = subst (λ (l : List ℕ). PageGoesOn past c.args.client.now k before outputs l c.take_file-n.new.self (g.S.Shelf.stock c.loop-i.shelf) (option_map g.S.Out.Write.contents c.loop-i.under)) same
           (at_end past c.args.client.now c.loop-i.client c.take_file-n.new.self k c.loop-i._i c.take_file-n.result before outputs _ _ (given_by c.loop-i.invariant.gave.0) piece none pulls
           (λ q at alive joined p shows. (c.take_file-n.ensures.taken q at).denotes alive joined none (omega (arith, c.loop-i.invariant.room, c.requires)) p shows)
-          (c.loop-i.invariant.gave.2 before outputs k past filing)) in
-          (inl (record { are = all.are; leads = all.leads; before = c.loop-i.invariant.gave.0; dry = ap (λ (l : List ℕ). Gives l ∷ c.loop-i.invariant.gave.0) none },
-          ap (λ (v : ClientState). turns v.outcome v.progress) on.rest), inl on),
+          (c.loop-i.invariant.gave.2 before outputs k past filing)) in (
+            inl (
+              record { are = all.are; leads = all.leads; before = c.loop-i.invariant.gave.0; dry = ap (λ (l : List ℕ). Gives l ∷ c.loop-i.invariant.gave.0) none },
+              ap (λ (v : ClientState). turns v.outcome v.progress) on.rest,
+            ),
+            inl on,
+          ),
     )
 
 pub returns-then-not-shelve-clause-short : goal.returns-then-not-shelve-clause-short
@@ -69,19 +73,21 @@ returns-then-not-is_turning-clause-drained g c = λ done.
           (λ had h. c.shelve.ensures.whole (search rules) before outputs had h)
           (subst (λ (b : Bool). GivesBack (g.S.Shelf.stock c.shelve.new.shelf) (option_map g.S.Out.Write.contents c.shelve.new.under) b (g.S.Shelf.stock c.put_back.new.shelf)) done
           (subst (λ (o : Option g.row.S-Out.Denot). GivesBack (g.S.Shelf.stock c.shelve.new.shelf) (option_map g.S.Out.Write.contents o) c.put_back.result (g.S.Shelf.stock c.put_back.new.shelf)) c.take.ensures.value c.put_back.ensures))
-          (c.loop-i.invariant.gave.2 before outputs k past filing)) in
-          (inr (record {
-            begins = out.turning;
-            before = c.loop-i.invariant.gave.0;
-            bytes = piece;
-            gives_are = refl;
-            are = c.loop-i.invariant.gave.1.are;
-            mid = c.loop-i.client;
-            leads = c.loop-i.invariant.gave.1.leads;
-            turning = sym c.is_turning-is_page.ensures ∙ c.if-is_page.true;
-            last = gives;
-            turned = sym c.is_turning.ensures ∙ c.if-not-is_turning.true;
-          }), inr out),
+          (c.loop-i.invariant.gave.2 before outputs k past filing)) in (
+            inr (record {
+              begins = out.turning;
+              before = c.loop-i.invariant.gave.0;
+              bytes = piece;
+              gives_are = refl;
+              are = c.loop-i.invariant.gave.1.are;
+              mid = c.loop-i.client;
+              leads = c.loop-i.invariant.gave.1.leads;
+              turning = sym c.is_turning-is_page.ensures ∙ c.if-is_page.true;
+              last = gives;
+              turned = sym c.is_turning.ensures ∙ c.if-not-is_turning.true;
+            }),
+            inr out,
+          ),
     )
 
 pub returns-then-not-is_turning-clause-short : goal.returns-then-not-is_turning-clause-short
