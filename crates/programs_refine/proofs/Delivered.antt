@@ -1,5 +1,5 @@
 -- A piece that a loop hears or takes is delivered to its client in the world, and does there what it did.
-use Rattle.std.specs.Prelude.{◌&&◌, ◌==◌, if◌then◌else◌, IsSome}
+use Rattle.std.specs.Prelude.{◌<◌, ◌&&◌, ◌==◌, if◌then◌else◌, IsSome}
 use Rattle.std.specs.Option.{option_and_then}
 use Rattle.std.proofs.Common.{◌≡◌, ◌≢◌, ◌∙◌, ◌⊎◌, inl, inr, ℕ, suc, ◌+◌, Bool, true, false, cond, Option, Some, None, List, [], ◌∷◌, ◌++◌, length, append_assoc, refl, sym, ap, subst, arith}
 use Rattle.std.proofs.lemmas.Bool.Decides.{nat_tests}
@@ -30,7 +30,7 @@ use Rattle.programs_refine.proofs.Giving.{Holds, drains_to, filed, filed_as, fil
 use Rattle.programs_refine.proofs.Lists.{delivers, keeps_rest, left_of, moves_on, some_bytes, some_wait}
 use Rattle.programs_refine.proofs.Outgoing.{dialled_receives, never_both, not_over, receiving_at}
 use Rattle.programs_refine.proofs.Passed.{Passed, Traffics, with_given}
-use Rattle.programs_refine.proofs.Tracks.{FilesTrack, Follows, ImageTracks, IsLinked, OutTracks, files_kept, image_bytes, with_out}
+use Rattle.programs_refine.proofs.Tracks.{Follows, ImageTracks, IsLinked, OutTracks, files_kept, image_bytes, with_out}
 use Rattle.programs_refine.proofs.Tracks.FilesTrack.{UnderWay}
 use Rattle.programs_refine.proofs.Tracks.Follows.{Alike, Dialled, Lost, Cut}
 
