@@ -30,7 +30,7 @@ use Rattle.client_replies.specs.ProtocolStates.{ProtocolState, target_of, is_run
 use Rattle.net_client.specs.ClientStates.{ClientState}
 use Rattle.net_jobs.specs.JobJournal.{JobMove, dialled_by, given_by}
 use Rattle.net_jobs.specs.Inside.{GivesAll, StopsAs, CallNotes, NotesMatch, HasTaken, IsFiling, TurnsOn, FallsShort, HasFiledShort, BatchCameDone, BatchCameEnded, BatchHasCome, closed_as, HasBatchRun}
-use Rattle.net_jobs.specs.JobSteps.{StepsGive}
+use Rattle.net_jobs.specs.JobSteps.{MovesStopWithin, StepsGive}
 use Rattle.net_jobs.specs.JobTraces.{JobTrace}
 use Rattle.net_jobs.specs.RunPromises.{JobStreams, SeenStreams, RanWithTrace, ByMemory}
 use Rattle.net_jobs.specs.Links.{LinkViews, HasBrought}
@@ -41,7 +41,7 @@ use Rattle.scan_job.specs.FileOutputs.{TakesBack, GivesBack, refused_output}
 use Rattle.net_jobs.specs.Batches.{IsPageFile, MayScan, last_whole_page, pages_of, BatchDone, BatchEnded, KeepsAllPages, RefusesBatch, RefusesLastPage}
 use Rattle.net_jobs.proofs.FileNumbers.{IsFew, HasSome, counts}
 use Rattle.net_jobs.proofs.JobEnds.{NoneBefore, stops_over, HasRefusal, Leaves, all_written, ran_refuses, cause_of, followed, unopened, task_is, ran_by, ends_well}
-use Rattle.net_jobs.proofs.Steps.{same_steps}
+use Rattle.net_jobs.proofs.Steps.{LastDelivers, same_steps, same_stop, stops_within}
 use Rattle.net_jobs.proofs.Shelves.{given_back, none_back, none_kept, none_same, left_behind, outputs_more}
 use Rattle.net_jobs.proofs.Shelving.{Shut, OnShelf, Lying, PageIsTurned, shut_parted, ended_part, one_file, page_turned, from_here}
 
@@ -201,6 +201,7 @@ came_ended views left_of job first coming0 before notes links coming stream c no
         last_told = inl (ap (λ (v : ClientState). v.outcome) r.last_is ∙ d.ends ∙ over);
         steps = λ told. (let x = same_steps d.fresh r.ran.first d.moves r.ran.moves d.last r.ran.last d.given r.first_is r.moves_is r.last_is (d.steps (inr (ap is_ended over))) in
             (x.steps, subst (λ (q : List JoinHistory). StepsGive x.steps.steps q d.given.bytes) (sym r.pages_is) x.give));
+        sunk = λ sink other. absurd (other (ap (λ (v : ClientState). v.outcome) r.last_is ∙ d.ends ∙ over));
         files = All-same IsPageFile r.ran.trace.pages d.given.pages r.pages_is d.shelf.files;
         text = d.given.bytes;
         behind = [];
@@ -225,6 +226,7 @@ came_untold views left_of job first coming0 before notes links coming stream c n
         refusal = λ e. cc;
         last_told = inr (inl (reports, ap (λ (v : ClientState). v.outcome) r.last_is ∙ d.ends ∙ done, refl));
         steps = λ told. absurd (let clash : Done reports ≡ Ended statuses.NoMem whys.Memory = sym (ap (λ (v : ClientState). v.outcome) r.last_is ∙ d.ends ∙ done) ∙ told in cc);
+        sunk = λ sink. absurd (let clash : whys.Memory ≡ whys.Sink = sink in cc);
         files = All-same IsPageFile r.ran.trace.pages d.given.pages r.pages_is d.shelf.files;
         text = d.given.bytes;
         behind = [];
@@ -256,10 +258,10 @@ came_stopped views left_of job first coming0 before was notes then_ links coming
 -- ---- the shelf or an output did not take what it was to
 
 refused_next : {L R : Type 0} (views : LinkViews L) (left_of : R → Option (List ℕ)) (job : Job) (first : L) (coming0 : Option (List (List ℕ))) (before : Option Stock) (notes : CallNotes) (links : L) (coming : Option (List (List ℕ))) (stream : Option R) (new : ClientState) (now : Option Stock) (out : Option (Option (List ℕ))) (given : GivenFiles) (page : JoinHistory)
-    → PageIsTurned views left_of job first coming0 given page notes links coming stream new → All IsPageFile given.pages → out ≡ None
+    → (t : PageIsTurned views left_of job first coming0 given page notes links coming stream new) → MovesStopWithin t.going.fresh t.going.moves new → All IsPageFile given.pages → out ≡ None
     → TakesBack before (page_outputs_from 1 given.pages ++ refused_output (length given.pages + 1) page.given ∷ []) now
     → BatchHasCome views job (record { links = first; coming = coming0; output = before }) (record { links = links; coming = coming; output = now }) out (Ended statuses.IoError whys.Sink) notes
-refused_next views left_of job first coming0 before notes links coming stream new now out given page t files none refused =
+refused_next views left_of job first coming0 before notes links coming stream new now out given page t stop files none refused =
     let g = t.going in
     let s = g.stage in
     let r = ran_by views left_of job (record { links = first; coming = coming0; output = before }) (record { links = links; coming = coming; output = now }) stream new (turned_given given page) g.moves g.left g.fresh new g.is_fresh g.leads g.calls s s.stands in (
@@ -270,6 +272,7 @@ refused_next views left_of job first coming0 before notes links coming stream ne
         refusal = λ e. cc;
         last_told = inr (inr refl);
         steps = λ told. absurd (let clash : true ≡ false = sym (ap is_ended (sym (ap (λ (v : ClientState). v.outcome) r.last_is) ∙ told)) ∙ t.alive in cc);
+        sunk = λ sink other. same_stop g.fresh r.ran.first g.moves r.ran.moves new r.ran.last r.first_is r.moves_is r.last_is stop;
         files = All-same IsPageFile r.ran.trace.pages (given.pages ++ page ∷ []) r.pages_is (All-append IsPageFile given.pages (page ∷ []) files (one_file page t.file));
         text = [];
         not_whole = nothing_is_not_whole;
@@ -283,10 +286,10 @@ refused_next views left_of job first coming0 before notes links coming stream ne
 
 sunk_by : {L R : Type 0} (views : LinkViews L) (left_of : R → Option (List ℕ)) (job : Job) (first : L) (coming0 : Option (List (List ℕ))) (before : Option Stock) (notes : CallNotes) (links : L) (coming : Option (List (List ℕ))) (stream : Option R) (c new : ClientState) (now : Option Stock) (out : Option (Option (List ℕ))) (given : GivenFiles) (gives : List JobMove)
     → ((past : JoinHistory) (join : JoinState) → Represents past join → IsJoined past → (p : Picture) × ShowsFrames past.ended p) → scans job.task ≡ true → All IsPageFile given.pages
-    → (g : FullRunInvariant views left_of job first coming0 given notes links coming stream c) → is_ended c.outcome ≡ false → GivesAll c gives new
+    → (g : FullRunInvariant views left_of job first coming0 given notes links coming stream c) → is_ended c.outcome ≡ false → LastDelivers job.task g.fresh g.moves c given → GivesAll c gives new
     → FallsShort g.stage.history.given (length given.pages + 1) before (page_outputs_from 1 given.pages) now out ⊎ TurnsOn g.stage.history c (length given.pages + 1) before (page_outputs_from 1 given.pages) (given_by gives) false new now out
     → BatchHasCome views job (record { links = first; coming = coming0; output = before }) (record { links = links; coming = coming; output = now }) out (Ended statuses.IoError whys.Sink) notes
-sunk_by views left_of job first coming0 before notes links coming stream c new now out given gives shows scanning files g alive all (inl short) =
+sunk_by views left_of job first coming0 before notes links coming stream c new now out given gives shows scanning files g alive last all (inl short) =
     let s = g.stage in
     let r = ran_by views left_of job (record { links = first; coming = coming0; output = before }) (record { links = links; coming = coming; output = now }) stream c given g.moves g.left g.fresh c g.is_fresh g.leads g.calls s s.stands in (
       record {
@@ -296,6 +299,7 @@ sunk_by views left_of job first coming0 before notes links coming stream c new n
         refusal = λ e. cc;
         last_told = inr (inr refl);
         steps = λ told. absurd (let clash : true ≡ false = sym (ap is_ended (sym (ap (λ (v : ClientState). v.outcome) r.last_is) ∙ told)) ∙ alive in cc);
+        sunk = λ sink other. same_stop g.fresh r.ran.first g.moves r.ran.moves c r.ran.last r.first_is r.moves_is r.last_is (stops_within job.task g.fresh g.moves c given [] c tt refl last);
         files = All-same IsPageFile r.ran.trace.pages given.pages r.pages_is files;
         text = s.history.given ++ short.behind;
         not_whole = short.not_whole;
@@ -307,32 +311,33 @@ sunk_by views left_of job first coming0 before notes links coming stream c new n
       },
       subst (λ (m : List JobMove). NotesMatch m notes) (sym r.moves_is) g.notes_are,
     )
-sunk_by views left_of job first coming0 before notes links coming stream c new now out given gives shows scanning files g alive all (inr e) =
-    refused_next views left_of job first coming0 before notes links coming stream new now out given (after_pull (given_by gives) g.stage.history)
-    (page_turned views left_of job first coming0 before notes links coming stream c new now out given gives false shows g all e).0 files e.none e.taken
+sunk_by views left_of job first coming0 before notes links coming stream c new now out given gives shows scanning files g alive last all (inr e) =
+    let t = page_turned views left_of job first coming0 before notes links coming stream c new now out given gives false shows g all e in
+    refused_next views left_of job first coming0 before notes links coming stream new now out given (after_pull (given_by gives) g.stage.history) t.0
+    (same_stop g.fresh t.0.going.fresh (gives ++ g.moves) t.0.going.moves new new t.2 t.1 refl (stops_within job.task g.fresh g.moves c given gives new all.are all.leads last)) files e.none e.taken
 
 sunk_at : {L R : Type 0} {was_whole : Bool} (views : LinkViews L) (left_of : R → Option (List ℕ)) (job : Job) (first : L) (coming0 : Option (List (List ℕ))) (before was : Option Stock) (notes : CallNotes) (links : L) (coming : Option (List (List ℕ))) (stream : Option R) (c old new : ClientState) (now : Option Stock) (under out : Option (Option (List ℕ))) (given : GivenFiles) (past : JoinHistory) (is_scanning b : Bool) (result : Bool)
     → is_scanning ≡ b → is_scanning ≡ scans job.task → HasCount job.task → ((past : JoinHistory) (join : JoinState) → Represents past join → IsJoined past → (p : Picture) × ShowsFrames past.ended p)
-    → OnShelf was_whole job before was under given old past → (g : FullRunInvariant views left_of job first coming0 given notes links coming stream c) → is_ended c.outcome ≡ false
+    → OnShelf was_whole job before was under given old past → (g : FullRunInvariant views left_of job first coming0 given notes links coming stream c) → is_ended c.outcome ≡ false → LastDelivers job.task g.fresh g.moves c given
     → result ≡ false → (is_scanning ≡ false → result ≡ true)
     → (gives : List JobMove) × GivesAll c gives new
     × ((before : Option Stock) (outputs : List ReturnedOutput) (k : ℕ) (q : JoinHistory) → IsFiling q c k before outputs was under → HasFiledShort q c k before outputs (given_by gives) new now out)
     → BatchHasCome views job (record { links = first; coming = coming0; output = before }) (record { links = links; coming = coming; output = now }) out (Ended statuses.IoError whys.Sink) notes
-sunk_at views left_of job first coming0 before was notes links coming stream c old new now under out given past is_scanning true result e scanning h shows shelf g alive fails none goes =
-    sunk_by views left_of job first coming0 before notes links coming stream c new now out given goes.0 shows (sym scanning ∙ e) shelf.files g alive goes.1
+sunk_at views left_of job first coming0 before was notes links coming stream c old new now under out given past is_scanning true result e scanning h shows shelf g alive last fails none goes =
+    sunk_by views left_of job first coming0 before notes links coming stream c new now out given goes.0 shows (sym scanning ∙ e) shelf.files g alive last goes.1
     (from_here views left_of job first coming0 before was notes links coming stream c old under given past (λ b outputs k q. HasFiledShort q c k b outputs (given_by goes.0) new now out) (sym scanning ∙ e) h shelf g goes.2)
-sunk_at views left_of job first coming0 before was notes links coming stream c old new now under out given past is_scanning false result e scanning h shows shelf g alive fails none goes =
+sunk_at views left_of job first coming0 before was notes links coming stream c old new now under out given past is_scanning false result e scanning h shows shelf g alive last fails none goes =
     absurd (let clash : true ≡ false = sym (none e) ∙ fails in cc)
 
 pub came_sunk : {L R : Type 0} {was_whole : Bool} (views : LinkViews L) (left_of : R → Option (List ℕ)) (job : Job) (first : L) (coming0 : Option (List (List ℕ))) (before was : Option Stock) (notes : CallNotes) (links : L) (coming : Option (List (List ℕ))) (stream : Option R) (c old new : ClientState) (now : Option Stock) (under out : Option (Option (List ℕ))) (given : GivenFiles) (past : JoinHistory) (is_scanning result : Bool)
     → is_scanning ≡ scans job.task → HasCount job.task → ((past : JoinHistory) (join : JoinState) → Represents past join → IsJoined past → (p : Picture) × ShowsFrames past.ended p)
-    → OnShelf was_whole job before was under given old past → (g : FullRunInvariant views left_of job first coming0 given notes links coming stream c) → is_ended c.outcome ≡ false
+    → OnShelf was_whole job before was under given old past → (g : FullRunInvariant views left_of job first coming0 given notes links coming stream c) → is_ended c.outcome ≡ false → LastDelivers job.task g.fresh g.moves c given
     → result ≡ false → (is_scanning ≡ false → result ≡ true)
     → (gives : List JobMove) × GivesAll c gives new
     × ((before : Option Stock) (outputs : List ReturnedOutput) (k : ℕ) (q : JoinHistory) → IsFiling q c k before outputs was under → HasFiledShort q c k before outputs (given_by gives) new now out)
     → BatchHasCome views job (record { links = first; coming = coming0; output = before }) (record { links = links; coming = coming; output = now }) out (Ended statuses.IoError whys.Sink) notes
-came_sunk views left_of job first coming0 before was notes links coming stream c old new now under out given past is_scanning result scanning h shows shelf g alive fails none goes =
-    sunk_at views left_of job first coming0 before was notes links coming stream c old new now under out given past is_scanning is_scanning result refl scanning h shows shelf g alive fails none goes
+came_sunk views left_of job first coming0 before was notes links coming stream c old new now under out given past is_scanning result scanning h shows shelf g alive last fails none goes =
+    sunk_at views left_of job first coming0 before was notes links coming stream c old new now under out given past is_scanning is_scanning result refl scanning h shows shelf g alive last fails none goes
 
 -- ---- the last output is given back
 
@@ -402,6 +407,7 @@ close_done views job was now new out reports false d back = record {
   refusal = λ e. cc;
   last_told = inr (inr refl);
   steps = λ told. absurd (let clash : Done reports ≡ Ended statuses.IoError whys.Sink = sym d.last_told ∙ told in cc);
+  sunk = λ sink other. inl d.steps;
   pages = pages_of d.ran.trace;
   finished = inr (refl, (reports, d.told));
   files = d.files;
@@ -432,6 +438,7 @@ close_ended views job was now new out stop is_taken d back = record {
   refusal = d.refusal;
   last_told = d.last_told;
   steps = d.steps;
+  sunk = λ sink other. inr (d.sunk sink other);
   pages = d.ran.trace.pages;
   finished = inl refl;
   files = d.files;

@@ -43,7 +43,7 @@ use Rattle.net_jobs.proofs.Tracing.{did_quiet}
 use Rattle.net_jobs.proofs.KeepingInvariant.{lets_go, stage_on}
 use Rattle.net_jobs.specs.Outputs.{files_text}
 use Rattle.net_jobs.proofs.FileNumbers.{IsFew, counts}
-use Rattle.net_jobs.proofs.Steps.{AllGiven, AreStepsSoFar, LastDelivers, StepsBy, StepsSoFar, ended_not_done, running_not_done, same_steps, steps_at, steps_given, steps_quiet, steps_still}
+use Rattle.net_jobs.proofs.Steps.{AllGiven, AreStepsSoFar, LastDelivers, StepsBy, StepsSoFar, ended_not_done, running_not_done, same_steps, same_stop, steps_at, steps_given, steps_quiet, steps_still, stops_within}
 use Rattle.net_jobs.proofs.RunInvariants.{stage_wrote, going_begun, gave_on}
 use Rattle.net_jobs.proofs.Turning.{some_left}
 use Rattle.net_jobs.proofs.Asking.{asked_for}
@@ -579,6 +579,7 @@ run_ended views left_of job first coming0 held notes links coming stream c holds
         cause = cause_of r.ran.moves r.ran.trace.protocol r.ran.rest c.outcome (Ended status why) over r.cause;
         last_told = inl (ap (λ (v : ClientState). v.outcome) r.last_is ∙ d.ends ∙ over);
         steps = λ told. (let x = same_steps d.fresh r.ran.first d.moves r.ran.moves d.last r.ran.last d.given r.first_is r.moves_is r.last_is (d.steps (inr (ap is_ended over))) in (x.steps, x.give.under_way));
+        sunk = λ sink other. absurd (other (ap (λ (v : ClientState). v.outcome) r.last_is ∙ d.ends ∙ over));
         all = λ other. all_written d.moves r.ran.moves d.left r.ran.left r.moves_is r.left_is d.all;
         refusal = subst HasRefusal over (ran_refuses job r.ran.moves r.ran.trace _ _ r.ran.rest r.ran.left c.outcome r.ran.did r.cause);
         text = d.given.bytes;
@@ -593,14 +594,14 @@ run_ended views left_of job first coming0 held notes links coming stream c holds
 
 -- the output did not take the file
 pub run_sunk : {L R : Type 0} (views : LinkViews L) (left_of : R → Option (List ℕ)) (job : Job) (first : L) (coming0 : Option (List (List ℕ))) (held was : Option (List ℕ)) (notes : CallNotes) (links : L) (coming : Option (List (List ℕ))) (stream : Option R) (c : ClientState) (holds : Option (List ℕ)) (given : GivenFiles)
-    → is_batch job.task ≡ false → job.task ≡ tasks.Scan → is_ended c.outcome ≡ false → Appends held was given.bytes → (g : FullRunInvariant views left_of job first coming0 given notes links coming stream c)
+    → is_batch job.task ≡ false → job.task ≡ tasks.Scan → is_ended c.outcome ≡ false → Appends held was given.bytes → (g : FullRunInvariant views left_of job first coming0 given notes links coming stream c) → LastDelivers job.task g.fresh g.moves c given
     → ((past : JoinHistory) → HoldsGiven past c held was → StopsBehind past.given held holds)
     → HasRunNoted views job (record { links = first; coming = coming0; output = held }) (record { links = links; coming = coming; output = holds }) (Ended statuses.IoError whys.Sink) notes
-run_sunk views left_of job first coming0 held was notes links coming stream c holds given single scan alive taken g stops =
+run_sunk views left_of job first coming0 held was notes links coming stream c holds given single scan alive taken g last stops =
     let s = g.stage in
     let r = ran_by views left_of job (record { links = first; coming = coming0; output = held }) (record { links = links; coming = coming; output = holds }) stream c given g.moves g.left g.fresh c g.is_fresh g.leads g.calls s s.stands in
     let short = stops s.history (record { scan = task_is c job s.target ∙ scan; serves = s.serves; taken = subst (λ (l : List ℕ). Appends held was l) (sym s.given_is) taken }) in (
-      record { single = single; ran = r.ran; cause = inr (inr refl); last_told = inr (inr refl); steps = λ told. absurd (let clash : true ≡ false = sym (ap is_ended (sym (ap (λ (v : ClientState). v.outcome) r.last_is) ∙ told)) ∙ alive in cc); all = λ other. absurd (other refl); refusal = λ e. cc; text = s.history.given ++ short.behind; taken = short.taken; behind = short.behind; gave = ap (λ (l : List ℕ). l ++ short.behind) (s.given_is ∙ one_file_given job s.trace _ _ s.rest g.left given (given_by g.moves) single s.did s.pages_is g.gave ∙ ap (λ (m : List JobMove). given_by m) (sym r.moves_is)); none_behind = λ other. absurd (other refl); not_whole = short.not_whole },
+      record { single = single; ran = r.ran; cause = inr (inr refl); last_told = inr (inr refl); sunk = λ sink other. same_stop g.fresh r.ran.first g.moves r.ran.moves c r.ran.last r.first_is r.moves_is r.last_is (stops_within job.task g.fresh g.moves c given [] c tt refl last); steps = λ told. absurd (let clash : true ≡ false = sym (ap is_ended (sym (ap (λ (v : ClientState). v.outcome) r.last_is) ∙ told)) ∙ alive in cc); all = λ other. absurd (other refl); refusal = λ e. cc; text = s.history.given ++ short.behind; taken = short.taken; behind = short.behind; gave = ap (λ (l : List ℕ). l ++ short.behind) (s.given_is ∙ one_file_given job s.trace _ _ s.rest g.left given (given_by g.moves) single s.did s.pages_is g.gave ∙ ap (λ (m : List JobMove). given_by m) (sym r.moves_is)); none_behind = λ other. absurd (other refl); not_whole = short.not_whole },
       subst (λ (m : List JobMove). NotesMatch m notes) (sym r.moves_is) g.notes_are,
     )
 
@@ -668,6 +669,7 @@ run_untold views left_of job first coming0 held notes links coming stream c hold
         cause = inr (inl (ByMemory refl));
         last_told = inr (inl (reports, ap (λ (v : ClientState). v.outcome) r.last_is ∙ d.ends ∙ done, refl));
         steps = λ told. absurd (let clash : Done reports ≡ Ended statuses.NoMem whys.Memory = sym (ap (λ (v : ClientState). v.outcome) r.last_is ∙ d.ends ∙ done) ∙ told in cc);
+        sunk = λ sink. absurd (let clash : whys.Memory ≡ whys.Sink = sink in cc);
         all = λ other. all_written d.moves r.ran.moves d.left r.ran.left r.moves_is r.left_is d.all;
         refusal = λ e. cc;
         text = d.given.bytes;

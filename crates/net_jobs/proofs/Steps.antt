@@ -13,11 +13,11 @@ use Rattle.client_replies.specs.declared.progress.Link.TheVariants as links
 use Rattle.client_replies.specs.ProtocolStates.{is_batch, is_ended, is_lost_by, is_running, scans}
 use Rattle.net_client.specs.ClientStates.{ClientState, after_client_end}
 use Rattle.frame_join.specs.FrameHistory.{JoinHistory}
-use Rattle.net_jobs.specs.JobJournal.{AreGives, JobMove, MoveLeads, after_loss, given_by, has_write_failed}
+use Rattle.net_jobs.specs.JobJournal.{AreGives, JobMove, MoveLeads, MovesLead, after_loss, given_by, has_write_failed}
 use Rattle.net_jobs.specs.JobJournal.JobMove.{Writes, Fails, Hears, Resumes, Dials, Takes, Gives, Loses}
-use Rattle.net_jobs.specs.JobSteps.{MoveAndGives, MovesAreSteps, GivesOut, JobStep, StepLeads, StepsGive, StepsLead, files_by_steps, given_by_steps, has_failed, is_failed_write, moves_of}
+use Rattle.net_jobs.specs.JobSteps.{IsDelivery, MoveAndGives, MovesAreSteps, MovesStopWithin, GivesOut, JobStep, StepLeads, StepsGive, StepsLead, files_by_steps, given_by_steps, has_failed, is_failed_write, moves_of}
 use Rattle.net_jobs.specs.Outputs.{texts_of}
-use Rattle.net_jobs.specs.Inside.{IsDelivery, IsQuiet}
+use Rattle.net_jobs.specs.Inside.{IsQuiet}
 use Rattle.net_jobs.proofs.Giving.{failed_on_gives}
 use Rattle.net_jobs.proofs.InvariantRecords.{GivenFiles, more_given, no_files_given, turned_given}
 
@@ -230,3 +230,25 @@ steps_at false task first moves c given s (inr ended) = steps_over task first mo
 pub same_steps : (a b : ClientState) (moves more : List JobMove) (c d : ClientState) (given : GivenFiles) → b ≡ a → more ≡ moves → d ≡ c → StepsSoFar a moves c given → StepsSoFar b more d given
 same_steps a b moves more c d given first all last s =
     subst (λ (v : ClientState). StepsSoFar v more d given) (sym first) (subst (λ (l : List JobMove). StepsSoFar a l d given) (sym all) (subst (λ (v : ClientState). StepsSoFar a moves v given) (sym last) s))
+
+-- ---- a job that stops within what came last
+
+pub stops_within : (task : Task) (first : ClientState) (moves : List JobMove) (last : ClientState) (given : GivenFiles) (gives : List JobMove) (now : ClientState) → AreGives gives → MovesLead last gives now → LastDelivers task first moves last given → MovesStopWithin first (gives ++ moves) now
+stops_within task first moves last given gives now are leads d = record {
+  before = d.before;
+  mid = d.mid;
+  steps = d.steps.steps;
+  up = d.up;
+  move = d.move;
+  came = last;
+  comes = d.leads;
+  delivers = d.delivers;
+  gives = gives;
+  are = are;
+  gives_lead = leads;
+  moves_are = ap (λ (l : List JobMove). gives ++ l) d.moves_are;
+}
+
+pub same_stop : (a b : ClientState) (moves more : List JobMove) (c d : ClientState) → b ≡ a → more ≡ moves → d ≡ c → MovesStopWithin a moves c → MovesStopWithin b more d
+same_stop a b moves more c d first all last s =
+    subst (λ (v : ClientState). MovesStopWithin v more d) (sym first) (subst (λ (l : List JobMove). MovesStopWithin a l d) (sym all) (subst (λ (v : ClientState). MovesStopWithin a moves v) (sym last) s))

@@ -21,7 +21,7 @@ use Rattle.netpbm.specs.Pnm.{IsWhole}
 use Rattle.scan_job.specs.Shelves.{Stock, ReturnedOutput}
 use Rattle.net_jobs.specs.JobTraces.{JobTrace, EndWell}
 use Rattle.net_jobs.specs.JobJournal.{given_by, has_write_failed}
-use Rattle.net_jobs.specs.JobSteps.{MovesAreSteps, StepsGive}
+use Rattle.net_jobs.specs.JobSteps.{MovesAreSteps, MovesStopWithin, StepsGive}
 use Rattle.net_jobs.specs.Links.{LinkViews}
 use Rattle.net_jobs.specs.Outputs.{files_text, page_outputs_from}
 use Rattle.scan_job.specs.FileOutputs.{TakesBack, AreLeft, refused_output}
@@ -106,6 +106,7 @@ pub record BatchEnded {L : Type 0} (views : LinkViews L) (job : Job) (was now : 
   pub gave : files_text pages ++ text ≡ given_by ran.moves ++ behind
   pub none_behind : stop.why ≢ whys.Sink → behind ≡ []
   pub steps : ran.last.outcome ≡ Ended stop.status stop.why → (s : MovesAreSteps ran.first ran.moves ran.last) × StepsGive s.steps ran.trace.pages text
+  pub sunk : stop.why ≡ whys.Sink → (ran.last.outcome ≡ Ended stop.status stop.why → ⊥) → MovesAreSteps ran.first ran.moves ran.last ⊎ MovesStopWithin ran.first ran.moves ran.last
   pub shelf : ((pages ≡ ran.trace.pages) × KeepsAllPages pages text was.output now.output)
       ⊎ ((stop ≡ failed_output) × (text ≡ []) × RefusesLastPage pages was.output now.output)
 

@@ -27,7 +27,7 @@ use Rattle.scan_job.specs.declared.outcome.Why.TheVariants as whys
 use Rattle.net_jobs.specs.declared.calls.Loss.{Loss}
 use Rattle.net_jobs.specs.declared.calls.Loss.TheVariants.{ReadFailed, StreamEnded, DialFailed}
 use Rattle.net_jobs.specs.JobJournal.{AreGives, IsPiece, JobMove, Hears, Resumes, MovesLead, Fails, Dials, Takes, Gives, Loses, MoveLeads, HearsPiece, TakesPiece, DialsPort, MissesPort, LosesLink, has_write_failed, given_by}
-use Rattle.net_jobs.specs.JobSteps.{FileRunsOut, MovesAreSteps, PageEnds, StepsGive}
+use Rattle.net_jobs.specs.JobSteps.{FileRunsOut, IsDelivery, MovesAreSteps, MovesStopWithin, PageEnds, StepsGive}
 use Rattle.net_jobs.specs.JobTraces.{TraceEvent, EndWell}
 use Rattle.net_jobs.specs.JobTraces.TraceEvent.{Opened}
 use Rattle.net_jobs.specs.declared.calls.CallTally.{CallTally}
@@ -193,13 +193,6 @@ IsQuiet (Takes piece) = ⊥
 IsQuiet (Gives bytes) = ⊥
 IsQuiet Resumes = ⊥
 IsQuiet move = Unit {0}
-
--- one by which a piece comes, or what came too soon
-abbrev pub IsDelivery : JobMove → Type 0
-IsDelivery (Hears piece) = Unit {0}
-IsDelivery (Takes piece) = Unit {0}
-IsDelivery Resumes = Unit {0}
-IsDelivery move = ⊥
 
 abbrev pub AreQuiet : List JobMove → Type 0
 AreQuiet [] = Unit {0}
@@ -414,6 +407,7 @@ pub record BatchCameEnded {L : Type 0} (views : LinkViews L) (job : Job) (was no
   pub gave : files_text ran.trace.pages ++ text ≡ given_by ran.moves ++ behind
   pub none_behind : stop.why ≢ whys.Sink → behind ≡ []
   pub steps : ran.last.outcome ≡ Ended stop.status stop.why → (s : MovesAreSteps ran.first ran.moves ran.last) × StepsGive s.steps ran.trace.pages text
+  pub sunk : stop.why ≡ whys.Sink → (ran.last.outcome ≡ Ended stop.status stop.why → ⊥) → MovesStopWithin ran.first ran.moves ran.last
   pub shelf : HasTaken was.output (page_outputs_from 1 ran.trace.pages) now.output out (length ran.trace.pages + 1) text
       ⊎ ((out ≡ None) × (text ≡ []) × (stop ≡ failed_output) × RefusesLastPage ran.trace.pages was.output now.output)
 

@@ -3,7 +3,7 @@ use Rattle.std.specs.Prelude.{ℕ, ◌≡◌, ◌⊎◌, ◌||◌, if◌then◌e
 use Rattle.frame_join.specs.FrameHistory.{JoinHistory}
 use Rattle.client_replies.specs.ProtocolStates.{is_batch, is_ended, scans, turns}
 use Rattle.net_client.specs.ClientStates.{ClientState, HasEarlyReply}
-use Rattle.net_jobs.specs.JobJournal.{AreGives, GivesFileBytes, HearsPiece, IsPiece, JobMove, MoveLeads, MovesLead, TakesPiece, given_by}
+use Rattle.net_jobs.specs.JobJournal.{AreGives, GivesFileBytes, HearsPiece, IsPiece, JobMove, MoveLeads, MovesLead, TakesPiece, given_by, has_write_failed}
 use Rattle.net_jobs.specs.Outputs.{texts_of}
 use Rattle.net_jobs.specs.JobJournal.JobMove.{Fails, Hears, Resumes, Takes, Gives}
 
@@ -119,6 +119,13 @@ pub record StepsGive (steps : List JobStep) (pages : List JoinHistory) (text : L
 
 -- ---- the moves of steps
 
+-- one by which a piece comes, or what came too soon
+abbrev pub IsDelivery : JobMove → Type 0
+IsDelivery (Hears piece) = Unit {0}
+IsDelivery (Takes piece) = Unit {0}
+IsDelivery Resumes = Unit {0}
+IsDelivery move = ⊥
+
 abbrev pub moves_of : List JobStep → List JobMove
 moves_of [] = []
 moves_of (step ∷ steps) = step.gives ++ step.move ∷ moves_of steps
@@ -128,3 +135,18 @@ pub record MovesAreSteps (first : ClientState) (moves : List JobMove) (last : Cl
   pub steps : List JobStep
   pub moves_are : moves ≡ moves_of steps
   pub lead : StepsLead first steps last
+
+-- they are up to the last thing that came: of its file not all that was given of it went out, and nothing more was done
+pub record MovesStopWithin (first : ClientState) (moves : List JobMove) (last : ClientState) : Type 0 where
+  pub before : List JobMove
+  pub mid : ClientState
+  pub steps : MovesAreSteps first before mid
+  pub up : has_write_failed before ≡ false
+  pub move : JobMove
+  pub came : ClientState
+  pub comes : MoveLeads mid move came
+  pub delivers : IsDelivery move
+  pub gives : List JobMove
+  pub are : AreGives gives
+  pub gives_lead : MovesLead came gives last
+  pub moves_are : moves ≡ gives ++ move ∷ before

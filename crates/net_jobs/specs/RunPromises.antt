@@ -23,7 +23,7 @@ use Rattle.scan_job.specs.declared.outcome.Why.TheVariants as whys
 use Rattle.scan_job.specs.declared.report.Reports.{Reports}
 use Rattle.scan_job.specs.declared.stop.Stop.{Stop}
 use Rattle.net_jobs.specs.JobJournal.{JobMove, MovesLead, bytes_written_by, heard_by, given_by, dialled_by, has_write_failed, HasLoss}
-use Rattle.net_jobs.specs.JobSteps.{MovesAreSteps, given_by_steps}
+use Rattle.net_jobs.specs.JobSteps.{MovesAreSteps, MovesStopWithin, given_by_steps}
 use Rattle.net_jobs.specs.JobTraces.{JobTrace, BytesMatchTrace, EndWell, ports_named}
 use Rattle.net_jobs.specs.Links.{JobLinks, LinkViews, Calls, HasBrought, BeginWith}
 
@@ -133,6 +133,7 @@ pub record RanEnded {L : Type 0} (views : LinkViews L) (job : Job) (was now : Se
   pub gave : text ≡ given_by ran.moves ++ behind
   pub none_behind : stop.why ≢ whys.Sink → behind ≡ []
   pub steps : ran.last.outcome ≡ Ended stop.status stop.why → (s : MovesAreSteps ran.first ran.moves ran.last) × (text ≡ given_by_steps s.steps)
+  pub sunk : stop.why ≡ whys.Sink → (ran.last.outcome ≡ Ended stop.status stop.why → ⊥) → MovesStopWithin ran.first ran.moves ran.last
   pub not_whole : IsWhole text → ⊥
 
 abbrev pub refused_as : JobFault → Outcome

@@ -29,8 +29,9 @@ returns-then-not-fill-clause-came g c = λ job fresh count scanning none.
     let before = runs_by (is_running c.loop-client.client.outcome) c.is_over.result c.is_over.ensures c.loop-client-test.true in
     let t = turns_on _ (left_ahead g.D.Conn.Read.remaining) job _ _ p.laid.given c.go_on-came.result _ _ c.go_on-came.ensures.moved.0 c.go_on-came.ensures.moved.1 c.go_on-came.ensures.moved.2 before p.laid.going p.laid.steps in
     let runs = runs_by (is_running c.go_on-came.new.client.outcome) c.is_over-then-came.result c.is_over-then-came.ensures c.if-not-is_over.true in
+    let last = turned_delivers _ (left_ahead g.D.Conn.Read.remaining) job _ _ p.laid.given c.go_on-came.result _ t c.if-came.true runs in
     rw (c.failed_output.ensures, c.fill.ensures.calls.0) (came_sunk _ (left_ahead g.D.Conn.Read.remaining) job _ _ _ _ _ _ _ (ahead_of c.go_on-came.new.stream c.go_on-came.new.ahead) c.go_on-came.new.client c.loop-client.client c.fill.new.client _ _ _ p.laid.given p.laid.going.stage.history c.args.is_scanning c.fill.result scanning count c.whole_shows.ensures p.laid.shelf
-    t.going (runs_on c.go_on-came.new.client.outcome runs) c.if-not-fill.true (λ e. (c.fill.ensures.none e).0) (c.fill.ensures.short c.if-not-fill.true))
+    t.going (runs_on c.go_on-came.new.client.outcome runs) last c.if-not-fill.true (λ e. (c.fill.ensures.none e).0) (c.fill.ensures.short c.if-not-fill.true))
 
 pub loop-client-preserved : goal.loop-client-preserved
 loop-client-preserved g c = record {
@@ -72,8 +73,9 @@ returns-then-not-fill-2-clause-came g c = λ job fresh count scanning none.
     let p = c.loop-client.invariant.lying job fresh count scanning none in
     let done = done_told c.outcome.result.now c.told_of-told.result _ (sym c.is_ok.ensures.value ∙ c.if-is_ok.true) c.told_of-told.ensures.told in
     let alive = ap is_ended (sym c.outcome.ensures ∙ done.1) in
+    let last = to_be_given job.task p.laid.going.fresh p.laid.going.moves c.loop-client.client p.laid.given done.0 (sym c.outcome.ensures ∙ done.1) p.laid.steps in
     rw (c.failed_output-then-not-fill-2.ensures, c.fill-then-is_ok.ensures.calls.0) (came_sunk _ (left_ahead g.D.Conn.Read.remaining) job _ _ _ _ _ _ _ (ahead_of c.loop-client.stream c.loop-client.ahead) c.loop-client.client c.loop-client.client c.fill-then-is_ok.new.client _ _ _ p.laid.given p.laid.going.stage.history c.args.is_scanning c.fill-then-is_ok.result scanning count c.whole_shows.ensures p.laid.shelf
-    p.laid.going alive c.if-not-fill-2.true (λ e. (c.fill-then-is_ok.ensures.none e).0) (c.fill-then-is_ok.ensures.short c.if-not-fill-2.true))
+    p.laid.going alive last c.if-not-fill-2.true (λ e. (c.fill-then-is_ok.ensures.none e).0) (c.fill-then-is_ok.ensures.short c.if-not-fill-2.true))
 
 pub returns-in_err-told-clause-came : goal.returns-in_err-told-clause-came
 returns-in_err-told-clause-came g c = λ job fresh count scanning none.

@@ -26,8 +26,9 @@ returns-then-not-give-clause-ran g c = λ job fresh single scan.
     let before = runs_by (is_running c.loop-client.client.outcome) c.is_over.result c.is_over.ensures c.loop-client-test.true in
     let t = turns_on _ (left_ahead g.D.Conn.Read.remaining) job _ _ p.drained.given c.go_on-came.result _ _ c.go_on-came.ensures.moved.0 c.go_on-came.ensures.moved.1 c.go_on-came.ensures.moved.2 before p.drained.going p.drained.steps in
     let runs = runs_by (is_running c.go_on-came.new.client.outcome) c.is_over-then-came.result c.is_over-then-came.ensures c.if-not-is_over.true in
+    let last = turned_delivers _ (left_ahead g.D.Conn.Read.remaining) job _ _ p.drained.given c.go_on-came.result _ t c.if-came.true runs in
     rw (c.failed_output.ensures, c.give.ensures.calls.0) (run_sunk _ (left_ahead g.D.Conn.Read.remaining) job _ _ _ _ _ _ _ (ahead_of c.go_on-came.new.stream c.go_on-came.new.ahead) c.go_on-came.new.client _ p.drained.given single (scan.0 (scan_by c.args.is_scan c.give.result (λ e. (c.give.ensures.none e).0) c.if-not-give.true)) (runs_on c.go_on-came.new.client.outcome runs) p.drained.taken
-    t.going (λ past held. c.give.ensures.short c.if-not-give.true _ past held))
+    t.going last (λ past held. c.give.ensures.short c.if-not-give.true _ past held))
 
 pub loop-client-preserved : goal.loop-client-preserved
 loop-client-preserved g c = record {
@@ -68,8 +69,9 @@ returns-then-not-give-2-clause-ran g c = λ job fresh single scan.
     let p = c.loop-client.invariant.pending job fresh single scan in
     let done = done_told c.outcome.result.now c.told_of-told.result _ (sym c.is_ok.ensures.value ∙ c.if-is_ok.true) c.told_of-told.ensures.told in
     let alive = ap is_ended (sym c.outcome.ensures ∙ done.1) in
+    let last = to_be_given job.task p.drained.going.fresh p.drained.going.moves c.loop-client.client p.drained.given done.0 (sym c.outcome.ensures ∙ done.1) p.drained.steps in
     rw (c.failed_output-then-not-give-2.ensures, c.give-then-is_ok.ensures.calls.0) (run_sunk _ (left_ahead g.D.Conn.Read.remaining) job _ _ _ _ _ _ _ (ahead_of c.loop-client.stream c.loop-client.ahead) c.loop-client.client _ p.drained.given single
-    (scan.0 (scan_by c.args.is_scan c.give-then-is_ok.result (λ e. (c.give-then-is_ok.ensures.none e).0) c.if-not-give-2.true)) alive p.drained.taken p.drained.going (λ past held. c.give-then-is_ok.ensures.short c.if-not-give-2.true _ past held))
+    (scan.0 (scan_by c.args.is_scan c.give-then-is_ok.result (λ e. (c.give-then-is_ok.ensures.none e).0) c.if-not-give-2.true)) alive p.drained.taken p.drained.going last (λ past held. c.give-then-is_ok.ensures.short c.if-not-give-2.true _ past held))
 
 pub returns-in_err-told-clause-ran : goal.returns-in_err-told-clause-ran
 returns-in_err-told-clause-ran g c = λ job fresh single scan.
