@@ -10,6 +10,7 @@ ghost use Rattle.virtual_scanner.specs.Answers.{AnswersRead};
 ghost use Rattle.virtual_scanner.specs.First.{OfFirst, OnFirst};
 
 use crate::at::answer_read;
+use device_api::is_feeder;
 use page_picture::{DeviceKind, PageSource, Source};
 use sane_fixed::{Params, Status};
 use scan_frames::{BeginFault, FrameRows, Setup, params, params_without};
@@ -17,16 +18,6 @@ use std::alloc::Global;
 
 /// The most pages that lie in a feeder's tray.
 pub const TRAY_ROOM: usize = 16;
-
-/// Whether pages are fed one after another.
-pub fn is_feeder(kind: DeviceKind) -> bool
-    ensures { result ≡ is_feeder kind }
-{
-    match kind {
-        DeviceKind::Flatbed | DeviceKind::Hand | DeviceKind::ThreePass => false,
-        DeviceKind::Feeder => true,
-    }
-}
 
 /// What is told of the frame of a pass over the first page.
 pub fn params_on(tray: &[Source], setup: &Setup, pass: u32) -> Params
