@@ -10,7 +10,8 @@ use Rattle.page_picture.specs.declared.scene.DeviceKind.{DeviceKind}
 use Rattle.scan_frames.specs.Frames.{frame_of, frames_of, has_picture, last_pass}
 use Rattle.scan_frames.specs.declared.setup.Setup.{Setup}
 use Rattle.device_api.specs.ScannerLimits.{IsAllowed}
-use Rattle.device_api.specs.State.{DeviceState, HasStopped, HeldPage, Phase as AnyPhase, Starts, StartsFrame, StartsIn, StartsOn, with_failure_count, failures_of, feeds, first_page, is_at_rest, is_feeder, left_behind, next_pass, page_of, after_stop, stopped_in, with_failures, with_phase}
+use Rattle.device_api.specs.Kinds.{is_feeder, Page, after_start}
+use Rattle.device_api.specs.State.{DeviceState, HasStopped, HeldPage, Phase as AnyPhase, Starts, StartsFrame, StartsIn, StartsOn, with_failure_count, failures_of, feeds, first_page, is_at_rest, left_behind, next_pass, page_of, after_stop, stopped_in, with_failures, with_phase}
 use Rattle.device_api.specs.State.Phase.{AtRest as Rest, Between as Amid, Reading as Read}
 use Rattle.device_api.proofs.KindLaws.{start_leaves}
 use Rattle.device_api.proofs.SameLaws.{start_same}
@@ -18,7 +19,6 @@ use Rattle.scan_laws.specs.Passes as scan
 use Rattle.scan_laws.specs.SetAndJoin as rules
 use Rattle.scan_laws.proofs.Places.{frames_from, start_in}
 use Rattle.system_model.specs.AbstractMessages.{Begun, Refused, AbstractReply}
-use Rattle.device_api.specs.Kinds.{Page, after_start}
 use Rattle.system_model.specs.Devices.{Make, picture_frames as frames_given, order_of, abstract_status}
 use Rattle.system_model.specs.AbstractDevices.{Resting, Reading, put_down}
 use Rattle.system_model.specs.Transitions.{IsFault, MayFail}

@@ -7,7 +7,8 @@ use Rattle.page_picture.specs.Page.{PageView}
 use Rattle.page_picture.specs.Source.{SourceState}
 use Rattle.page_picture.specs.declared.scene.DeviceKind.{DeviceKind}
 use Rattle.scan_frames.specs.Frames.{frames_of}
-use Rattle.device_api.specs.State.{DeviceState, HeldPage as Page, Phase as AnyPhase, after_load as page_loaded, feeds, held_from, is_at_rest, is_feeder, page_of, pages_with, takes_page, tray_room}
+use Rattle.device_api.specs.Kinds.{is_feeder, has_room, laid_in}
+use Rattle.device_api.specs.State.{DeviceState, HeldPage as Page, Phase as AnyPhase, after_load as page_loaded, feeds, held_from, is_at_rest, page_of, pages_with, takes_page, tray_room}
 use Rattle.device_api.specs.State.Phase.{AtRest as Rest, Between as Amid, Reading as Read}
 use Rattle.device_api.proofs.KindLaws.{laid_is, room_is}
 use Rattle.dispatch.specs.declared.table.place.Slot.{Slot}
@@ -18,7 +19,6 @@ use Rattle.saned_requests.specs.Holding.{held_by}
 use Rattle.saned_requests.proofs.LeaseWords.{held_by-own_past}
 use Rattle.scan_laws.specs.Passes as scan
 use Rattle.system_model.specs.Devices.{Make}
-use Rattle.device_api.specs.Kinds.{has_room, laid_in}
 use Rattle.system_model.specs.AbstractDevices.{AbstractDevice, ScanPhase, Resting, is_resting}
 use Rattle.system_model.specs.SystemStates.{with_entry}
 use Rattle.system_model.specs.Transitions.{with_page_laid_in, without_listing}

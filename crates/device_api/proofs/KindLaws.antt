@@ -17,9 +17,9 @@ use Rattle.scan_frames.specs.declared.setup.Setup.{Setup}
 use Rattle.scan_frames.proofs.Frames.{has_sides}
 use Rattle.device_api.specs.declared.scan_option.ScanOption.{ScanOption}
 use Rattle.device_api.specs.Options.{option_name, options_of}
-use Rattle.device_api.specs.ScannerLimits.{IsAllowed, IsOnBed, IsPageCount, greatest_resolution}
-use Rattle.device_api.specs.State.{is_feeder, left_behind, pages_with, tray_room}
-use Rattle.device_api.specs.Kinds.{Model, Page, after_start, has_room, laid_in, IsStocked}
+use Rattle.device_api.specs.Kinds.{greatest_resolution, is_feeder, Model, Page, after_start, has_room, laid_in, IsStocked}
+use Rattle.device_api.specs.ScannerLimits.{IsAllowed, IsOnBed, IsPageCount}
+use Rattle.device_api.specs.State.{left_behind, pages_with, tray_room}
 
 -- ---- the pages in its tray: whether it is a feeder says all
 

@@ -1,6 +1,6 @@
--- What a kind of scanner is: its names, and the pages in its tray: what a start takes, where a page is laid in, and how many
--- there may be.
-use Rattle.std.specs.Prelude.{ℕ, ◌≡◌, ◌≤◌, List, [], ◌∷◌, ◌++◌, Bool, true, ltb, length, codes}
+-- What a kind of scanner is: its names, its greatest resolution, whether it is a feeder, and its tray: what a start leaves of it,
+-- what a page that is laid in makes of it, and how many pages it can have.
+use Rattle.std.specs.Prelude.{ℕ, ◌≡◌, ◌≤◌, List, [], ◌∷◌, ◌++◌, Bool, true, false, ltb, length, codes}
 use Rattle.page_picture.specs.Page.{PageView}
 use Rattle.page_picture.specs.declared.scene.DeviceKind.{DeviceKind}
 use Rattle.page_picture.specs.declared.scene.DeviceKind.TheVariants.{Flatbed, Hand, ThreePass, Feeder}
@@ -16,6 +16,19 @@ class_of Flatbed = codes "flatbed scanner"
 class_of Hand = codes "handheld scanner"
 class_of ThreePass = codes "flatbed scanner"
 class_of Feeder = codes "sheetfed scanner"
+
+-- dots per inch
+abbrev pub greatest_resolution : DeviceKind → ℕ
+greatest_resolution Flatbed = 1200
+greatest_resolution Hand = 300
+greatest_resolution ThreePass = 1200
+greatest_resolution Feeder = 1200
+
+abbrev pub is_feeder : DeviceKind → Bool
+is_feeder Flatbed = false
+is_feeder Hand = false
+is_feeder ThreePass = false
+is_feeder Feeder = true
 
 -- the kind of a scanner
 abbrev pub Model : Type 0

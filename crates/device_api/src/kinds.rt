@@ -1,8 +1,7 @@
 //! What a kind of scanner tells of itself, and whether it is a feeder.
 
 ghost use Rattle.std.specs.Prelude.{◌≡◌};
-ghost use Rattle.device_api.specs.Kinds.{class_of, model_of};
-ghost use Rattle.device_api.specs.State.{is_feeder};
+ghost use Rattle.device_api.specs.Kinds.{class_of, model_of, is_feeder};
 
 use page_picture::DeviceKind;
 

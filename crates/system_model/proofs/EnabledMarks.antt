@@ -3,7 +3,7 @@ use Rattle.std.proofs.Common.{◌≡◌, ◌∙◌, ℕ, List, [], ◌∷◌, Bo
 use Rattle.page_picture.specs.Shows.{Frame}
 use Rattle.option_desc.specs.declared.value.Value.{Value}
 use Rattle.system_model.specs.AbstractMessages.{same_text, Challenge, AbstractRequest, Init, GetDevices, Open, Authorize, Describe, Get, Set, Parameters, Start, Cancel, Close, Exit}
-use Rattle.device_api.specs.Kinds.{Model, Page, after_start}
+use Rattle.device_api.specs.Kinds.{Model, Page, after_start, is_feeder}
 use Rattle.system_model.specs.Devices.{Make, AbstractAcceptedSet, has_readable_value, picture_frames, accept_value}
 use Rattle.system_model.specs.AbstractDevices.{without_first, AbstractDevice, ScanPhase, Resting, Between, Reading, is_held_by, is_resting, put_back, device_let_go, phase_after_frame, ended_phase, read_on}
 use Rattle.system_model.specs.Daemon.{TransferState, Quiet, Waiting, Streaming, Ending, Environment, FailureCounts, answer, answer_if, answer_awaited, hand_out_device, take_listed, open_listed, allow, get_reply, put_reply, set_reply, begin_page, begin_pass, start_page, start_at, start_or_fail, start_effect}
@@ -16,7 +16,7 @@ use Rattle.system_model.specs.Marks
 use Rattle.system_model.specs.ModelPromises.{MarksAreEnabled}
 use Rattle.system_model.proofs.OtherJobs.{put_same}
 use Rattle.system_model.proofs.Treats.{is_held}
-use Rattle.device_api.specs.State.{is_feeder, left_behind}
+use Rattle.device_api.specs.State.{left_behind}
 use Rattle.device_api.proofs.KindLaws.{start_leaves}
 
 -- a busy flag that is the same

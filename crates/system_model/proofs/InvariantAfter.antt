@@ -1,8 +1,8 @@
 -- WHATEVER STEP COMES, WHAT STANDS IS SOUND.
 use Rattle.std.proofs.Common.{◌≡◌, ◌∙◌, ◌≢◌, ℕ, List, [], ◌∷◌, ◌++◌, true, false, Option, Some, None, refl, sym, ap, Bool, subst}
 use Rattle.system_model.specs.AbstractMessages.{Challenge, Good, Eof, IoError, GivenUp, NoMem, Lost, Cancelled, Memory, AbstractRequest}
-use Rattle.device_api.specs.Kinds.{Model, Page, laid_in}
-use Rattle.device_api.specs.State.{is_feeder, pages_with}
+use Rattle.device_api.specs.Kinds.{Model, Page, laid_in, is_feeder}
+use Rattle.device_api.specs.State.{pages_with}
 use Rattle.device_api.proofs.KindLaws.{laid_is, laid_stocked}
 use Rattle.system_model.specs.Devices.{Make, IsPageShaped}
 use Rattle.system_model.specs.Client.{abstract_farewell, with_progress, Greeting}

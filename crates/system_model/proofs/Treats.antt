@@ -3,8 +3,8 @@ use Rattle.std.proofs.Common.{◌≡◌, ◌∙◌, ◌≢◌, ◌⊎◌, ℕ, L
 use Rattle.page_picture.specs.Shows.{Frame}
 use Rattle.option_desc.specs.declared.value.Value.{Value}
 use Rattle.system_model.specs.AbstractMessages.{same_text, Challenge, AbstractRequest, Init, GetDevices, Open, Authorize, Describe, Get, Set, Parameters, Start, Cancel, Close, Exit}
-use Rattle.device_api.specs.Kinds.{Model, Page, IsStocked, after_start}
-use Rattle.device_api.specs.State.{is_feeder, left_behind}
+use Rattle.device_api.specs.Kinds.{Model, Page, IsStocked, after_start, is_feeder}
+use Rattle.device_api.specs.State.{left_behind}
 use Rattle.device_api.proofs.KindLaws.{start_leaves, start_stocked}
 use Rattle.system_model.specs.Devices.{Make, OptionsInForce, AbstractAcceptedSet, AreOptionsAllowed, default_options, accept_value, has_readable_value, picture_frames}
 use Rattle.system_model.specs.AbstractDevices.{AbstractDevice, ScanPhase, Resting, Between, Reading, DeviceInvariant, AreShaped, is_held_by, is_resting, put_down, put_back, device_let_go, read_on, ended_phase}

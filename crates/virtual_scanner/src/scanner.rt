@@ -1,7 +1,8 @@
 ghost use Rattle.std.specs.Prelude.{◌≡◌, ◌≤◌, false, map, vec_len, IfOk, IfErr};
 ghost use Rattle.page_picture.specs.SourceView.{source_state};
 ghost use Rattle.page_picture.specs.declared.scene.DeviceKind.TheVariants.{Feeder};
-ghost use Rattle.device_api.specs.State.{goes_to, is_feeder, after_stop, tray_room};
+ghost use Rattle.device_api.specs.Kinds.{is_feeder};
+ghost use Rattle.device_api.specs.State.{goes_to, after_stop, tray_room};
 ghost use Rattle.virtual_scanner.specs.New.{device_info_of, new_device, new_scanner};
 
 use crate::at::{At, after};

@@ -5,7 +5,8 @@ ghost use Rattle.page_picture.specs.SourceView.{source_state};
 ghost use Rattle.scan_frames.specs.Frames.{IsSetup};
 ghost use Rattle.scan_frames.specs.PassReading.{BeginsPass, IsFrame};
 ghost use Rattle.device_api.specs.ScannerLimits.{IsHeldPage};
-ghost use Rattle.device_api.specs.State.{held_from, is_feeder, left_behind, pages_with, params_in, tray_room};
+ghost use Rattle.device_api.specs.Kinds.{is_feeder};
+ghost use Rattle.device_api.specs.State.{held_from, left_behind, pages_with, params_in, tray_room};
 ghost use Rattle.virtual_scanner.specs.Answers.{AnswersRead};
 ghost use Rattle.virtual_scanner.specs.First.{OfFirst, OnFirst};
 

@@ -2,12 +2,12 @@
 use Rattle.std.specs.Prelude.{cond}
 use Rattle.std.specs.List.{AllByRecursion}
 use Rattle.std.proofs.Common.{◌≡◌, ℕ, List, [], ◌∷◌, Bool, true, false, Some, None, subst, sym}
-use Rattle.device_api.specs.Kinds.{Model, Page, laid_in}
+use Rattle.device_api.specs.Kinds.{Model, Page, laid_in, is_feeder}
 use Rattle.system_model.specs.AbstractDevices.{Begin, without_first}
 use Rattle.system_model.specs.Marks.{Mark, Took, Started, Rested, Returned, Loaded, Removed, DeviceView, MarksLead, MayMark, view_after_mark, starts_in}
 use Rattle.world_contract.proofs.Lists.{all_then}
 use Rattle.world_contract.proofs.Mine.{IsMine}
-use Rattle.device_api.specs.State.{is_feeder, pages_with}
+use Rattle.device_api.specs.State.{pages_with}
 use Rattle.device_api.proofs.KindLaws.{laid_is}
 
 abbrev pub LoadsIt : (Page → Type 0) → Mark → Type 0

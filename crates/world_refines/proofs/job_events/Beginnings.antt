@@ -11,7 +11,8 @@ use Rattle.page_picture.specs.declared.scene.DeviceKind.TheVariants.{Flatbed}
 use Rattle.md5_auth.specs.declared.users.Entry.{Entry}
 use Rattle.frame_join.specs.FrameHistory.{empty_history}
 use Rattle.device_api.specs.ScannerLimits.{HasLimits, IsHeldPage, IsPageCount}
-use Rattle.device_api.specs.State.{DeviceState, HeldPage, Phase, after_cancel, cancelled_in, feeds, is_feeder, left_behind}
+use Rattle.device_api.specs.Kinds.{is_feeder, IsStocked}
+use Rattle.device_api.specs.State.{DeviceState, HeldPage, Phase, after_cancel, cancelled_in, feeds, left_behind}
 use Rattle.device_api.specs.State.Phase.{AtRest, Between, Reading}
 use Rattle.device_api.proofs.AllowedLaws.{defaults_allowed}
 use Rattle.device_api.proofs.KindLaws.{stocked_by}
@@ -24,7 +25,6 @@ use Rattle.scan_job.specs.declared.job.Job.{Job}
 use Rattle.client_replies.specs.ProtocolStates.{is_running}
 use Rattle.net_client.specs.ClientStates.{IsNewClient, ClientState}
 use Rattle.system_model.specs.Devices.{AreOptionsAllowed, IsPageShaped}
-use Rattle.device_api.specs.Kinds.{IsStocked}
 use Rattle.system_model.specs.AbstractDevices.{AreShaped, DeviceInvariant}
 use Rattle.system_model.specs.SystemStates.{initial_job}
 use Rattle.system_model.proofs.JobPromises.{beginning_sound}
