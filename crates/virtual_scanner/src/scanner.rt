@@ -7,10 +7,7 @@ ghost use Rattle.virtual_scanner.specs.New.{device_info_of, new_device, new_scan
 
 use crate::at::{At, after};
 use crate::tray::{TRAY_ROOM, begin_frame, let_go, params_on, put_page, read_frame, see_limits};
-use device_api::{
-    Device, DeviceInfo, class_name, defaults, descriptors, get_option, model_name, reset_setup,
-    set_option,
-};
+use device_api::{Device, DeviceInfo, defaults, descriptors, get_option, reset_setup, set_option};
 use option_desc::{Descriptor, Value};
 use page_picture::{DeviceKind, PageSource, Source};
 use sane_fixed::{ByteOrder, Info, Params, Status, Text, TextFault};
@@ -48,8 +45,8 @@ fn device_info(alloc: Global, kind: DeviceKind, name: Text) -> Result<DeviceInfo
     Ok(DeviceInfo {
         name,
         vendor: Text::new(alloc, b"Virtual")?,
-        model: Text::new(alloc, model_name(kind))?,
-        class: Text::new(alloc, class_name(kind))?,
+        model: Text::new(alloc, device_api::model_name(kind))?,
+        class: Text::new(alloc, device_api::class_name(kind))?,
     })
 }
 
