@@ -16,7 +16,8 @@ use Rattle.saned_requests.proofs.Keeping.{Moves}
 use Rattle.saned_requests.proofs.Keeping.Moves.{Still, Moved, Closed, Opened}
 use Rattle.saned_requests.proofs.Moving.{answers_moves}
 use Rattle.system_model.specs.AbstractMessages.{Authorize, Cancel, Challenge, Close, Describe, Exit, Get, GetDevices, Init, Open, Parameters, AbstractRequest, Set, Start, same_text}
-use Rattle.system_model.specs.Devices.{Make, Page, AbstractAcceptedSet, picture_frames, accept_value, has_readable_value}
+use Rattle.device_api.specs.Kinds.{Page}
+use Rattle.system_model.specs.Devices.{Make, AbstractAcceptedSet, picture_frames, accept_value, has_readable_value}
 use Rattle.system_model.specs.AbstractDevices.{AbstractDevice, ScanPhase, Resting, Between, Reading, is_held_by, is_resting, device_let_go, put_back}
 use Rattle.system_model.specs.Daemon.{Environment, TransferState, Quiet, Waiting, Streaming, Ending, FailureCounts, allow, begin_page, begin_pass, get_reply, open_listed, put_reply, serve, set_reply, start_at, start_or_fail, start_page, start_effect, hand_out_device, take_listed}
 use Rattle.system_model.specs.SystemStates.{with_entry}

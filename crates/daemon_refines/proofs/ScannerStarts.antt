@@ -7,19 +7,20 @@ use Rattle.page_picture.specs.Page.{PageView}
 use Rattle.page_picture.specs.Shows.{Frame}
 use Rattle.page_picture.specs.Source.{CountsFailure}
 use Rattle.page_picture.specs.declared.scene.DeviceKind.{DeviceKind}
-use Rattle.page_picture.specs.declared.scene.DeviceKind.TheVariants.{Flatbed, Hand, ThreePass, Feeder}
 use Rattle.scan_frames.specs.Frames.{frame_of, frames_of, has_picture, last_pass}
 use Rattle.scan_frames.specs.declared.setup.Setup.{Setup}
 use Rattle.device_api.specs.ScannerLimits.{IsAllowed}
-use Rattle.device_api.specs.State.{DeviceState, HasStopped, HeldPage, Phase as AnyPhase, Starts, StartsFrame, StartsIn, StartsOn, with_failure_count, failures_of, feeds, first_page, is_at_rest, is_feeder, left_behind, next_pass, page_of, after_stop, stopped_in, with_failures, with_phase}
+use Rattle.device_api.specs.Kinds.{is_feeder, Page, after_start}
+use Rattle.device_api.specs.State.{DeviceState, HasStopped, HeldPage, Phase as AnyPhase, Starts, StartsFrame, StartsIn, StartsOn, with_failure_count, failures_of, feeds, first_page, is_at_rest, left_behind, next_pass, page_of, after_stop, stopped_in, with_failures, with_phase}
 use Rattle.device_api.specs.State.Phase.{AtRest as Rest, Between as Amid, Reading as Read}
+use Rattle.device_api.proofs.KindLaws.{start_leaves}
 use Rattle.device_api.proofs.SameLaws.{start_same}
 use Rattle.scan_laws.specs.Passes as scan
 use Rattle.scan_laws.specs.SetAndJoin as rules
 use Rattle.scan_laws.proofs.Places.{frames_from, start_in}
 use Rattle.system_model.specs.AbstractMessages.{Begun, Refused, AbstractReply}
-use Rattle.system_model.specs.Devices.{Make, Page, picture_frames as frames_given, order_of, abstract_status}
-use Rattle.system_model.specs.AbstractDevices.{Resting, Reading, after_start, put_down}
+use Rattle.system_model.specs.Devices.{Make, picture_frames as frames_given, order_of, abstract_status}
+use Rattle.system_model.specs.AbstractDevices.{Resting, Reading, put_down}
 use Rattle.system_model.specs.Transitions.{IsFault, MayFail}
 use Rattle.system_model.specs.Daemon.{TransferState, Quiet, Waiting, FailureCounts, AnswerEffect, begin_page, begin_pass, start_at, start_or_fail, start_page}
 use Rattle.daemon_refines.specs.ContextRefinement.{IsMade, pages_to_come, phase_at, abstract_device, abstract_device_as, page_views, tray_of}
@@ -53,12 +54,13 @@ pub record StartServed (k : Make) (s : DeviceState) (answer : Result Unit Code) 
 -- ---- pages
 
 -- a feeder takes its first page out
+views_left : (feeder : Bool) (pages : List HeldPage) → left_behind feeder (page_views pages) ≡ page_views (left_behind feeder pages)
+views_left false pages = refl
+views_left true [] = refl
+views_left true (held ∷ pages) = refl
+
 taken_out : (kind : DeviceKind) (pages : List HeldPage) → after_start kind (page_views pages) ≡ page_views (left_behind (is_feeder kind) pages)
-taken_out Flatbed pages = refl
-taken_out Hand pages = refl
-taken_out ThreePass pages = refl
-taken_out Feeder [] = refl
-taken_out Feeder (held ∷ pages) = refl
+taken_out kind pages = start_leaves kind (page_views pages) ∙ views_left (is_feeder kind) pages
 
 same_sheets : (n : ℕ) (pages : List HeldPage) → page_views (with_failure_count n pages) ≡ page_views pages
 same_sheets n [] = refl

@@ -1,15 +1,16 @@
 -- Pages that are laid in, and devices that are unplugged.
 use Rattle.std.proofs.Common.{inl, inr, ◌⊎◌, ◌≡◌, ◌∙◌, ℕ, zero, suc, List, [], ◌∷◌, Bool, true, false, Option, Some, None, refl, sym, ap, subst, length, slice_get, arith}
-use Rattle.std.specs.Prelude.{Result, Ok, Err, ◌&&◌, ◌||◌, not, nat_lt, ltb, if◌then◌else◌}
+use Rattle.std.specs.Prelude.{Result, Ok, Err, ◌&&◌, ◌||◌, not, nat_lt, if◌then◌else◌}
 use Rattle.sane_fixed.specs.declared.status.Status.{Status as Code}
 use Rattle.sane_fixed.specs.declared.status.Status.TheVariants as code
 use Rattle.page_picture.specs.Page.{PageView}
 use Rattle.page_picture.specs.Source.{SourceState}
 use Rattle.page_picture.specs.declared.scene.DeviceKind.{DeviceKind}
-use Rattle.page_picture.specs.declared.scene.DeviceKind.TheVariants.{Flatbed, Hand, ThreePass, Feeder}
 use Rattle.scan_frames.specs.Frames.{frames_of}
-use Rattle.device_api.specs.State.{DeviceState, HeldPage as Page, Phase as AnyPhase, after_load as page_loaded, feeds, held_from, is_at_rest, is_feeder, page_of, pages_with, takes_page, tray_room}
+use Rattle.device_api.specs.Kinds.{is_feeder, has_room, laid_in}
+use Rattle.device_api.specs.State.{DeviceState, HeldPage as Page, Phase as AnyPhase, after_load as page_loaded, feeds, held_from, is_at_rest, page_of, pages_with, takes_page, tray_room}
 use Rattle.device_api.specs.State.Phase.{AtRest as Rest, Between as Amid, Reading as Read}
+use Rattle.device_api.proofs.KindLaws.{laid_is, room_is}
 use Rattle.dispatch.specs.declared.table.place.Slot.{Slot}
 use Rattle.dispatch.specs.declared.table.place.Slot.TheVariants.{In, Out, Gone}
 use Rattle.dispatch.specs.declared.table.place.Place.{Place}
@@ -18,7 +19,7 @@ use Rattle.saned_requests.specs.Holding.{held_by}
 use Rattle.saned_requests.proofs.LeaseWords.{held_by-own_past}
 use Rattle.scan_laws.specs.Passes as scan
 use Rattle.system_model.specs.Devices.{Make}
-use Rattle.system_model.specs.AbstractDevices.{AbstractDevice, ScanPhase, Resting, has_room, is_resting, laid_in}
+use Rattle.system_model.specs.AbstractDevices.{AbstractDevice, ScanPhase, Resting, is_resting}
 use Rattle.system_model.specs.SystemStates.{with_entry}
 use Rattle.system_model.specs.Transitions.{with_page_laid_in, without_listing}
 use Rattle.daemon_refines.specs.ContextRefinement.{SlotRefines, TableRefines, phase_at, abstract_device, abstract_device_as, page_views, pages_to_come, tray_of, HasSource}
@@ -37,22 +38,20 @@ both_true : (a b : Bool) → (a && b) ≡ true → (a ≡ true) × (b ≡ true)
 both_true true b e = (refl, e)
 both_true false b e = absurd (cc)
 
+views_with : (feeder : Bool) (pages : List Page) (page : Page) → pages_with feeder (page_views pages) page.page ≡ page_views (pages_with feeder pages page)
+views_with false pages page = refl
+views_with true [] page = refl
+views_with true (held ∷ pages) page = ap (λ (t : List PageView). held.page ∷ t) (views_with true pages page)
+
 laid : (kind : DeviceKind) (pages : List Page) (page : Page) → laid_in kind page.page (page_views pages) ≡ page_views (pages_with (is_feeder kind) pages page)
-laid Flatbed pages page = refl
-laid Hand pages page = refl
-laid ThreePass pages page = refl
-laid Feeder [] page = refl
-laid Feeder (held ∷ pages) page = ap (λ (t : List PageView). held.page ∷ t) (laid Feeder pages page)
+laid kind pages page = laid_is kind page.page (page_views pages) ∙ views_with (is_feeder kind) pages page
 
 same_count : (pages : List Page) → length (page_views pages) ≡ length pages
 same_count [] = refl
 same_count (held ∷ pages) = ap suc (same_count pages)
 
 has_room_is : (kind : DeviceKind) (pages : List Page) → has_room kind (page_views pages) ≡ (not (is_feeder kind) || nat_lt (length pages) tray_room)
-has_room_is Flatbed pages = refl
-has_room_is Hand pages = refl
-has_room_is ThreePass pages = refl
-has_room_is Feeder pages = ap (λ (n : ℕ). ltb n 16) (same_count pages)
+has_room_is kind pages = room_is kind (page_views pages) ∙ ap (λ (n : ℕ). not (is_feeder kind) || nat_lt n tray_room) (same_count pages)
 
 resting_tray : (phase : AnyPhase) (s : DeviceState) → is_at_rest phase ≡ true → pages_to_come phase s ≡ s.pages
 resting_tray (Rest c) s e = refl

@@ -5,7 +5,8 @@ use Rattle.device_api.specs.State.{DeviceState, after_load as page_loaded, held_
 use Rattle.dispatch.specs.declared.table.place.Lease.{Lease}
 use Rattle.dispatch.specs.Table.{Table, table_after_load, after_unplug, find_name, load_answer, unplug_answer}
 use Rattle.system_model.specs.Devices.{Make}
-use Rattle.system_model.specs.AbstractDevices.{AbstractDevice, Resting, has_room}
+use Rattle.device_api.specs.Kinds.{has_room}
+use Rattle.system_model.specs.AbstractDevices.{AbstractDevice, Resting}
 use Rattle.system_model.specs.SystemStates.{with_entry}
 use Rattle.system_model.specs.Transitions.{with_page_laid_in, without_listing}
 use Rattle.daemon_refines.specs.ContextRefinement.{HasSource, IsMade, TableRefines, abstract_device}

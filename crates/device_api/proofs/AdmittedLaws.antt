@@ -15,12 +15,13 @@ use Rattle.option_desc.specs.declared.value.Value.TheVariants.{Flag, Int, Fixed,
 use Rattle.option_desc.specs.Fits.{fits_of}
 use Rattle.option_desc.specs.Put.{resolve, nearest_value, nearest_text, nearest_word}
 use Rattle.page_picture.specs.declared.scene.DeviceKind.{DeviceKind}
-use Rattle.page_picture.specs.declared.scene.DeviceKind.TheVariants.{Flatbed, Hand, ThreePass, Feeder}
+use Rattle.page_picture.specs.declared.scene.DeviceKind.TheVariants.{Hand, ThreePass}
 use Rattle.scan_frames.specs.declared.setup.Setup.{Setup}
 use Rattle.device_api.specs.declared.scan_option.ScanOption.{ScanOption}
 use Rattle.device_api.specs.declared.scan_option.ScanOption.TheVariants.{Depth, Resolution, TlX, TlY, BrX, BrY, GammaTable, RedGammaTable, GreenGammaTable, BlueGammaTable, PplLoss, ReadLimitSize}
 use Rattle.device_api.specs.Options.{depths_of, resolutions_of, option_constraint, descriptor_of}
-use Rattle.device_api.specs.ScannerLimits.{IsBetween, IsOnBed, greatest_resolution}
+use Rattle.device_api.specs.Kinds.{greatest_resolution}
+use Rattle.device_api.specs.ScannerLimits.{IsBetween, IsOnBed}
 use Rattle.device_api.specs.AdmittedOptions.{IsByte, IsAdmittedNumber, IsAdmittedTable, IsAdmitted}
 
 pub in_range : (low high quant room : ℕ) (asked : ℤ) → low + room ≤ high → height (pos high -ℤ pos low) ≡ room → IsBetween low high (nearest_in_range (record { min = pos low; max = pos high; quant = pos quant }) asked)
@@ -41,21 +42,18 @@ in_list P entries asked some all =
     all_middle P n.before (nearest_in_list entries asked) n.after (subst (AllByRecursion P) n.listed all)
 
 depth_in : (k : DeviceKind) (asked : ℤ) → IsAdmittedNumber k Depth (nearest_in_list (depths_of k) asked)
-depth_in Flatbed asked = in_list (IsAdmittedNumber Flatbed Depth) (depths_of Flatbed) asked (omega arith) (inl refl, (inr (inl refl), (inr (inr refl), tt)))
-depth_in Feeder asked = in_list (IsAdmittedNumber Feeder Depth) (depths_of Feeder) asked (omega arith) (inl refl, (inr (inl refl), (inr (inr refl), tt)))
 depth_in Hand asked = in_list (IsAdmittedNumber Hand Depth) (depths_of Hand) asked (omega arith) (inl refl, (inr (inl refl), tt))
 depth_in ThreePass asked = in_list (IsAdmittedNumber ThreePass Depth) (depths_of ThreePass) asked (omega arith) (inr (inl refl), (inr (inr refl), tt))
+depth_in k asked = in_list (IsAdmittedNumber k Depth) (depths_of k) asked (omega arith) (inl refl, (inr (inl refl), (inr (inr refl), tt)))
 
 between : (low high n : ℕ) → low ≤ n → n ≤ high → IsBetween low high (pos n)
 between low high n l h = record { number = n; is = refl; low_is = l; high_is = h }
 
 resolution_in : (k : DeviceKind) (asked : ℤ) → IsBetween 1 (greatest_resolution k) (nearest_word (resolutions_of k) asked)
-resolution_in Flatbed asked = in_range 1 1200 1 1199 asked (omega arith) refl
 resolution_in Hand asked =
     in_list (IsBetween 1 300) (pos 75 ∷ pos 100 ∷ pos 150 ∷ pos 300 ∷ []) asked (omega arith)
     (between 1 300 75 (omega arith) (omega arith), (between 1 300 100 (omega arith) (omega arith), (between 1 300 150 (omega arith) (omega arith), (between 1 300 300 (omega arith) (omega arith), tt))))
-resolution_in ThreePass asked = in_range 1 1200 1 1199 asked (omega arith) refl
-resolution_in Feeder asked = in_range 1 1200 1 1199 asked (omega arith) refl
+resolution_in _ asked = in_range 1 1200 1 1199 asked (omega arith) refl
 
 number_in : (k : DeviceKind) (o : ScanOption) (asked : ℤ) → IsAdmittedNumber k o (nearest_word (option_constraint k o) asked)
 number_in k Depth asked = depth_in k asked

@@ -13,7 +13,7 @@ use Rattle.sane_fixed.specs.declared.status.Status.TheVariants as status
 use Rattle.option_desc.specs.declared.value.Value.{Value}
 use Rattle.option_desc.specs.declared.value.Value.TheVariants.{Flag, Int, Fixed, Words, Text}
 use Rattle.page_picture.specs.declared.scene.DeviceKind.{DeviceKind}
-use Rattle.page_picture.specs.declared.scene.DeviceKind.TheVariants.{Flatbed, Hand, ThreePass, Feeder}
+use Rattle.page_picture.specs.declared.scene.DeviceKind.TheVariants.{Hand}
 use Rattle.scan_frames.specs.Frames.{IsSetup}
 use Rattle.scan_frames.specs.declared.setup.Setup.{Setup}
 use Rattle.device_api.specs.declared.choice.Choice.{Choice}
@@ -22,14 +22,13 @@ use Rattle.device_api.specs.declared.scan_option.ScanOption.{ScanOption}
 use Rattle.device_api.specs.declared.scan_option.ScanOption.TheVariants.{Mode, Depth, Resolution, TlX, TlY, BrX, BrY, GammaTable, RedGammaTable, GreenGammaTable, BlueGammaTable, ThreePassOrder, PplLoss, ReadLimitSize, ReadReturnValue}
 use Rattle.device_api.specs.Options.{choices_of, choice_text}
 use Rattle.device_api.specs.Values.{identity, default_resolution, defaults, with_number, with_length, with_channels, with_table, channel_table, with_choice, choice_of, with_chosen, with_value}
-use Rattle.device_api.specs.ScannerLimits.{IsOnBed, IsAllowed, greatest_resolution}
+use Rattle.device_api.specs.Kinds.{greatest_resolution}
+use Rattle.device_api.specs.ScannerLimits.{IsOnBed, IsAllowed}
 use Rattle.device_api.specs.AdmittedOptions.{IsByte, IsAdmittedNumber, IsAdmittedTable, IsAdmitted}
 
 most : (k : DeviceKind) → greatest_resolution k ≤ 1200
-most Flatbed = omega arith
 most Hand = omega arith
-most ThreePass = omega arith
-most Feeder = omega arith
+most _ = omega arith
 
 depth_is : (w : ℤ) → (w ≡ pos 1) ⊎ ((w ≡ pos 8) ⊎ (w ≡ pos 16)) → (unsigned_abs w ≡ 1) ⊎ ((unsigned_abs w ≡ 8) ⊎ (unsigned_abs w ≡ 16))
 depth_is w (inl e) = inl (ap unsigned_abs e)
@@ -188,22 +187,16 @@ fresh : (n : ℕ) → n ≤ 200 * 65536 → IsOnBed (record { 0 = pos n })
 fresh n h = record { number = n; is = refl; low_is = omega arith; high_is = h }
 
 some_default : (k : DeviceKind) → 1 ≤ default_resolution k
-some_default Flatbed = omega arith
 some_default Hand = omega arith
-some_default ThreePass = omega arith
-some_default Feeder = omega arith
+some_default _ = omega arith
 
 most_default : (k : DeviceKind) → default_resolution k ≤ greatest_resolution k
-most_default Flatbed = omega arith
 most_default Hand = omega arith
-most_default ThreePass = omega arith
-most_default Feeder = omega arith
+most_default _ = omega arith
 
 few_default : (k : DeviceKind) → default_resolution k ≤ 1200
-few_default Flatbed = omega arith
 few_default Hand = omega arith
-few_default ThreePass = omega arith
-few_default Feeder = omega arith
+few_default _ = omega arith
 
 identity_bytes : (i : ℕ) → slice_index identity i < 2 ^ 8
 unfolding identity

@@ -23,7 +23,8 @@ use Rattle.device_api.specs.declared.scan_option.ScanOption.TheVariants.{NumOpti
 use Rattle.device_api.specs.Options.{choice_text, choices_of, option_constraint, option_caps, is_active, option_at, descriptor_of}
 use Rattle.sane_fixed.specs.Cap.{has_cap}
 use Rattle.device_api.specs.Values.{option_value, with_value, with_choice, with_chosen, choice_of, option_passing, get_result, option_got, option_set, set_to, with_given, setup_after}
-use Rattle.device_api.specs.ScannerLimits.{IsBetween, greatest_resolution}
+use Rattle.device_api.specs.Kinds.{greatest_resolution}
+use Rattle.device_api.specs.ScannerLimits.{IsBetween}
 use Rattle.device_api.specs.AdmittedOptions.{IsByte, IsAdmittedNumber, IsAdmittedTable, IsAdmitted, takes, takes_flag, takes_number, takes_length, takes_words}
 use Rattle.device_api.proofs.SameLaws.{value_same}
 use Rattle.device_api.proofs.TableLaws.{answer_with, set_is}

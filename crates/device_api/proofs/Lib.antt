@@ -13,3 +13,4 @@ pub mod ForceLaws
 pub mod OptionForms
 pub mod SentOptions
 pub mod OwnLaws
+pub mod KindLaws

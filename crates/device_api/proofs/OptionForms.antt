@@ -8,7 +8,7 @@ use Rattle.sane_fixed.specs.declared.kind.Kind.TheVariants as kinds
 use Rattle.constraint.specs.Admitted.{HasRoom}
 use Rattle.option_desc.specs.WellFormed.{IsWellFormed}
 use Rattle.page_picture.specs.declared.scene.DeviceKind.{DeviceKind}
-use Rattle.page_picture.specs.declared.scene.DeviceKind.TheVariants.{Flatbed, Hand, ThreePass, Feeder}
+use Rattle.page_picture.specs.declared.scene.DeviceKind.TheVariants.{Hand, ThreePass}
 use Rattle.scan_frames.specs.declared.setup.Setup.{Setup}
 use Rattle.device_api.specs.declared.scan_option.ScanOption.{ScanOption}
 use Rattle.device_api.specs.declared.scan_option.ScanOption.TheVariants.{NumOptions, Mode, Depth, Resolution, TlX, TlY, BrX, BrY, GammaTable, RedGammaTable, GreenGammaTable, BlueGammaTable, ThreePassOrder, PplLoss, ReadLimitSize, ReadReturnValue, HandScanner}
@@ -52,14 +52,11 @@ room n a b = record { some = a; most = b }
 well_formed : (k : DeviceKind) (o : ScanOption) → IsWellFormed (option_constraint k o)
 well_formed k NumOptions = tt
 well_formed k Mode = room 2 (omega arith) (omega arith)
-well_formed Flatbed Depth = room 3 (omega arith) (omega arith)
-well_formed Feeder Depth = room 3 (omega arith) (omega arith)
 well_formed Hand Depth = room 2 (omega arith) (omega arith)
 well_formed ThreePass Depth = room 2 (omega arith) (omega arith)
-well_formed Flatbed Resolution = record { ordered = omega arith; no_step_back = omega arith }
-well_formed Feeder Resolution = record { ordered = omega arith; no_step_back = omega arith }
+well_formed _ Depth = room 3 (omega arith) (omega arith)
 well_formed Hand Resolution = room 4 (omega arith) (omega arith)
-well_formed ThreePass Resolution = record { ordered = omega arith; no_step_back = omega arith }
+well_formed _ Resolution = record { ordered = omega arith; no_step_back = omega arith }
 well_formed k TlX = record { ordered = omega arith; no_step_back = omega arith }
 well_formed k TlY = record { ordered = omega arith; no_step_back = omega arith }
 well_formed k BrX = record { ordered = omega arith; no_step_back = omega arith }

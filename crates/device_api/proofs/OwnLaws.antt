@@ -8,8 +8,7 @@ use Rattle.sane_fixed.specs.declared.fixed.Fixed.{Fixed as Length}
 use Rattle.option_desc.specs.declared.value.Value.{Value}
 use Rattle.option_desc.specs.declared.value.Value.TheVariants.{Flag, Int, Fixed, Words, Text}
 use Rattle.page_picture.specs.declared.scene.DeviceKind.{DeviceKind}
-use Rattle.page_picture.specs.declared.scene.DeviceKind.TheVariants.{Flatbed, Hand, ThreePass, Feeder}
-use Rattle.page_picture.specs.declared.scene.DeviceKind.TheVariants.{Feeder, Hand, ThreePass}
+use Rattle.page_picture.specs.declared.scene.DeviceKind.TheVariants.{Hand, ThreePass}
 use Rattle.scan_frames.specs.declared.setup.Setup.{Setup}
 use Rattle.device_api.specs.declared.choice.Choice.{Choice}
 use Rattle.device_api.specs.declared.choice.Choice.TheVariants as choice
@@ -25,20 +24,13 @@ use Rattle.device_api.specs.OwnOptions.{HasOwnAlone, IsOwn}
 
 pub defaults_own : (k : DeviceKind) (order : ByteOrder) → IsOwn (defaults k order)
 unfolding defaults
-defaults_own Flatbed order = refl
-defaults_own Feeder order = refl
 defaults_own Hand order = (refl, record { loss = refl; limit = refl; told = refl }, record { gamma = refl; channels = refl; tl_x = refl; tl_y = refl; br_x = refl; br_y = refl })
 defaults_own ThreePass order = record { loss = refl; limit = refl; told = refl }
+defaults_own _ order = refl
 
 -- ---- which options a kind has
 
 has : DeviceKind → ScanOption → Bool
-has Flatbed ThreePassOrder = false
-has Feeder ThreePassOrder = false
-has Flatbed HandScanner = false
-has Feeder HandScanner = false
-has Flatbed _ = true
-has Feeder _ = true
 has Hand NumOptions = true
 has Hand Mode = true
 has Hand Depth = true
@@ -50,13 +42,15 @@ has ThreePass ReadLimitSize = false
 has ThreePass ReadReturnValue = false
 has ThreePass HandScanner = false
 has ThreePass _ = true
+has _ ThreePassOrder = false
+has _ HandScanner = false
+has _ _ = true
 
 all_had : (k : DeviceKind) → AllByRecursion (λ o. has k o ≡ true) (options_of k)
 unfolding has
-all_had Flatbed = (refl, (refl, (refl, (refl, (refl, (refl, (refl, (refl, (refl, (refl, (refl, (refl, (refl, (refl, (refl, tt)))))))))))))))
-all_had Feeder = (refl, (refl, (refl, (refl, (refl, (refl, (refl, (refl, (refl, (refl, (refl, (refl, (refl, (refl, (refl, tt)))))))))))))))
 all_had Hand = (refl, (refl, (refl, (refl, (refl, tt)))))
 all_had ThreePass = (refl, (refl, (refl, (refl, (refl, (refl, (refl, (refl, (refl, (refl, (refl, (refl, (refl, tt)))))))))))))
+all_had _ = (refl, (refl, (refl, (refl, (refl, (refl, (refl, (refl, (refl, (refl, (refl, (refl, (refl, (refl, (refl, tt)))))))))))))))
 
 at_place : {A : Type 0} (P : A → Type 0) (xs : List A) (n : ℕ) (x : A) → AllByRecursion P xs → slice_get xs n ≡ Some x → P x
 at_place P [] n x all e = absurd (let clash : None ≡ Some x = e in cc)
@@ -67,16 +61,6 @@ at_place P (y ∷ ys) (suc n) x all e = at_place P ys n x all.1 e
 
 number_own : (k : DeviceKind) (s : Setup) (o : ScanOption) (n : ℕ) → has k o ≡ true → HasOwnAlone k s → HasOwnAlone k (with_number s o n)
 unfolding has
-number_own Flatbed s Depth n e h = h
-number_own Feeder s Depth n e h = h
-number_own Flatbed s Resolution n e h = h
-number_own Feeder s Resolution n e h = h
-number_own Flatbed s PplLoss n e h = h
-number_own Feeder s PplLoss n e h = h
-number_own Flatbed s ReadLimitSize n e h = h
-number_own Feeder s ReadLimitSize n e h = h
-number_own Flatbed s _ n e h = h
-number_own Feeder s _ n e h = h
 number_own Hand s Depth n e h = (h.0, record { loss = h.1.loss; limit = h.1.limit; told = h.1.told }, record { gamma = h.2.gamma; channels = h.2.channels; tl_x = h.2.tl_x; tl_y = h.2.tl_y; br_x = h.2.br_x; br_y = h.2.br_y })
 number_own Hand s Resolution n e h = (h.0, record { loss = h.1.loss; limit = h.1.limit; told = h.1.told }, record { gamma = h.2.gamma; channels = h.2.channels; tl_x = h.2.tl_x; tl_y = h.2.tl_y; br_x = h.2.br_x; br_y = h.2.br_y })
 number_own Hand s PplLoss n e h = absurd cc
@@ -87,19 +71,14 @@ number_own ThreePass s Resolution n e h = record { loss = h.loss; limit = h.limi
 number_own ThreePass s PplLoss n e h = absurd cc
 number_own ThreePass s ReadLimitSize n e h = absurd cc
 number_own ThreePass s _ n e h = h
+number_own _ s Depth n e h = h
+number_own _ s Resolution n e h = h
+number_own _ s PplLoss n e h = h
+number_own _ s ReadLimitSize n e h = h
+number_own _ s _ n e h = h
 
 length_own : (k : DeviceKind) (s : Setup) (o : ScanOption) (l : Length) → has k o ≡ true → HasOwnAlone k s → HasOwnAlone k (with_length s o l)
 unfolding has
-length_own Flatbed s TlX l e h = h
-length_own Feeder s TlX l e h = h
-length_own Flatbed s TlY l e h = h
-length_own Feeder s TlY l e h = h
-length_own Flatbed s BrX l e h = h
-length_own Feeder s BrX l e h = h
-length_own Flatbed s BrY l e h = h
-length_own Feeder s BrY l e h = h
-length_own Flatbed s _ l e h = h
-length_own Feeder s _ l e h = h
 length_own Hand s TlX l e h = absurd cc
 length_own Hand s TlY l e h = absurd cc
 length_own Hand s BrX l e h = absurd cc
@@ -110,19 +89,14 @@ length_own ThreePass s TlY l e h = record { loss = h.loss; limit = h.limit; told
 length_own ThreePass s BrX l e h = record { loss = h.loss; limit = h.limit; told = h.told }
 length_own ThreePass s BrY l e h = record { loss = h.loss; limit = h.limit; told = h.told }
 length_own ThreePass s _ l e h = h
+length_own _ s TlX l e h = h
+length_own _ s TlY l e h = h
+length_own _ s BrX l e h = h
+length_own _ s BrY l e h = h
+length_own _ s _ l e h = h
 
 table_own : (k : DeviceKind) (s : Setup) (o : ScanOption) (t : List ℕ) → has k o ≡ true → HasOwnAlone k s → HasOwnAlone k (with_table s o t)
 unfolding has
-table_own Flatbed s GammaTable t e h = h
-table_own Feeder s GammaTable t e h = h
-table_own Flatbed s RedGammaTable t e h = h
-table_own Feeder s RedGammaTable t e h = h
-table_own Flatbed s GreenGammaTable t e h = h
-table_own Feeder s GreenGammaTable t e h = h
-table_own Flatbed s BlueGammaTable t e h = h
-table_own Feeder s BlueGammaTable t e h = h
-table_own Flatbed s _ t e h = h
-table_own Feeder s _ t e h = h
 table_own Hand s GammaTable t e h = absurd cc
 table_own Hand s RedGammaTable t e h = absurd cc
 table_own Hand s GreenGammaTable t e h = absurd cc
@@ -133,6 +107,11 @@ table_own ThreePass s RedGammaTable t e h = record { loss = h.loss; limit = h.li
 table_own ThreePass s GreenGammaTable t e h = record { loss = h.loss; limit = h.limit; told = h.told }
 table_own ThreePass s BlueGammaTable t e h = record { loss = h.loss; limit = h.limit; told = h.told }
 table_own ThreePass s _ t e h = h
+table_own _ s GammaTable t e h = h
+table_own _ s RedGammaTable t e h = h
+table_own _ s GreenGammaTable t e h = h
+table_own _ s BlueGammaTable t e h = h
+table_own _ s _ t e h = h
 
 -- a choice that is of an option of the kind
 abbrev IsChoice : DeviceKind → Choice → Type 0
@@ -142,18 +121,15 @@ IsChoice k (choice.ReadStatus _) = has k ReadReturnValue ≡ true
 
 choice_own : (k : DeviceKind) (s : Setup) (c : Choice) → IsChoice k c → HasOwnAlone k s → HasOwnAlone k (with_choice s c)
 unfolding has
-choice_own Flatbed s (choice.Mode m) i h = h
-choice_own Feeder s (choice.Mode m) i h = h
-choice_own Flatbed s (choice.Passes p) i h = absurd cc
-choice_own Feeder s (choice.Passes p) i h = absurd cc
-choice_own Flatbed s (choice.ReadStatus t) i h = h
-choice_own Feeder s (choice.ReadStatus t) i h = h
 choice_own Hand s (choice.Mode m) i h = (h.0, record { loss = h.1.loss; limit = h.1.limit; told = h.1.told }, record { gamma = h.2.gamma; channels = h.2.channels; tl_x = h.2.tl_x; tl_y = h.2.tl_y; br_x = h.2.br_x; br_y = h.2.br_y })
 choice_own Hand s (choice.Passes p) i h = absurd cc
 choice_own Hand s (choice.ReadStatus t) i h = absurd cc
 choice_own ThreePass s (choice.Mode m) i h = record { loss = h.loss; limit = h.limit; told = h.told }
 choice_own ThreePass s (choice.Passes p) i h = record { loss = h.loss; limit = h.limit; told = h.told }
 choice_own ThreePass s (choice.ReadStatus t) i h = absurd cc
+choice_own _ s (choice.Mode m) i h = h
+choice_own _ s (choice.Passes p) i h = absurd cc
+choice_own _ s (choice.ReadStatus t) i h = h
 
 chosen_own : (k : DeviceKind) (s : Setup) (cs : List Choice) (text : List ℕ) → AllByRecursion (IsChoice k) cs → HasOwnAlone k s → HasOwnAlone k (with_chosen s (choice_of cs text))
 chosen_own k s [] text all h = h
@@ -166,14 +142,12 @@ chosen_own k s (c ∷ cs) text all h = pick (bytes_eq (choice_text c) text) (cho
 own_choices : (k : DeviceKind) (o : ScanOption) → has k o ≡ true → AllByRecursion (IsChoice k) (choices_of o)
 unfolding has
 own_choices k Mode e = (tt, (tt, tt))
-own_choices Flatbed ThreePassOrder e = absurd cc
-own_choices Feeder ThreePassOrder e = absurd cc
 own_choices Hand ThreePassOrder e = absurd cc
 own_choices ThreePass ThreePassOrder e = (refl, (refl, (refl, (refl, (refl, (refl, tt))))))
-own_choices Flatbed ReadReturnValue e = (refl, (refl, (refl, (refl, (refl, (refl, (refl, (refl, (refl, (refl, (refl, (refl, tt))))))))))))
-own_choices Feeder ReadReturnValue e = (refl, (refl, (refl, (refl, (refl, (refl, (refl, (refl, (refl, (refl, (refl, (refl, tt))))))))))))
 own_choices Hand ReadReturnValue e = absurd cc
 own_choices ThreePass ReadReturnValue e = absurd cc
+own_choices _ ThreePassOrder e = absurd cc
+own_choices _ ReadReturnValue e = (refl, (refl, (refl, (refl, (refl, (refl, (refl, (refl, (refl, (refl, (refl, (refl, tt))))))))))))
 own_choices k _ e = tt
 
 value_own : (k : DeviceKind) (s : Setup) (o : ScanOption) (v : Value) → has k o ≡ true → HasOwnAlone k s → HasOwnAlone k (with_value s o v)

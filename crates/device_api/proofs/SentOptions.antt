@@ -16,7 +16,7 @@ use Rattle.option_desc.specs.declared.value.Value.{Value}
 use Rattle.option_desc.specs.declared.value.Value.TheVariants.{Flag, Int, Fixed, Text}
 use Rattle.option_desc.specs.Put.{NearestText, NearestWord}
 use Rattle.page_picture.specs.declared.scene.DeviceKind.{DeviceKind}
-use Rattle.page_picture.specs.declared.scene.DeviceKind.TheVariants.{Flatbed, Hand, ThreePass, Feeder}
+use Rattle.page_picture.specs.declared.scene.DeviceKind.TheVariants.{Hand, ThreePass}
 use Rattle.page_picture.specs.declared.scene.Mode.TheVariants.{Gray, Color}
 use Rattle.scan_frames.specs.declared.setup.PassOrder.TheVariants.{Rgb, Rbg, Gbr, Grb, Brg, Bgr}
 use Rattle.scan_frames.specs.declared.setup.Setup.{Setup}
@@ -68,16 +68,13 @@ small : (n : ℕ) → n < 2 ^ 31 → FitsSigned w32 (pos n)
 small n low = record { sfits = omega (arith, low) }
 
 depths_bounded : (kind : DeviceKind) → NearestFits (WordsOf (depths_of kind))
-depths_bounded Flatbed = words_bounded (depths_of Flatbed) (small 1 (omega arith), (small 8 (omega arith), (small 16 (omega arith), tt)))
 depths_bounded Hand = words_bounded (depths_of Hand) (small 1 (omega arith), (small 8 (omega arith), tt))
 depths_bounded ThreePass = words_bounded (depths_of ThreePass) (small 8 (omega arith), (small 16 (omega arith), tt))
-depths_bounded Feeder = words_bounded (depths_of Feeder) (small 1 (omega arith), (small 8 (omega arith), (small 16 (omega arith), tt)))
+depths_bounded kind = words_bounded (depths_of kind) (small 1 (omega arith), (small 8 (omega arith), (small 16 (omega arith), tt)))
 
 resolutions_bounded : (kind : DeviceKind) → NearestFits (resolutions_of kind)
-resolutions_bounded Flatbed = span_bounded 1 1 1200 (omega arith) (omega arith)
 resolutions_bounded Hand = words_bounded (pos 75 ∷ pos 100 ∷ pos 150 ∷ pos 300 ∷ []) (small 75 (omega arith), (small 100 (omega arith), (small 150 (omega arith), (small 300 (omega arith), tt))))
-resolutions_bounded ThreePass = span_bounded 1 1 1200 (omega arith) (omega arith)
-resolutions_bounded Feeder = span_bounded 1 1 1200 (omega arith) (omega arith)
+resolutions_bounded _ = span_bounded 1 1 1200 (omega arith) (omega arith)
 
 lengths_bounded : NearestFits lengths
 lengths_bounded = span_bounded 0 65536 (200 * 65536) (omega arith) (omega arith)
@@ -124,10 +121,8 @@ same_clear : (asked text : List ℕ) → HasNoNul asked → text ≡ asked → H
 same_clear asked text fine e = subst HasNoNul (sym e) fine
 
 resolutions_clear : (kind : DeviceKind) → NearestHasNoNul (resolutions_of kind)
-resolutions_clear Flatbed = same_clear
 resolutions_clear Hand = same_clear
-resolutions_clear ThreePass = same_clear
-resolutions_clear Feeder = same_clear
+resolutions_clear _ = same_clear
 
 pub texts_have_no_nul : (kind : DeviceKind) (o : ScanOption) → NearestHasNoNul (option_constraint kind o)
 texts_have_no_nul kind NumOptions = same_clear
@@ -154,10 +149,8 @@ between_fits : (low high : ℕ) (w : ℤ) → high < 2 ^ 31 → IsBetween low hi
 between_fits low high w most h = let top : h.number < 2 ^ 31 = omega (arith, most, h.high_is) in subst (FitsSigned w32) (sym h.is) (small h.number top)
 
 options_few : (kind : DeviceKind) → length (options_of kind) < 2 ^ 31
-options_few Flatbed = omega arith
 options_few Hand = omega arith
-options_few ThreePass = omega arith
-options_few Feeder = omega arith
+options_few _ = omega arith
 
 depth_low : (n : ℕ) → (n ≡ 1) ⊎ ((n ≡ 8) ⊎ (n ≡ 16)) → n < 2 ^ 31
 depth_low n (inl e) = omega (arith, e)

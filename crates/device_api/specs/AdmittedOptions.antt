@@ -5,7 +5,8 @@ use Rattle.option_desc.specs.declared.value.Value.{Value}
 use Rattle.option_desc.specs.declared.value.Value.TheVariants.{Flag, Int, Fixed, Words, Text}
 use Rattle.page_picture.specs.declared.scene.DeviceKind.{DeviceKind}
 use Rattle.device_api.specs.Options.{choice_text, choices_of}
-use Rattle.device_api.specs.ScannerLimits.{IsBetween, IsOnBed, greatest_resolution}
+use Rattle.device_api.specs.Kinds.{greatest_resolution}
+use Rattle.device_api.specs.ScannerLimits.{IsBetween, IsOnBed}
 use Rattle.device_api.specs.declared.scan_option.ScanOption.{ScanOption}
 use Rattle.device_api.specs.declared.scan_option.ScanOption.TheVariants.{NumOptions, Depth, Resolution, TlX, TlY, BrX, BrY, GammaTable, RedGammaTable, GreenGammaTable, BlueGammaTable, PplLoss, ReadLimitSize, HandScanner}
 

@@ -1,6 +1,7 @@
 pub mod Options
 pub mod Values
 pub mod State
+pub mod Kinds
 pub mod InForce
 pub mod ScannerLimits
 pub mod AdmittedOptions

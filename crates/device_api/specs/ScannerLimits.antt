@@ -3,10 +3,9 @@ use Rattle.std.specs.Prelude.{◌≡◌, ◌≢◌, ◌≤◌, ◌<◌, ◌*◌,
 use Rattle.sane_fixed.specs.declared.fixed.Fixed.{Fixed as Length}
 use Rattle.sane_fixed.specs.declared.status.Status.TheVariants.{Good}
 use Rattle.page_picture.specs.Page.{IsShaped, IsPageView}
-use Rattle.page_picture.specs.declared.scene.DeviceKind.{DeviceKind}
-use Rattle.page_picture.specs.declared.scene.DeviceKind.TheVariants.{Flatbed, Hand, ThreePass, Feeder}
 use Rattle.scan_frames.specs.Frames.{IsSetup}
 use Rattle.scan_frames.specs.declared.setup.Setup.{Setup}
+use Rattle.device_api.specs.Kinds.{greatest_resolution}
 use Rattle.device_api.specs.State.{DeviceState, HeldPage, feeds, tray_room}
 
 -- a whole number in these bounds
@@ -19,13 +18,6 @@ pub record IsBetween (low high : ℕ) (word : ℤ) : Type 0 where
 -- 0 to 200 mm
 abbrev pub IsOnBed : Length → Type 0
 IsOnBed length = IsBetween 0 (200 * 65536) length.0
-
--- dots per inch
-abbrev pub greatest_resolution : DeviceKind → ℕ
-greatest_resolution Flatbed = 1200
-greatest_resolution Hand = 300
-greatest_resolution ThreePass = 1200
-greatest_resolution Feeder = 1200
 
 pub record IsAllowed (s : Setup) : Type 0 where
   pub limits : IsSetup s

@@ -7,11 +7,10 @@ use Rattle.sane_fixed.specs.declared.status.Status.TheVariants.{Good, Unsupporte
 use Rattle.option_desc.specs.declared.value.Value.{Value}
 use Rattle.page_picture.specs.Page.{PageView}
 use Rattle.page_picture.specs.Source.{SourceState, CountsFailure}
-use Rattle.page_picture.specs.declared.scene.DeviceKind.{DeviceKind}
-use Rattle.page_picture.specs.declared.scene.DeviceKind.TheVariants.{Flatbed, Hand, ThreePass, Feeder}
 use Rattle.scan_frames.specs.Frames.{has_picture, last_pass, payload, pass_length, params_at, params_without}
 use Rattle.scan_frames.specs.declared.setup.Setup.{Setup}
 use Rattle.sane_fixed.specs.declared.device_info.DeviceInfo.{DeviceInfo}
+use Rattle.device_api.specs.Kinds.{is_feeder}
 use Rattle.device_api.specs.Values.{defaults, option_got, option_set, setup_after}
 
 -- where a device is in a scan
@@ -41,12 +40,6 @@ pub record DeviceState : Type 0 where
   pub setup : Setup
   pub pages : List HeldPage
   pub phase : Phase
-
-abbrev pub is_feeder : DeviceKind → Bool
-is_feeder Flatbed = false
-is_feeder Hand = false
-is_feeder ThreePass = false
-is_feeder Feeder = true
 
 abbrev pub feeds : DeviceState → Bool
 feeds s = is_feeder s.setup.scene.kind

@@ -4,6 +4,7 @@
 mod boxed;
 mod choice;
 mod device;
+mod kinds;
 mod laws;
 mod matching;
 mod scan_option;
@@ -13,6 +14,7 @@ mod values;
 
 pub use choice::Choice;
 pub use device::Device;
+pub use kinds::{class_name, is_feeder, model_name};
 pub use laws::{
     a_refused_start_takes_no_page, a_scanner_stays_what_it_is, a_set_changes_one_option,
     reload_tells_of_changed_descriptors, same_values_are_equal, settings_are_put_as_they_are_set,

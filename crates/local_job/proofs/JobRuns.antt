@@ -6,7 +6,8 @@ use Rattle.sane_fixed.specs.declared.status.Status.TheVariants.{Inval, NoDocs}
 use Rattle.scan_frames.specs.declared.setup.Setup.{Setup}
 use Rattle.scan_frames.specs.Frames.{has_picture}
 use Rattle.device_api.specs.InForce.{Placement, force, in_force}
-use Rattle.device_api.specs.State.{DeviceState, HeldPage, Phase, AtRest, Between, Reading, after_cancel, after_reset, cancelled_in, feeds, is_at_rest, is_feeder, left_behind, page_of, state_at_rest, with_defaults, with_setup}
+use Rattle.device_api.specs.Kinds.{is_feeder}
+use Rattle.device_api.specs.State.{DeviceState, HeldPage, Phase, AtRest, Between, Reading, after_cancel, after_reset, cancelled_in, feeds, is_at_rest, left_behind, page_of, state_at_rest, with_defaults, with_setup}
 use Rattle.device_api.specs.Values.{defaults}
 use Rattle.scan_job.specs.declared.job.Job.{Job}
 use Rattle.scan_job.specs.declared.job.Task.{Task}

@@ -10,12 +10,11 @@ use Rattle.std.proofs.Common.{Result, Ok, Err}
 use Rattle.page_picture.specs.Page.{PageView, IsPageView}
 use Rattle.page_picture.specs.Meaning.{meaning_of, picture_of}
 use Rattle.page_picture.specs.Shows.{Frame, ShowsFrames}
-use Rattle.page_picture.specs.declared.scene.DeviceKind.{DeviceKind}
-use Rattle.page_picture.specs.declared.scene.DeviceKind.TheVariants.{Flatbed, Hand, ThreePass, Feeder}
 use Rattle.scan_frames.specs.Frames.{IsSetup, has_picture, frames_of, payload, pass_length, params_at, lines_in_params, if_picture, bytes_per_line, last_pass, width_of, height_of}
 use Rattle.scan_frames.specs.declared.setup.Setup.{Setup}
 use Rattle.device_api.specs.ScannerLimits.{HasLimits}
 use Rattle.device_api.specs.State.{DeviceState, Phase, AtRest, Between, Reading, is_reading, with_phase, after_pass, params_of, params_in, reported_pass, goes_to, next_pass, HeldPage, Starts, StartsIn, StartsOn, StartsFrame, page_of, steady_of}
+use Rattle.device_api.proofs.KindLaws.{lines_or_none}
 use Rattle.device_api.proofs.RunLaws.{length-payload}
 use Rattle.frame_join.specs.FrameHistory.{JoinHistory, IsJoined, after_pull, is_accepted, is_full, is_full_at, is_joined}
 use Rattle.frame_join.specs.JoinStates.{JoinState, Represents}
@@ -46,14 +45,12 @@ meaning_is s page there = rw there refl
 
 -- ---- a pass that is full has all its bytes
 
-by_kind : {P : Type 0} (kind : DeviceKind) (height line size all : ℕ) → all ≡ height * line → is_full_at (lines_in_params kind height) line size ≡ true → (size ≡ all) ⊎ ((size ≡ 0) × P) → size ≡ all
-by_kind Flatbed height line size all e full either = eqb-true size (height * line) full ∙ sym e
-by_kind Feeder height line size all e full either = eqb-true size (height * line) full ∙ sym e
-by_kind ThreePass height line size all e full either = eqb-true size (height * line) full ∙ sym e
-by_kind Hand height line size all e full (inl is) = is
-by_kind Hand height line size all e full (inr none) =
+by_told : {P : Type 0} (told : Option ℕ) (height line size all : ℕ) → (told ≡ Some height) ⊎ (told ≡ None) → all ≡ height * line → is_full_at told line size ≡ true → (size ≡ all) ⊎ ((size ≡ 0) × P) → size ≡ all
+by_told told height line size all (inl known) e full either = eqb-true size (height * line) (sym (ap (λ (t : Option ℕ). is_full_at t line size) known) ∙ full) ∙ sym e
+by_told told height line size all (inr untold) e full (inl is) = is
+by_told told height line size all (inr untold) e full (inr none) =
     let nothing : size / line ≡ 0 = ap (λ (n : ℕ). n / line) none.0 ∙ (let least : 0 / line ≤ 0 = div-le_of_le-mul line (omega arith) in omega (arith, least)) in
-    absurd (let clash : false ≡ true = rw nothing at full in cc)
+    absurd (let clash : false ≡ true = rw (untold, nothing) at full in cc)
 
 full_size : (s : Setup) (page : PageView) (pass given : ℕ) (bytes : List ℕ) → has_picture s page ≡ true → is_full (bytes_of_pass s page pass bytes) ≡ true → length bytes ≡ given
     → (given ≡ pass_length s page pass) ⊎ ((given ≡ 0) × (s.told ≡ Some Eof)) → given ≡ pass_length s page pass
@@ -65,7 +62,7 @@ full_size s page pass given bytes there full count either =
     ap (λ (n : ℕ). is_full_at (lines_in_params s.scene.kind (height_of s page)) (bytes_per_line s pass) n) (sym count)
     ∙ ap (λ (n : ℕ). is_full_at (lines_in_params s.scene.kind (height_of s page)) n (length bytes)) (sym line)
     ∙ ap (λ (l : Option ℕ). is_full_at l params.bytes_per_line (length bytes)) (sym lines) ∙ full in
-    by_kind s.scene.kind (height_of s page) (bytes_per_line s pass) given (pass_length s page pass) refl told either
+    by_told (lines_in_params s.scene.kind (height_of s page)) (height_of s page) (bytes_per_line s pass) given (pass_length s page pass) (lines_or_none s.scene.kind (height_of s page)) refl told either
 
 whole_bytes : (s : DeviceState) (pass given : ℕ) (bytes : List ℕ) → has_picture s.setup (page_of s) ≡ true → is_full (bytes_of_pass s.setup (page_of s) pass bytes) ≡ true → length bytes ≡ given
     → IsAllOrNone s pass given → ((steady_of s) ≡ true → bytes ≡ take given (payload s.setup (page_of s) pass)) → (steady_of s) ≡ true → bytes ≡ payload s.setup (page_of s) pass

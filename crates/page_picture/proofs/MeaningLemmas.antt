@@ -13,7 +13,7 @@ use Rattle.page_picture.specs.declared.scene.Mode.{Mode}
 use Rattle.page_picture.specs.declared.scene.Mode.TheVariants.{Gray, Color}
 use Rattle.page_picture.specs.declared.scene.Scene.{Scene}
 use Rattle.page_picture.specs.declared.scene.DeviceKind.{DeviceKind}
-use Rattle.page_picture.specs.declared.scene.DeviceKind.TheVariants.{Flatbed, Hand, ThreePass, Feeder}
+use Rattle.page_picture.specs.declared.scene.DeviceKind.TheVariants.{Hand}
 use Rattle.page_picture.specs.Extent.{extent_of, across, down, is_side, shows_depth, hand_width, IsInside, lines_over}
 use Rattle.page_picture.specs.Seen.{dot_at, seen_at}
 use Rattle.page_picture.specs.Tone.{brightness, in_channel, tone}
@@ -29,10 +29,8 @@ resolution_from_px length zero h = absurd (omega (arith, px_of-zero length))
 resolution_from_px length (suc r) h = omega arith
 
 pub resolution_from_across : (kind : DeviceKind) (scene : Scene) → 1 ≤ across kind scene → 1 ≤ scene.resolution
-resolution_from_across Flatbed scene h = resolution_from_px _ scene.resolution h
-resolution_from_across ThreePass scene h = resolution_from_px _ scene.resolution h
-resolution_from_across Feeder scene h = resolution_from_px _ scene.resolution h
 resolution_from_across Hand scene h = resolution_from_px hand_width scene.resolution h
+resolution_from_across _ scene h = resolution_from_px _ scene.resolution h
 
 pub side_from_test : (n : ℕ) → is_side n ≡ true → (1 ≤ n) × (n ≤ 65536)
 side_from_test n h = let p = and_parts (nat_le 1 n) (nat_le n 65536) h in (grind (arith, nat_tests), grind (arith, nat_tests))

@@ -17,7 +17,7 @@ use Rattle.page_picture.specs.Meaning.{channels_in, sample_of, picture_of}
 use Rattle.page_picture.specs.Extent.{shows_depth}
 use Rattle.page_picture.specs.Shows.{Frame, two_bytes, frame_sample, channels_within, channels_alone, color_of, row_size, IsDepth, HasLineShape, HasLines, FitsPicture, ShowsAlone, ShowsColor, ShowsColors, ShowsFrames}
 use Rattle.page_picture.specs.declared.scene.DeviceKind.{DeviceKind}
-use Rattle.page_picture.specs.declared.scene.DeviceKind.TheVariants.{Flatbed, Hand, ThreePass, Feeder}
+use Rattle.page_picture.specs.declared.scene.DeviceKind.TheVariants.{Hand, ThreePass}
 use Rattle.page_picture.specs.declared.scene.Mode.{Mode}
 use Rattle.page_picture.specs.declared.scene.Mode.TheVariants.{Gray, Color}
 use Rattle.page_picture.specs.declared.scene.Scene.{Scene}
@@ -239,10 +239,8 @@ line_shape setup page pass is has =
     }
 
 has_lines : (kind : DeviceKind) (n : ℕ) → HasLines (lines_in_params kind n) n
-has_lines Flatbed n = refl
 has_lines Hand n = tt
-has_lines ThreePass n = refl
-has_lines Feeder n = refl
+has_lines _ n = refl
 
 -- the picture that the frames are to show
 abbrev pub meant : Setup → PageView → Picture
@@ -386,11 +384,9 @@ by_kind kind mode setup page k m is picture has =
     cases kind mode alone three
   where
     cases : (kind : DeviceKind) (mode : Mode) → (takes_colors kind mode ≡ false → ShowsFrames (frames_of setup page) (meant setup page)) → (kind ≡ ThreePass → mode ≡ Color → ShowsFrames (frames_of setup page) (meant setup page)) → ShowsFrames (frames_of setup page) (meant setup page)
-    cases Flatbed mode alone three = alone refl
-    cases Hand mode alone three = alone refl
-    cases Feeder mode alone three = alone refl
     cases ThreePass Gray alone three = alone refl
     cases ThreePass Color alone three = three refl refl
+    cases _ mode alone three = alone refl
 
 pub shows_frames : (setup : Setup) (page : PageView) → IsSetup setup → IsPageView page → ((i : ℕ) → slice_index setup.scene.gamma i < 2 ^ 8) → AreBytes setup.scene.channel_gamma → has_picture setup page ≡ true → ShowsFrames (frames_of setup page) (meant setup page)
 shows_frames setup page is page_view table channels has =

@@ -18,7 +18,7 @@ use Rattle.sane_fixed.specs.declared.frame_format.FrameFormat.TheVariants.{Gray 
 use Rattle.scan_frames.specs.declared.setup.Packing.{Packing}
 use Rattle.scan_frames.specs.declared.setup.Packing.TheVariants.{Bits, Bytes, Words}
 use Rattle.page_picture.specs.declared.scene.DeviceKind.{DeviceKind}
-use Rattle.page_picture.specs.declared.scene.DeviceKind.TheVariants.{Flatbed, Hand, ThreePass, Feeder}
+use Rattle.page_picture.specs.declared.scene.DeviceKind.TheVariants.{ThreePass}
 use Rattle.scan_frames.specs.declared.setup.Setup.{Setup}
 use Rattle.scan_frames.specs.Line.{packing_of, line_byte, numbers, line_of, half}
 use Rattle.scan_frames.specs.Frames.{channel_in, color_at, format_at, frame_format_of, takes_colors}
@@ -168,10 +168,8 @@ gray_format kind s pass of mode =
     ∙ by_kind kind
   where
     by_kind : (kind : DeviceKind) → (if takes_colors kind Gray then color_at s.passes pass else GrayFrame) ≡ GrayFrame
-    by_kind Flatbed = refl
-    by_kind Hand = refl
     by_kind ThreePass = refl
-    by_kind Feeder = refl
+    by_kind _ = refl
 
 pub grays_line : (order : ByteOrder) (format : FrameFormat) (scene : Scene) (row places : List ℕ) (columns : Columns) (line : List ℕ) (n : ℕ) → packing_of scene.depth ≡ Bytes → scene.mode ≡ Gray → format ≡ GrayFrame → length line ≡ n → length places ≡ columns.count → ArePlaces columns places → ((x : ℕ) → x < length places → slice_index line x ≡ slice_index scene.gamma (gray_in row (slice_index places x) / 256)) → HasZeros (packing_of scene.depth) (channels_within format * columns.count) line → IsLine order format scene row columns line n
 grays_line order format scene row places columns line n is mode gray size count each here zeros =

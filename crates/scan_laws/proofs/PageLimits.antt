@@ -6,7 +6,8 @@ use Rattle.std.proofs.lemmas.List.Elements.{All-nil, All-cons, All-head, All-tai
 use Rattle.page_picture.specs.Source.{SourceState}
 use Rattle.scan_frames.specs.declared.setup.Setup.{Setup}
 use Rattle.device_api.specs.ScannerLimits.{HasLimits, IsAllowed, IsHeldPage, IsPageCount}
-use Rattle.device_api.specs.State.{DeviceState, HeldPage, Phase, after_cancel, after_load, after_reset, cancelled_in, with_failure_count, feeds, held_from, is_at_rest, is_feeder, left_behind, pages_with, takes_page, tray_room}
+use Rattle.device_api.specs.Kinds.{is_feeder}
+use Rattle.device_api.specs.State.{DeviceState, HeldPage, Phase, after_cancel, after_load, after_reset, cancelled_in, with_failure_count, feeds, held_from, is_at_rest, left_behind, pages_with, takes_page, tray_room}
 use Rattle.device_api.specs.State.Phase.{AtRest, Between, Reading}
 use Rattle.device_api.specs.Values.{defaults}
 use Rattle.device_api.proofs.AllowedLaws.{defaults_allowed}

@@ -1,18 +1,11 @@
 -- How many bytes a scan has at most.
-use Rattle.std.proofs.Common.{◌≡◌, ◌≤◌, ◌+◌, ◌*◌, ◌∙◌, sym, ap, subst, refl, ℕ, ℤ, pos, negsuc, Bool, true, false, List, [], ◌∷◌, length, arith}
-use Rattle.std.specs.Prelude.{◌+ℤ◌, ◌-ℤ◌, ◌==◌, if◌then◌else◌}
-use Rattle.std.proofs.Math.IntN.{pos-+ℤ-pos, -ℤ-+ℤ_cancel}
+use Rattle.std.proofs.Common.{◌≡◌, ◌≤◌, ◌+◌, ◌*◌, ◌∙◌, ap, refl, ℕ, Bool, true, false, List, [], ◌∷◌, length, arith}
+use Rattle.std.specs.Prelude.{◌==◌, if◌then◌else◌}
 use Rattle.std.proofs.lemmas.Nat.{mul-le}
-use Rattle.sane_fixed.specs.Length.{px_of}
-use Rattle.sane_fixed.specs.declared.fixed.Fixed.{Fixed as Length}
 use Rattle.sane_fixed.specs.declared.frame_format.FrameFormat.{FrameFormat}
 use Rattle.sane_fixed.specs.declared.frame_format.FrameFormat.TheVariants.{Gray as GrayFrame, Rgb as RgbFrame, Red as RedFrame, Green as GreenFrame, Blue as BlueFrame}
 use Rattle.page_picture.specs.Page.{PageView}
-use Rattle.page_picture.specs.Extent.{across, down, hand_width}
 use Rattle.page_picture.specs.Shows.{Frame, channels_within}
-use Rattle.page_picture.specs.declared.scene.DeviceKind.{DeviceKind}
-use Rattle.page_picture.specs.declared.scene.DeviceKind.TheVariants.{Flatbed, Hand, ThreePass, Feeder}
-use Rattle.page_picture.specs.declared.scene.DeviceKind.TheVariants.{Feeder, Hand, ThreePass}
 use Rattle.scan_frames.specs.Frames.{bytes_per_line, color_at, format_at, frame_format_of, nth_color, frame_of, frames_of, has_picture, height_of, payload, takes_colors, width_of}
 use Rattle.scan_frames.specs.Line.{packing_of, line_size}
 use Rattle.scan_frames.specs.declared.setup.Packing.{Packing}
@@ -20,29 +13,10 @@ use Rattle.scan_frames.specs.declared.setup.Packing.TheVariants.{Bits, Bytes, Wo
 use Rattle.scan_frames.specs.declared.setup.PassOrder.{PassOrder}
 use Rattle.scan_frames.specs.declared.setup.PassOrder.TheVariants.{Rgb, Rbg, Gbr, Grb, Brg, Bgr}
 use Rattle.scan_frames.specs.declared.setup.Setup.{Setup}
-use Rattle.scan_frames.proofs.Frames.{has_sides}
-use Rattle.device_api.specs.ScannerLimits.{IsAllowed, IsOnBed, greatest_resolution}
+use Rattle.device_api.specs.ScannerLimits.{IsAllowed}
+use Rattle.device_api.proofs.KindLaws.{sides_most}
 use Rattle.device_api.proofs.RunLaws.{length-payload}
 use Rattle.scan_laws.specs.Weights.{weight, greatest_weight}
-
--- ---- the sides of a picture
-
--- a length of at most 200 mm has at most 9,448 dots
-dots : (z : ℤ) (a b r : ℕ) → z ≡ pos a -ℤ pos b → a ≤ 200 * 65536 → r ≤ 1200 → px_of z r ≤ 9448
-dots (pos n) a b r e few low =
-    let sum : pos (n + b) ≡ pos a = sym (pos-+ℤ-pos n b) ∙ ap (λ (z : ℤ). z +ℤ pos b) e ∙ -ℤ-+ℤ_cancel (pos a) (pos b) in
-    let all : n + b ≡ a = cc in
-    let less : n ≤ a = omega arith in
-    let most : n * r ≤ 13107200 * 1200 = mul-le n r 13107200 1200 (omega arith) low in
-    omega arith
-dots (negsuc n) a b r e few low = omega arith
-
-bed : (from to : Length) (r : ℕ) → IsOnBed from → IsOnBed to → r ≤ 1200 → px_of (to.0 -ℤ from.0) r ≤ 9448
-bed from to r a b low =
-    dots (to.0 -ℤ from.0) b.number a.number r (ap (λ (z : ℤ). z -ℤ from.0) b.is ∙ ap (λ (z : ℤ). pos b.number -ℤ z) a.is) b.high_is low
-
-hand : (r : ℕ) → r ≤ 300 → px_of hand_width r ≤ 1299
-hand r low = omega arith
 
 -- ---- the bytes of a line
 
@@ -58,28 +32,6 @@ line_by Words RgbFrame pixels = omega arith
 line_by Words RedFrame pixels = omega arith
 line_by Words GreenFrame pixels = omega arith
 line_by Words BlueFrame pixels = omega arith
-
--- the lines of a picture and the bytes of a line of it, by the kind of scanner
-height_by : (kind : DeviceKind) (s : Setup) (page : PageView) → s.scene.kind ≡ kind → IsAllowed s → has_picture s page ≡ true → (w h : ℕ) × (width_of s ≤ w) × (height_of s page ≤ h) × (h * (6 * (w + 64)) ≤ greatest_weight)
-height_by Flatbed s page is a there =
-    let r = a.limits.resolution_most in
-    let w : width_of s ≤ 9448 = subst (λ (k : DeviceKind). across k s.scene ≤ 9448) (sym is) (bed s.scene.tl_x s.scene.br_x s.scene.resolution a.tl_x a.br_x r) in
-    let h : height_of s page ≤ 9448 = subst (λ (k : DeviceKind). down k page.height page.dpi s.scene ≤ 9448) (sym is) (bed s.scene.tl_y s.scene.br_y s.scene.resolution a.tl_y a.br_y r) in
-    (9448, 9448, w, h, omega arith)
-height_by Feeder s page is a there =
-    let r = a.limits.resolution_most in
-    let w : width_of s ≤ 9448 = subst (λ (k : DeviceKind). across k s.scene ≤ 9448) (sym is) (bed s.scene.tl_x s.scene.br_x s.scene.resolution a.tl_x a.br_x r) in
-    let h : height_of s page ≤ 9448 = subst (λ (k : DeviceKind). down k page.height page.dpi s.scene ≤ 9448) (sym is) (bed s.scene.tl_y s.scene.br_y s.scene.resolution a.tl_y a.br_y r) in
-    (9448, 9448, w, h, omega arith)
-height_by ThreePass s page is a there =
-    let r = a.limits.resolution_most in
-    let w : width_of s ≤ 9448 = subst (λ (k : DeviceKind). across k s.scene ≤ 9448) (sym is) (bed s.scene.tl_x s.scene.br_x s.scene.resolution a.tl_x a.br_x r) in
-    let h : height_of s page ≤ 9448 = subst (λ (k : DeviceKind). down k page.height page.dpi s.scene ≤ 9448) (sym is) (bed s.scene.tl_y s.scene.br_y s.scene.resolution a.tl_y a.br_y r) in
-    (9448, 9448, w, h, omega arith)
-height_by Hand s page is a there =
-    let r : s.scene.resolution ≤ 300 = subst (λ (k : DeviceKind). s.scene.resolution ≤ greatest_resolution k) is a.resolution in
-    let w : width_of s ≤ 1299 = subst (λ (k : DeviceKind). across k s.scene ≤ 1299) (sym is) (hand s.scene.resolution r) in
-    (1299, 65536, w, (has_sides s page there).height_most, omega arith)
 
 -- ---- all frames
 
@@ -142,6 +94,6 @@ all_by s page false w h e a wide high = let first = pass_by s page 0 w h a wide 
 pub weighs : (s : Setup) (page : PageView) → IsAllowed s → has_picture s page ≡ true → weight (frames_of s page) ≤ greatest_weight
 unfolding frames
 weighs s page a there =
-    let b = height_by s.scene.kind s page refl a there in
+    let b = sides_most s page a there in
     let most : weight (frames_of s page) ≤ b.1 * (6 * (b.0 + 64)) = all_by s page (takes_colors s.scene.kind s.scene.mode) b.0 b.1 refl a b.2 b.3 in
     omega (arith, most, b.4)

@@ -1,6 +1,6 @@
 -- A join takes the frames of a scan.
-use Rattle.std.proofs.Common.{◌≡◌, ◌<◌, ◌≤◌, ◌+◌, ◌*◌, ◌/◌, ◌++◌, ◌∙◌, sym, ap, refl, ℕ, Bool, true, false, List, [], ◌∷◌, length, replicate, length-append, arith}
-use Rattle.std.specs.Prelude.{nat_lt, nat_le, ◌==◌, ◌^◌, ◌&&◌, if◌then◌else◌, slice_index, Option, Some}
+use Rattle.std.proofs.Common.{◌≡◌, ◌<◌, ◌≤◌, ◌+◌, ◌*◌, ◌/◌, ◌++◌, ◌∙◌, sym, ap, refl, ℕ, Bool, true, false, List, [], ◌∷◌, length, replicate, length-append, arith, ◌⊎◌, inl, inr}
+use Rattle.std.specs.Prelude.{nat_lt, nat_le, ◌==◌, ◌^◌, ◌&&◌, if◌then◌else◌, slice_index, Option, Some, None}
 use Rattle.std.proofs.lemmas.Bool.Decides.{nat_tests}
 use Rattle.std.proofs.lemmas.List.{length-replicate, get_or-replicate, get_or_past}
 use Rattle.std.proofs.Math.Nat.{mul-le-mul_right, mul-div_cancel, zero-div, one-le-mul}
@@ -8,9 +8,6 @@ use Rattle.sane_fixed.specs.declared.frame_format.FrameFormat.{FrameFormat}
 use Rattle.sane_fixed.specs.declared.frame_format.FrameFormat.TheVariants.{Gray as GrayFrame, Rgb as RgbFrame, Red as RedFrame, Green as GreenFrame, Blue as BlueFrame}
 use Rattle.page_picture.specs.Page.{PageView, IsShaped, IsPageView}
 use Rattle.page_picture.specs.Shows.{Frame, ShowsFrames, channels_within}
-use Rattle.page_picture.specs.declared.scene.DeviceKind.{DeviceKind}
-use Rattle.page_picture.specs.declared.scene.DeviceKind.TheVariants.{Flatbed, Hand, ThreePass, Feeder}
-use Rattle.page_picture.specs.declared.scene.DeviceKind.TheVariants.{Feeder, Hand, ThreePass}
 use Rattle.page_picture.specs.declared.scene.Mode.{Mode}
 use Rattle.page_picture.specs.declared.scene.Mode.TheVariants.{Gray, Color}
 use Rattle.scan_frames.specs.Frames.{bytes_per_line, color_at, format_at, frame_format_of, frame_of, frames_of, has_picture, height_of, if_picture, lines_in_params, params_at, payload, takes_colors, width_of}
@@ -23,6 +20,7 @@ use Rattle.scan_frames.specs.declared.setup.Setup.{Setup}
 use Rattle.scan_frames.proofs.Frames.{has_sides}
 use Rattle.scan_frames.proofs.FramesShow.{meant, shows_frames}
 use Rattle.device_api.specs.ScannerLimits.{IsAllowed}
+use Rattle.device_api.proofs.KindLaws.{lines_or_none}
 use Rattle.device_api.proofs.RunLaws.{length-payload}
 use Rattle.frame_join.specs.AloneFrame.{is_alone_format, most_bytes, most_lines}
 use Rattle.page_picture.specs.Extent.{is_side as is_join_side}
@@ -103,7 +101,7 @@ some_bytes : (s : Setup) (page : PageView) (pass : ℕ) → has_picture s page �
 some_bytes s page pass there =
     some_size (packing_of s.scene.depth) (format_at s pass) (width_of s + s.loss) (let w = (has_sides s page there).width_some in omega arith)
 
--- the lines and the bytes of a line that are told of a frame, by the kind of scanner
+-- the lines and the bytes of a line that are told of a frame
 told_lines : (s : Setup) (page : PageView) (pass : ℕ) → has_picture s page ≡ true → (params_at s page pass).lines ≡ lines_in_params s.scene.kind (height_of s page)
 told_lines s page pass there = ap (λ (b : Bool). if b then lines_in_params s.scene.kind (height_of s page) else Some 0) there
 
@@ -120,25 +118,21 @@ side n low high = both (nat_le 1 n) (nat_le n 65536) (grind (arith, nat_tests)) 
     both true b e f = f
     both false b e f = e
 
-full_by : (kind : DeviceKind) (height line : ℕ) → 1 ≤ height → height ≤ 65536 → 1 ≤ line → is_full_at (lines_in_params kind height) line (height * line) ≡ true
-full_by Flatbed height line low high some = eq_true (height * line)
-full_by Feeder height line low high some = eq_true (height * line)
-full_by ThreePass height line low high some = eq_true (height * line)
-full_by Hand height line low high some =
+full_by : (told : Option ℕ) (height line : ℕ) → (told ≡ Some height) ⊎ (told ≡ None) → 1 ≤ height → height ≤ 65536 → 1 ≤ line → is_full_at told line (height * line) ≡ true
+full_by told height line (inl known) low high some = ap (λ (t : Option ℕ). is_full_at t line (height * line)) known ∙ eq_true (height * line)
+full_by told height line (inr untold) low high some =
     let back : height * line / line ≡ height = mul-div_cancel height (omega arith) in
-    ap (λ (n : ℕ). is_join_side n && (height * line == n * line)) back ∙ (let is = side height low high in let same = eq_true (height * line) in rw (is, same) refl)
+    ap (λ (t : Option ℕ). is_full_at t line (height * line)) untold
+    ∙ ap (λ (n : ℕ). is_join_side n && (height * line == n * line)) back ∙ (let is = side height low high in let same = eq_true (height * line) in rw (is, same) refl)
 
-short_by : (kind : DeviceKind) (height line : ℕ) → 1 ≤ height → 1 ≤ line → is_full_at (lines_in_params kind height) line 0 ≡ false
-short_by Flatbed height line low some = let most : 1 ≤ height * line = one-le-mul low some in grind (arith, nat_tests)
-short_by Feeder height line low some = let most : 1 ≤ height * line = one-le-mul low some in grind (arith, nat_tests)
-short_by ThreePass height line low some = let most : 1 ≤ height * line = one-le-mul low some in grind (arith, nat_tests)
-short_by Hand height line low some = ap (λ (n : ℕ). is_join_side n && (0 == n * line)) (zero-div line)
+short_by : (told : Option ℕ) (height line : ℕ) → (told ≡ Some height) ⊎ (told ≡ None) → 1 ≤ height → 1 ≤ line → is_full_at told line 0 ≡ false
+short_by told height line (inl known) low some =
+    ap (λ (t : Option ℕ). is_full_at t line 0) known ∙ (let most : 1 ≤ height * line = one-le-mul low some in grind (arith, nat_tests))
+short_by told height line (inr untold) low some = ap (λ (t : Option ℕ). is_full_at t line 0) untold ∙ ap (λ (n : ℕ). is_join_side n && (0 == n * line)) (zero-div line)
 
-most_by : (kind : DeviceKind) (height line : ℕ) → height ≤ 65536 → height * line ≤ most_lines (lines_in_params kind height) * line
-most_by Flatbed height line high = omega arith
-most_by Feeder height line high = omega arith
-most_by ThreePass height line high = omega arith
-most_by Hand height line high = mul-le-mul_right line high
+most_by : (told : Option ℕ) (height line : ℕ) → (told ≡ Some height) ⊎ (told ≡ None) → height ≤ 65536 → height * line ≤ most_lines told * line
+most_by told height line (inl known) high = rw known (omega arith)
+most_by told height line (inr untold) high = rw untold (mul-le-mul_right line high)
 
 -- a frame of a scan, without its acceptance
 record IsTaken (s : Setup) (page : PageView) (pass : ℕ) : Type 0 where
@@ -154,18 +148,20 @@ is_taken s page pass there =
     let some = some_bytes s page pass there in
     let lines = told_lines s page pass there in
     let bytes = told_bytes s page pass there in
+    let told = lines_in_params s.scene.kind height in
+    let either = lines_or_none s.scene.kind height in
     let size : length (payload s page pass) ≡ height * line = length-payload s page pass in
-    let at : (n : ℕ) → is_full_at (params_at s page pass).lines (params_at s page pass).bytes_per_line n ≡ is_full_at (lines_in_params s.scene.kind height) line n =
-    λ n. ap (λ (o : Option ℕ). is_full_at o (params_at s page pass).bytes_per_line n) lines ∙ ap (λ (b : ℕ). is_full_at (lines_in_params s.scene.kind height) b n) bytes in
-    let most : most_bytes (params_at s page pass) ≡ most_lines (lines_in_params s.scene.kind height) * line =
-    ap (λ (o : Option ℕ). most_lines o * (params_at s page pass).bytes_per_line) lines ∙ ap (λ (b : ℕ). most_lines (lines_in_params s.scene.kind height) * b) bytes in
+    let at : (n : ℕ) → is_full_at (params_at s page pass).lines (params_at s page pass).bytes_per_line n ≡ is_full_at told line n =
+    λ n. ap (λ (o : Option ℕ). is_full_at o (params_at s page pass).bytes_per_line n) lines ∙ ap (λ (b : ℕ). is_full_at told b n) bytes in
+    let most : most_bytes (params_at s page pass) ≡ most_lines told * line =
+    ap (λ (o : Option ℕ). most_lines o * (params_at s page pass).bytes_per_line) lines ∙ ap (λ (b : ℕ). most_lines told * b) bytes in
     record {
       fits = λ front rest all.
           let whole : length front + length rest ≡ length (payload s page pass) = sym (length-append front rest) ∙ ap length all in
-          let room = most_by s.scene.kind height line sides.height_most in
+          let room = most_by told height line either sides.height_most in
           omega arith;
-      full = at (length (payload s page pass)) ∙ ap (λ (n : ℕ). is_full_at (lines_in_params s.scene.kind height) line n) size ∙ full_by s.scene.kind height line sides.height_some sides.height_most some;
-      none_is_short = at 0 ∙ short_by s.scene.kind height line sides.height_some some;
+      full = at (length (payload s page pass)) ∙ ap (λ (n : ℕ). is_full_at told line n) size ∙ full_by told height line either sides.height_some sides.height_most some;
+      none_is_short = at 0 ∙ short_by told height line either sides.height_some some;
     }
 
 takes_it : (s : Setup) (page : PageView) (pass : ℕ) (ended more : List Frame) → IsTaken s page pass → is_joined ended ≡ false → is_accepted ended (params_at s page pass) s.order ≡ true → (params_at s page pass).last_frame ≡ no_frame_left more

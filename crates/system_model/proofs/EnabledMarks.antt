@@ -3,9 +3,9 @@ use Rattle.std.proofs.Common.{◌≡◌, ◌∙◌, ℕ, List, [], ◌∷◌, Bo
 use Rattle.page_picture.specs.Shows.{Frame}
 use Rattle.option_desc.specs.declared.value.Value.{Value}
 use Rattle.system_model.specs.AbstractMessages.{same_text, Challenge, AbstractRequest, Init, GetDevices, Open, Authorize, Describe, Get, Set, Parameters, Start, Cancel, Close, Exit}
-use Rattle.page_picture.specs.declared.scene.DeviceKind.TheVariants.{Flatbed, Hand, ThreePass, Feeder}
-use Rattle.system_model.specs.Devices.{Model, Make, Page, AbstractAcceptedSet, has_readable_value, picture_frames, accept_value}
-use Rattle.system_model.specs.AbstractDevices.{after_start, without_first, AbstractDevice, ScanPhase, Resting, Between, Reading, is_held_by, is_resting, put_back, device_let_go, phase_after_frame, ended_phase, read_on}
+use Rattle.device_api.specs.Kinds.{Model, Page, after_start, is_feeder}
+use Rattle.system_model.specs.Devices.{Make, AbstractAcceptedSet, has_readable_value, picture_frames, accept_value}
+use Rattle.system_model.specs.AbstractDevices.{without_first, AbstractDevice, ScanPhase, Resting, Between, Reading, is_held_by, is_resting, put_back, device_let_go, phase_after_frame, ended_phase, read_on}
 use Rattle.system_model.specs.Daemon.{TransferState, Quiet, Waiting, Streaming, Ending, Environment, FailureCounts, answer, answer_if, answer_awaited, hand_out_device, take_listed, open_listed, allow, get_reply, put_reply, set_reply, begin_page, begin_pass, start_page, start_at, start_or_fail, start_effect}
 use Rattle.system_model.specs.SystemStates.{JobState, SystemState, with_entry, listed_devices, wanted_place, make_for, device_for}
 use Rattle.system_model.specs.Actions
@@ -16,7 +16,8 @@ use Rattle.system_model.specs.Marks
 use Rattle.system_model.specs.ModelPromises.{MarksAreEnabled}
 use Rattle.system_model.proofs.OtherJobs.{put_same}
 use Rattle.system_model.proofs.Treats.{is_held}
-use Rattle.device_api.specs.State.{is_feeder}
+use Rattle.device_api.specs.State.{left_behind}
+use Rattle.device_api.proofs.KindLaws.{start_leaves}
 
 -- a busy flag that is the same
 busy_same : (s : DeviceView) (b : Bool) → s.busy ≡ b → s ≡ record s { busy = b }
@@ -71,12 +72,13 @@ set_slot : (k : Make) (dev : AbstractDevice) (c : TransferState) (n : ℕ) (v : 
 set_slot k dev c n v true = put_slot k dev c (accept_value k dev.options n v)
 set_slot k dev c n v false = refl
 
+first_left : (feeder : Bool) (tray : List Page) → cond feeder (without_first tray) tray ≡ left_behind feeder tray
+first_left true [] = refl
+first_left true (page ∷ tray) = refl
+first_left false tray = refl
+
 takes_first : (m : Model) (tray : List Page) → cond (is_feeder m) (without_first tray) tray ≡ after_start m tray
-takes_first Feeder [] = refl
-takes_first Feeder (page ∷ tray) = refl
-takes_first Flatbed tray = refl
-takes_first Hand tray = refl
-takes_first ThreePass tray = refl
+takes_first m tray = first_left (is_feeder m) tray ∙ sym (start_leaves m tray)
 
 page_goes : (i d : ℕ) (k : Make) (dev : AbstractDevice) (c : TransferState) (page : Page) (tray : List Page) (fs : List Frame) → dev.holder ≡ Some i → dev.phase ≡ Resting → dev.tray ≡ page ∷ tray →
     Leads k dev (page_marks i d (record { page = page; options = dev.options }) fs) (begin_page k dev c page fs).device

@@ -1,12 +1,13 @@
 -- WHATEVER STEP COMES, WHAT STANDS IS SOUND.
-use Rattle.std.proofs.Common.{◌≡◌, ◌∙◌, ◌≢◌, ℕ, List, [], ◌∷◌, ◌++◌, true, false, Option, Some, None, refl, sym, ap, length, length-append, arith}
-use Rattle.std.proofs.lemmas.Bool.{ltb-true}
+use Rattle.std.proofs.Common.{◌≡◌, ◌∙◌, ◌≢◌, ℕ, List, [], ◌∷◌, ◌++◌, true, false, Option, Some, None, refl, sym, ap, Bool, subst}
 use Rattle.system_model.specs.AbstractMessages.{Challenge, Good, Eof, IoError, GivenUp, NoMem, Lost, Cancelled, Memory, AbstractRequest}
-use Rattle.page_picture.specs.declared.scene.DeviceKind.TheVariants.{Flatbed, Hand, ThreePass, Feeder}
-use Rattle.system_model.specs.Devices.{Make, Model, Page, IsPageShaped}
+use Rattle.device_api.specs.Kinds.{Model, Page, laid_in, is_feeder}
+use Rattle.device_api.specs.State.{pages_with}
+use Rattle.device_api.proofs.KindLaws.{laid_is, laid_stocked}
+use Rattle.system_model.specs.Devices.{Make, IsPageShaped}
 use Rattle.system_model.specs.Client.{abstract_farewell, with_progress, Greeting}
 use Rattle.system_model.specs.ClientReplies.{hear_in, client_after_bytes, client_after_stop}
-use Rattle.system_model.specs.AbstractDevices.{AbstractDevice, DeviceInvariant, AreShaped, put_down, device_let_go, without_prefix, read_on, ended_phase, IsStocked, laid_in, has_room}
+use Rattle.system_model.specs.AbstractDevices.{AbstractDevice, DeviceInvariant, AreShaped, put_down, device_let_go, without_prefix, read_on, ended_phase}
 use Rattle.system_model.specs.Daemon.{TransferState, Quiet, Waiting, Streaming, Ending, FailureCounts}
 use Rattle.system_model.specs.Causes.{SourceFailed, NamesEof, Names, ClientOutOfMemory, GaveUp}
 use Rattle.system_model.specs.SystemStates.{JobState, SystemState, listed_devices, make_for, device_for, wanted_place}
@@ -121,21 +122,16 @@ same_job i k listed_devices p dev (Actions.Answers challenge fault) = next_job i
 same_job i k listed_devices p dev x = refl
 
 -- a page that is laid in
-laid_stocked : (m : Model) (page : Page) (tray : List Page) → has_room m tray ≡ true → IsStocked m (laid_in m page tray)
-laid_stocked Feeder page tray r = let a = ltb-true (length tray) 16 r in let n = length-append tray (page ∷ []) in omega arith
-laid_stocked Flatbed page tray r = refl
-laid_stocked Hand page tray r = refl
-laid_stocked ThreePass page tray r = refl
-
 one_more : (page : Page) (tray : List Page) → IsPageShaped page → AreShaped tray → AreShaped (tray ++ page ∷ [])
 one_more page [] p t = (p, tt)
 one_more page (x ∷ tray) p t = (t.0, one_more page tray p t.1)
 
+with_shaped : (feeder : Bool) (page : Page) (tray : List Page) → IsPageShaped page → AreShaped tray → AreShaped (pages_with feeder tray page)
+with_shaped true page tray p t = one_more page tray p t
+with_shaped false page tray p t = (p, tt)
+
 laid_shaped : (m : Model) (page : Page) (tray : List Page) → IsPageShaped page → AreShaped tray → AreShaped (laid_in m page tray)
-laid_shaped Feeder page tray p t = one_more page tray p t
-laid_shaped Flatbed page tray p t = (p, tt)
-laid_shaped Hand page tray p t = (p, tt)
-laid_shaped ThreePass page tray p t = (p, tt)
+laid_shaped m page tray p t = subst AreShaped (sym (laid_is m page tray)) (with_shaped (is_feeder m) page tray p t)
 
 pub sound_after : (s : SystemState) (x : Transition) → Invariant s → IsEnabled s x → Invariant (after_transition s x)
 sound_after s (By i x) h l =

@@ -25,7 +25,8 @@ use Rattle.scan_laws.proofs.Ruled as ruled
 use Rattle.scan_laws.proofs.Sets.{tells}
 use Rattle.scan_laws.proofs.NearestSet.{set_nearest}
 use Rattle.system_model.specs.AbstractMessages.{Good}
-use Rattle.system_model.specs.Devices.{Make, readable_options, OptionsInForce, Page, AbstractAcceptedSet, AreOptionsAllowed, IsPageShaped, IsNearest, abstract_status, abstract_accepted_set, default_options, read_status_of, descriptors_in_force, accept_value, picture_frames, order_of, accepts, frame_overflows, frame_fills}
+use Rattle.device_api.specs.Kinds.{Page}
+use Rattle.system_model.specs.Devices.{Make, readable_options, OptionsInForce, AbstractAcceptedSet, AreOptionsAllowed, IsPageShaped, IsNearest, abstract_status, abstract_accepted_set, default_options, read_status_of, descriptors_in_force, accept_value, picture_frames, order_of, accepts, frame_overflows, frame_fills}
 use Rattle.system_model.specs.Sync.{AreJoinable}
 use Rattle.system_model.specs.AbstractInForce.{AreReadable}
 use Rattle.system_model.proofs.Readable as readable_laws

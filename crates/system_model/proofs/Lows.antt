@@ -5,7 +5,8 @@ use Rattle.option_desc.specs.declared.value.Value.{Value}
 use Rattle.option_desc.specs.declared.descriptor.Descriptor.{Descriptor}
 use Rattle.sane_fixed.specs.declared.params.Params.{Params}
 use Rattle.system_model.specs.AbstractMessages.{Status, Answer, RequestedSetting, Challenge, AbstractRequest, Init, GetDevices, Open, Authorize, Describe, Get, Set, Parameters, Start, AbstractReply, Greeted, Opened, Challenged, Got, Gave, Listed, Described, Shaped, Begun, NoDocs, Inval, IoError, AccessDenied, Busy, Refused}
-use Rattle.system_model.specs.Devices.{Make, OptionsInForce, Page, AreOptionsAllowed, AbstractAcceptedSet, descriptors_in_force, readable_options, has_readable_value, readable_value, resolve_setting, accept_value, picture_frames, accepts}
+use Rattle.device_api.specs.Kinds.{Page}
+use Rattle.system_model.specs.Devices.{Make, OptionsInForce, AreOptionsAllowed, AbstractAcceptedSet, descriptors_in_force, readable_options, has_readable_value, readable_value, resolve_setting, accept_value, picture_frames, accepts}
 use Rattle.system_model.specs.Client.{AbstractJob, Task, List_, Show, SetOnly, Scan, Batch, ClientView, Running, Ended, AbstractProgress, Greeting, Listing, Opening, Allowing, Describing, Putting, Getting, Starting, Shaping, Imaging, request_awaited, progress_after_init, stage_after_settings, asks_setting, stage_of_next_setting, stage_after_put, next_value}
 use Rattle.system_model.specs.ClientReplies.{hear_at, begins_frame, start_refused}
 use Rattle.system_model.specs.AbstractDevices.{AbstractDevice, DeviceInvariant, ScanPhase, Resting, is_resting}

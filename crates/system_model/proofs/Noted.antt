@@ -4,7 +4,8 @@ use Rattle.std.proofs.lemmas.List.{append-nil}
 use Rattle.option_desc.specs.declared.value.Value.{Value}
 use Rattle.page_picture.specs.Shows.{Frame}
 use Rattle.system_model.specs.AbstractMessages.{same_text, Challenge, AbstractRequest, Init, GetDevices, Open, Authorize, Describe, Get, Set, Parameters, Start, Cancel, Close, Exit}
-use Rattle.system_model.specs.Devices.{Make, Page, AbstractAcceptedSet, has_readable_value, picture_frames, accept_value}
+use Rattle.device_api.specs.Kinds.{Page}
+use Rattle.system_model.specs.Devices.{Make, AbstractAcceptedSet, has_readable_value, picture_frames, accept_value}
 use Rattle.system_model.specs.AbstractDevices.{AbstractDevice, ScanPhase, Resting, Between, Reading, Begin, is_held_by, is_resting}
 use Rattle.system_model.specs.Daemon.{TransferState, Quiet, Waiting, Streaming, Ending, Environment, FailureCounts, AnswerEffect, answer, answer_if, answer_awaited, hand_out_device, take_listed, open_listed, allow, get_reply, put_reply, set_reply, begin_page, begin_pass, start_page, start_at, start_or_fail, start_effect}
 use Rattle.system_model.specs.SystemStates.{JobState, listed_devices, wanted_place, make_for, device_for}

@@ -1,12 +1,13 @@
 -- THE OPTIONS WHOSE VALUES A CLIENT ASKS: they are told, and they are few.
 use Rattle.std.proofs.Common.{arith, ◌≤◌, ◌≡◌, ◌∙◌, ℕ, suc, ◌+◌, List, [], ◌∷◌, ◌++◌, Bool, true, false, refl, sym, ap, subst, length, length-append, append_assoc}
 use Rattle.std.specs.Prelude.{Option, Some, None, ◌&&◌, not, if◌then◌else◌, slice_get, map}
+use Rattle.std.proofs.lemmas.List.{length-map}
 use Rattle.option_desc.specs.declared.descriptor.Descriptor.{Descriptor}
 use Rattle.page_picture.specs.declared.scene.DeviceKind.{DeviceKind}
-use Rattle.page_picture.specs.declared.scene.DeviceKind.TheVariants as device
 use Rattle.scan_frames.specs.declared.setup.Setup.{Setup}
 use Rattle.device_api.specs.declared.scan_option.ScanOption.{ScanOption}
 use Rattle.device_api.proofs.OptionForms.{active_is, active_is_read}
+use Rattle.device_api.proofs.KindLaws.{options_few}
 use Rattle.device_api.specs.Options.{options_of, option_at, option_caps, is_active, descriptor_of}
 use Rattle.sane_fixed.specs.Cap.{has_cap}
 use Rattle.device_api.specs.Values.{option_got, get_result, option_passing}
@@ -66,10 +67,7 @@ few_from n [] = omega arith
 few_from n (d ∷ ds) = few_if n (readable_from (n + 1) ds) (is_readable d) (length ds) (few_from (n + 1) ds)
 
 few_options : (s : Setup) (kind : DeviceKind) → length (map (descriptor_of s) (options_of kind)) ≤ 32
-few_options s device.Flatbed = omega arith
-few_options s device.Hand = omega arith
-few_options s device.ThreePass = omega arith
-few_options s device.Feeder = omega arith
+few_options s kind = rw length-map (options_few kind)
 
 -- and there are few such options
 pub few : (k : Make) (o : OptionsInForce) → length (readable_options (descriptors_in_force k o)) ≤ 32

@@ -3,7 +3,8 @@ use Rattle.std.proofs.Common.{◌≡◌, ◌∙◌, ◌≤◌, ℕ, List, [], �
 use Rattle.std.proofs.lemmas.List.{append-nil}
 use Rattle.page_picture.specs.Shows.{Frame}
 use Rattle.system_model.specs.AbstractMessages.{NoDocs, Answer, AbstractRequest, Init, GetDevices, Open, Authorize, Describe, Get, Set, Parameters, Start, Greeted, Listed, Shaped, Got, Described, Begun}
-use Rattle.system_model.specs.Devices.{Make, Page, AreOptionsAllowed, IsPageShaped, descriptors_in_force, has_readable_value, readable_value, accept_value, order_of, picture_frames, accepts}
+use Rattle.device_api.specs.Kinds.{Page}
+use Rattle.system_model.specs.Devices.{Make, AreOptionsAllowed, IsPageShaped, descriptors_in_force, has_readable_value, readable_value, accept_value, order_of, picture_frames, accepts}
 use Rattle.system_model.specs.Client.{Task, List_, Show, SetOnly, Scan, Batch, further_pages, ClientView, Done, with_ending, AbstractProgress, Greeting, Listing, Opening, Allowing, Describing, Putting, Getting, Starting, Shaping, Imaging, request_awaited, progress_after_init}
 use Rattle.system_model.specs.ClientReplies.{hear_at, begins_frame, start_refused}
 use Rattle.system_model.specs.AbstractDevices.{AbstractDevice, DeviceInvariant, AreShaped, ScanPhase, is_resting, Begin}

@@ -1,11 +1,13 @@
 -- WHAT AN ACTION DOES TO ITS DEVICE: it leaves it alone, takes it, uses it, or gives it back.
-use Rattle.std.proofs.Common.{◌≡◌, ◌∙◌, ◌≢◌, ◌⊎◌, ℕ, List, [], ◌∷◌, Bool, true, false, Option, Some, None, refl, sym, subst, ap, inl, inr, cond, eqb-true, arith}
+use Rattle.std.proofs.Common.{◌≡◌, ◌∙◌, ◌≢◌, ◌⊎◌, ℕ, List, [], ◌∷◌, Bool, true, false, Option, Some, None, refl, sym, subst, ap, inl, inr, cond, eqb-true}
 use Rattle.page_picture.specs.Shows.{Frame}
 use Rattle.option_desc.specs.declared.value.Value.{Value}
 use Rattle.system_model.specs.AbstractMessages.{same_text, Challenge, AbstractRequest, Init, GetDevices, Open, Authorize, Describe, Get, Set, Parameters, Start, Cancel, Close, Exit}
-use Rattle.page_picture.specs.declared.scene.DeviceKind.TheVariants.{Flatbed, Hand, ThreePass, Feeder}
-use Rattle.system_model.specs.Devices.{Make, Model, OptionsInForce, Page, AbstractAcceptedSet, AreOptionsAllowed, default_options, accept_value, has_readable_value, picture_frames}
-use Rattle.system_model.specs.AbstractDevices.{AbstractDevice, ScanPhase, Resting, Between, Reading, DeviceInvariant, AreShaped, IsStocked, is_held_by, is_resting, put_down, put_back, device_let_go, after_start, read_on, ended_phase}
+use Rattle.device_api.specs.Kinds.{Model, Page, IsStocked, after_start, is_feeder}
+use Rattle.device_api.specs.State.{left_behind}
+use Rattle.device_api.proofs.KindLaws.{start_leaves, start_stocked}
+use Rattle.system_model.specs.Devices.{Make, OptionsInForce, AbstractAcceptedSet, AreOptionsAllowed, default_options, accept_value, has_readable_value, picture_frames}
+use Rattle.system_model.specs.AbstractDevices.{AbstractDevice, ScanPhase, Resting, Between, Reading, DeviceInvariant, AreShaped, is_held_by, is_resting, put_down, put_back, device_let_go, read_on, ended_phase}
 use Rattle.system_model.specs.Daemon.{TransferState, Quiet, Waiting, Streaming, Ending, Environment, FailureCounts, answer, answer_if, answer_awaited, serve, refuse, hand_out_device, take_listed, open_listed, allow, get_reply, put_reply, set_reply, begin_page, begin_pass, start_page, start_at, start_or_fail, start_effect}
 use Rattle.system_model.specs.SystemStates.{JobState}
 use Rattle.system_model.specs.Actions
@@ -82,19 +84,13 @@ set_treats : (i : ℕ) (k : Make) (dev : AbstractDevice) (c : TransferState) (n 
 set_treats i k dev c n v true h = put_treats i k dev c n v (accept_value k dev.options n v) h refl
 set_treats i k dev c n v false h = inl refl
 
-start_stocked : (m : Model) (tray : List Page) → IsStocked m tray → IsStocked m (after_start m tray)
-start_stocked Feeder [] s = s
-start_stocked Feeder (page ∷ tray) s = omega arith
-start_stocked Flatbed tray s = s
-start_stocked Hand tray s = s
-start_stocked ThreePass tray s = s
+left_shaped : (feeder : Bool) (tray : List Page) → AreShaped tray → AreShaped (left_behind feeder tray)
+left_shaped true [] s = s
+left_shaped true (page ∷ tray) s = s.1
+left_shaped false tray s = s
 
 start_shaped : (m : Model) (tray : List Page) → AreShaped tray → AreShaped (after_start m tray)
-start_shaped Feeder [] s = s
-start_shaped Feeder (page ∷ tray) s = s.1
-start_shaped Flatbed tray s = s
-start_shaped Hand tray s = s
-start_shaped ThreePass tray s = s
+start_shaped m tray s = subst AreShaped (sym (start_leaves m tray)) (left_shaped (is_feeder m) tray s)
 
 page_treats : (i : ℕ) (k : Make) (dev : AbstractDevice) (c : TransferState) (page : Page) (fs : List Frame) → dev.holder ≡ Some i → Treats i k dev (begin_page k dev c page fs).device
 page_treats i k dev c page [] h = inl refl

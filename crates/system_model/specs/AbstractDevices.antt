@@ -1,8 +1,8 @@
 -- A device among its users: who holds it, the pages in it, and what it does.
-use Rattle.std.specs.Prelude.{ℕ, ◌≡◌, ◌≤◌, List, [], ◌∷◌, ◌++◌, Bool, true, false, Option, Some, None, cond, eqb, ltb, length}
+use Rattle.std.specs.Prelude.{ℕ, ◌≡◌, List, [], ◌∷◌, Bool, true, false, Option, Some, None, cond, eqb}
 use Rattle.page_picture.specs.Shows.{Frame}
-use Rattle.page_picture.specs.declared.scene.DeviceKind.TheVariants.{Flatbed, Hand, ThreePass, Feeder}
-use Rattle.system_model.specs.Devices.{Model, Make, OptionsInForce, Page, AreOptionsAllowed, IsPageShaped}
+use Rattle.device_api.specs.Kinds.{Page, IsStocked}
+use Rattle.system_model.specs.Devices.{Make, OptionsInForce, AreOptionsAllowed, IsPageShaped}
 
 -- what a device does: the passes still to come are part of it
 pub data ScanPhase : Type 0 where
@@ -35,34 +35,6 @@ is_resting (Reading frame rest more) = false
 abbrev pub phase_after_frame : Frame → List Frame → ScanPhase
 phase_after_frame last [] = Resting
 phase_after_frame last (f ∷ more) = Between last (f ∷ more)
-
--- the tray once its first page is started: a feeder takes it out
-abbrev pub after_start : Model → List Page → List Page
-after_start Feeder [] = []
-after_start Feeder (page ∷ tray) = tray
-after_start Flatbed tray = tray
-after_start Hand tray = tray
-after_start ThreePass tray = tray
-
--- the tray with a page laid in: a feeder adds it, the others drop the one that they had
-abbrev pub laid_in : Model → Page → List Page → List Page
-laid_in Feeder page tray = tray ++ page ∷ []
-laid_in Flatbed page tray = page ∷ []
-laid_in Hand page tray = page ∷ []
-laid_in ThreePass page tray = page ∷ []
-
-abbrev pub has_room : Model → List Page → Bool
-has_room Feeder tray = ltb (length tray) 16
-has_room Flatbed tray = true
-has_room Hand tray = true
-has_room ThreePass tray = true
-
--- as many pages as a device of this model can have
-abbrev pub IsStocked : Model → List Page → Type 0
-IsStocked Feeder tray = length tray ≤ 16
-IsStocked Flatbed tray = length tray ≡ 1
-IsStocked Hand tray = length tray ≡ 1
-IsStocked ThreePass tray = length tray ≡ 1
 
 abbrev pub AreShaped : List Page → Type 0
 AreShaped [] = Unit {0}

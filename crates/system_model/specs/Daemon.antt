@@ -4,9 +4,10 @@ use Rattle.option_desc.specs.declared.value.Value.{Value}
 use Rattle.sane_fixed.specs.declared.params.Params.{Params}
 use Rattle.page_picture.specs.Shows.{Frame}
 use Rattle.system_model.specs.AbstractMessages.{same_text, Busy, Inval, NoDocs, IoError, AccessDenied, Challenge, AbstractRequest, Init, GetDevices, Open, Authorize, Describe, Get, Set, Parameters, Start, Cancel, Close, Exit, AbstractReply, Greeted, Listed, Opened, Challenged, Described, Got, Gave, Shaped, Begun, Acked, Refused}
-use Rattle.system_model.specs.Devices.{Make, Page, AbstractAcceptedSet, default_options, descriptors_in_force, accept_value, has_readable_value, readable_value, order_of, picture_frames, params_at_rest}
+use Rattle.device_api.specs.Kinds.{Page, after_start}
+use Rattle.system_model.specs.Devices.{Make, AbstractAcceptedSet, default_options, descriptors_in_force, accept_value, has_readable_value, readable_value, order_of, picture_frames, params_at_rest}
 use Rattle.system_model.specs.Causes.{Cause, Disallowed, WasUnlisted, WasHeld, HadNoPicture, SourceFailed, TrayWasEmpty, TrayRanOut}
-use Rattle.system_model.specs.AbstractDevices.{AbstractDevice, ScanPhase, Resting, Between, Reading, Begin, is_resting, is_held_by, put_down, put_back, device_let_go, after_start}
+use Rattle.system_model.specs.AbstractDevices.{AbstractDevice, ScanPhase, Resting, Between, Reading, Begin, is_resting, is_held_by, put_down, put_back, device_let_go}
 
 -- the frame of a session
 pub data TransferState : Type 0 where

@@ -13,10 +13,8 @@ use Rattle.option_desc.specs.declared.descriptor.Descriptor.{Descriptor}
 use Rattle.option_desc.specs.declared.value.Value.{Value}
 use Rattle.option_desc.specs.declared.value.Value.TheVariants as value
 use Rattle.option_desc.specs.Reads.{read_value}
-use Rattle.page_picture.specs.Page.{PageView}
 use Rattle.page_picture.specs.Page as page
 use Rattle.page_picture.specs.Shows.{Frame}
-use Rattle.page_picture.specs.declared.scene.DeviceKind.{DeviceKind}
 use Rattle.scan_frames.specs.Frames.{params_at, params_without}
 use Rattle.scan_frames.specs.declared.setup.Setup.{Setup}
 use Rattle.device_api.specs.ScannerLimits as limits
@@ -25,14 +23,12 @@ use Rattle.sane_fixed.specs.Cap.{has_cap}
 use Rattle.device_api.specs.Options as table
 use Rattle.device_api.specs.Values.{option_got}
 use Rattle.device_api.specs.Values as values
+use Rattle.device_api.specs.Kinds.{Model, Page}
 use Rattle.frame_join.specs.FrameHistory.{is_accepted}
 use Rattle.scan_laws.specs.NearestSet.{GivesNearest}
 use Rattle.scan_laws.specs.SetAndJoin as rules
 use Rattle.scan_laws.specs.SetInfo.{has_bit}
 use Rattle.system_model.specs.AbstractMessages.{Status, Good, Unsupported, GivenUp, Busy, Inval, Eof, Jammed, NoDocs, CoverOpen, IoError, NoMem, AccessDenied, RequestedSetting, Info}
-
-abbrev pub Model : Type 0
-Model = DeviceKind
 
 -- what never changes of a device
 pub record Make : Type 0 where
@@ -64,9 +60,6 @@ OptionsInForce = Setup
 -- the limits of options
 unfoldable pub AreOptionsAllowed : Make → OptionsInForce → Type 0
 AreOptionsAllowed make options = limits.IsAllowed options
-
-abbrev pub Page : Type 0
-Page = PageView
 
 -- the limits of a page
 unfoldable pub IsPageShaped : Page → Type 0

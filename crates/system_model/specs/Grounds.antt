@@ -1,7 +1,8 @@
 -- What a cause means where the daemon answers a request.
 use Rattle.std.specs.Prelude.{ℕ, ◌≡◌, ◌≢◌, List, [], ◌∷◌, true, false, Option, Some}
 use Rattle.system_model.specs.AbstractMessages.{Challenge}
-use Rattle.system_model.specs.Devices.{Make, Page, picture_frames}
+use Rattle.device_api.specs.Kinds.{Page}
+use Rattle.system_model.specs.Devices.{Make, picture_frames}
 use Rattle.system_model.specs.Causes.{Cause, SourceFailed, WasUnlisted, HadNoPicture, WasHeld, Disallowed, TrayWasEmpty, TrayRanOut}
 use Rattle.system_model.specs.AbstractDevices.{AbstractDevice, Resting}
 use Rattle.system_model.specs.Daemon.{Environment, FailureCounts}

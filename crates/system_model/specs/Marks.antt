@@ -2,14 +2,14 @@
 use Rattle.std.specs.Prelude.{ℕ, ◌≡◌, List, [], ◌∷◌, ◌++◌, Bool, true, false, Option, Some, None, cond}
 use Rattle.page_picture.specs.Shows.{Frame}
 use Rattle.system_model.specs.AbstractMessages.{same_text, Challenge, AbstractRequest, Open, Authorize, Start, Cancel, Close, Exit}
-use Rattle.system_model.specs.Devices.{Model, Make, Page, picture_frames}
-use Rattle.system_model.specs.AbstractDevices.{AbstractDevice, ScanPhase, Resting, Between, Reading, Begin, is_resting, is_held_by, ended_phase, without_first, laid_in, has_room}
+use Rattle.device_api.specs.Kinds.{Model, Page, laid_in, has_room, is_feeder}
+use Rattle.system_model.specs.Devices.{Make, picture_frames}
+use Rattle.system_model.specs.AbstractDevices.{AbstractDevice, ScanPhase, Resting, Between, Reading, Begin, is_resting, is_held_by, ended_phase, without_first}
 use Rattle.system_model.specs.Daemon.{TransferState, Quiet, Waiting, Streaming, Ending, Environment, FailureCounts}
 use Rattle.system_model.specs.SystemStates.{JobState, SystemState, listed_devices, wanted_place, make_for, device_for}
 use Rattle.system_model.specs.Actions
 use Rattle.system_model.specs.Actions.{Action, environment_of}
 use Rattle.system_model.specs.Transitions.{Transition, By, Loads, Unplugs}
-use Rattle.device_api.specs.State.{is_feeder}
 
 pub data Mark : Type 0 where
   -- client i is handed device d; it starts this page of it; the device is at rest again; it is given back

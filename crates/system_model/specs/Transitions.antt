@@ -3,9 +3,10 @@ use Rattle.std.specs.Prelude.{ℕ, ◌≡◌, ◌≢◌, ◌<◌, ◌^◌, ◌-�
 use Rattle.sane_fixed.specs.declared.params.Params.{Params}
 use Rattle.page_picture.specs.Shows.{Frame}
 use Rattle.system_model.specs.AbstractMessages.{Good, Eof, AbstractReply}
-use Rattle.system_model.specs.Devices.{Make, Page, IsPageShaped, read_status_of}
+use Rattle.device_api.specs.Kinds.{Page, laid_in, has_room}
+use Rattle.system_model.specs.Devices.{Make, IsPageShaped, read_status_of}
 use Rattle.system_model.specs.Client.{JobStage, Idle, Running, Done, Ended, AbstractProgress, Imaging, request_awaited}
-use Rattle.system_model.specs.AbstractDevices.{AbstractDevice, Resting, Reading, laid_in, has_room}
+use Rattle.system_model.specs.AbstractDevices.{AbstractDevice, Resting, Reading}
 use Rattle.system_model.specs.Daemon.{Waiting, Streaming, Ending, FailureCounts}
 use Rattle.system_model.specs.SystemStates.{JobState, SystemState, with_entry, wanted_place, make_for, device_for, listed_devices}
 use Rattle.system_model.specs.Actions

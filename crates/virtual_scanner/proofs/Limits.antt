@@ -21,7 +21,8 @@ use Rattle.scan_frames.specs.declared.faults.ReadEnd.TheVariants.{End, SourceFai
 use Rattle.scan_frames.specs.declared.setup.Setup.{Setup}
 use Rattle.device_api.proofs.SameLaws.{set_same}
 use Rattle.device_api.specs.ScannerLimits.{HasLimits, IsAllowed, IsHeldPage, IsPageCount}
-use Rattle.device_api.specs.State.{Phase, held_from, is_feeder, left_behind, pages_with, tray_room}
+use Rattle.device_api.specs.Kinds.{is_feeder}
+use Rattle.device_api.specs.State.{Phase, held_from, left_behind, pages_with, tray_room}
 use Rattle.device_api.specs.State.Phase.{AtRest}
 use Rattle.device_api.specs.Values.{defaults, setup_after}
 use Rattle.sane_fixed.specs.declared.device_info.DeviceInfo.{DeviceInfo}

@@ -3,23 +3,11 @@ use Rattle.std.specs.Prelude.{ℕ, List, [], ◌∷◌, map, false, codes}
 use Rattle.sane_fixed.specs.declared.byte_order.ByteOrder.{ByteOrder}
 use Rattle.page_picture.specs.Source.{SourceState}
 use Rattle.page_picture.specs.declared.scene.DeviceKind.{DeviceKind}
-use Rattle.page_picture.specs.declared.scene.DeviceKind.TheVariants.{Flatbed, Hand, ThreePass, Feeder}
+use Rattle.device_api.specs.Kinds.{class_of, model_of}
 use Rattle.device_api.specs.State.{DeviceState, held_from}
 use Rattle.device_api.specs.State.Phase.{AtRest}
 use Rattle.device_api.specs.Values.{defaults}
 use Rattle.sane_fixed.specs.declared.device_info.DeviceInfo.{DeviceInfo}
-
-abbrev pub model_of : DeviceKind → List ℕ
-model_of Flatbed = codes "Flatbed"
-model_of Hand = codes "Hand"
-model_of ThreePass = codes "ThreePass"
-model_of Feeder = codes "Feeder"
-
-abbrev pub class_of : DeviceKind → List ℕ
-class_of Flatbed = codes "flatbed scanner"
-class_of Hand = codes "handheld scanner"
-class_of ThreePass = codes "flatbed scanner"
-class_of Feeder = codes "sheetfed scanner"
 
 abbrev pub device_info_of : DeviceKind → List ℕ → DeviceInfo
 device_info_of kind name = record { name = name; vendor = codes "Virtual"; model = model_of kind; class = class_of kind }

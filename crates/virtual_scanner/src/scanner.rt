@@ -1,8 +1,9 @@
 ghost use Rattle.std.specs.Prelude.{◌≡◌, ◌≤◌, false, map, vec_len, IfOk, IfErr};
 ghost use Rattle.page_picture.specs.SourceView.{source_state};
 ghost use Rattle.page_picture.specs.declared.scene.DeviceKind.TheVariants.{Feeder};
-ghost use Rattle.device_api.specs.State.{goes_to, is_feeder, after_stop, tray_room};
-ghost use Rattle.virtual_scanner.specs.New.{class_of, device_info_of, model_of, new_device, new_scanner};
+ghost use Rattle.device_api.specs.Kinds.{is_feeder};
+ghost use Rattle.device_api.specs.State.{goes_to, after_stop, tray_room};
+ghost use Rattle.virtual_scanner.specs.New.{device_info_of, new_device, new_scanner};
 
 use crate::at::{At, after};
 use crate::tray::{TRAY_ROOM, begin_frame, let_go, params_on, put_page, read_frame, see_limits};
@@ -37,27 +38,6 @@ impl Model for VirtualScanner {
     ghost invariant = { ScannerInvariant };
 }
 
-fn model(kind: DeviceKind) -> &'static [u8]
-    ensures { result.now ≡ model_of kind }
-{
-    match kind {
-        DeviceKind::Flatbed => b"Flatbed",
-        DeviceKind::Hand => b"Hand",
-        DeviceKind::ThreePass => b"ThreePass",
-        DeviceKind::Feeder => b"Feeder",
-    }
-}
-
-fn class(kind: DeviceKind) -> &'static [u8]
-    ensures { result.now ≡ class_of kind }
-{
-    match kind {
-        DeviceKind::Flatbed | DeviceKind::ThreePass => b"flatbed scanner",
-        DeviceKind::Hand => b"handheld scanner",
-        DeviceKind::Feeder => b"sheetfed scanner",
-    }
-}
-
 /// What a virtual scanner is.
 fn device_info(alloc: Global, kind: DeviceKind, name: Text) -> Result<DeviceInfo, TextFault>
     ensures { IfOk result (λ info. info ≡ device_info_of kind name) }
@@ -65,8 +45,8 @@ fn device_info(alloc: Global, kind: DeviceKind, name: Text) -> Result<DeviceInfo
     Ok(DeviceInfo {
         name,
         vendor: Text::new(alloc, b"Virtual")?,
-        model: Text::new(alloc, model(kind))?,
-        class: Text::new(alloc, class(kind))?,
+        model: Text::new(alloc, device_api::model_name(kind))?,
+        class: Text::new(alloc, device_api::class_name(kind))?,
     })
 }
 

@@ -5,11 +5,13 @@ ghost use Rattle.page_picture.specs.SourceView.{source_state};
 ghost use Rattle.scan_frames.specs.Frames.{IsSetup};
 ghost use Rattle.scan_frames.specs.PassReading.{BeginsPass, IsFrame};
 ghost use Rattle.device_api.specs.ScannerLimits.{IsHeldPage};
-ghost use Rattle.device_api.specs.State.{held_from, is_feeder, left_behind, pages_with, params_in, tray_room};
+ghost use Rattle.device_api.specs.Kinds.{is_feeder};
+ghost use Rattle.device_api.specs.State.{held_from, left_behind, pages_with, params_in, tray_room};
 ghost use Rattle.virtual_scanner.specs.Answers.{AnswersRead};
 ghost use Rattle.virtual_scanner.specs.First.{OfFirst, OnFirst};
 
 use crate::at::answer_read;
+use device_api::is_feeder;
 use page_picture::{DeviceKind, PageSource, Source};
 use sane_fixed::{Params, Status};
 use scan_frames::{BeginFault, FrameRows, Setup, params, params_without};
@@ -17,16 +19,6 @@ use std::alloc::Global;
 
 /// The most pages that lie in a feeder's tray.
 pub const TRAY_ROOM: usize = 16;
-
-/// Whether pages are fed one after another.
-pub fn is_feeder(kind: DeviceKind) -> bool
-    ensures { result ≡ is_feeder kind }
-{
-    match kind {
-        DeviceKind::Flatbed | DeviceKind::Hand | DeviceKind::ThreePass => false,
-        DeviceKind::Feeder => true,
-    }
-}
 
 /// What is told of the frame of a pass over the first page.
 pub fn params_on(tray: &[Source], setup: &Setup, pass: u32) -> Params

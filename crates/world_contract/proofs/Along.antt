@@ -11,12 +11,12 @@ use Rattle.scan_job.specs.declared.job.Job.{Job}
 use Rattle.client_refines.specs.ClientRefinement.{requested_setting}
 use Rattle.system_model.specs.AbstractMessages.{Status, Why, Eof}
 use Rattle.system_model.specs.Client.{AbstractJob as RuledJob, JobStage, Idle, Running, Done, Ended, ClientView}
-use Rattle.system_model.specs.Devices.{Make, Page, picture_frames, read_status_of, abstract_status}
+use Rattle.device_api.specs.Kinds.{Page, IsStocked}
+use Rattle.device_api.proofs.KindLaws.{without_pages}
+use Rattle.system_model.specs.Devices.{Make, picture_frames, read_status_of, abstract_status}
 use Rattle.system_model.specs.AbstractInForce.{SettingsResult, abstract_in_force}
 use Rattle.system_model.specs.Settings.{SettingsMeanTheSame, pair_of}
-use Rattle.page_picture.specs.declared.scene.DeviceKind.{DeviceKind}
-use Rattle.page_picture.specs.declared.scene.DeviceKind.TheVariants.{Flatbed, Hand, ThreePass, Feeder}
-use Rattle.system_model.specs.AbstractDevices.{AbstractDevice, IsStocked}
+use Rattle.system_model.specs.AbstractDevices.{AbstractDevice}
 use Rattle.system_model.specs.Causes.{Cause, IsExplained, Explains, GaveUp, LinkLost, LinkOutOfMemory, WasUnsaid, SourceFailed, NamesEof, Names, Unforced, WasUnlisted, HadNoPicture, WasHeld, Disallowed, TrayWasEmpty, TrayRanOut, ClientOutOfMemory, IsCauseAmong}
 use Rattle.system_model.specs.SystemStates.{JobState, SystemState, listed_devices, make_for, device_for, wanted_place}
 use Rattle.system_model.specs.Actions
@@ -259,19 +259,13 @@ unlisted_by h i job s o f none device there named =
     let gone : IsGone h (place_named (infos_of h) job.device) = subst (IsGone h) place ((f.owned (wanted_place s i)).gone none) in
     subst (λ (x : List ℕ). Contains h.events (Unplug x)) named (gone device (device_named h job.device device o.apart there named))
 
-stocked_feeder : (kind : DeviceKind) → IsStocked kind [] → kind ≡ Feeder
-stocked_feeder Feeder h = refl
-stocked_feeder Flatbed h = absurd (let clash : 0 ≡ 1 = h in omega (arith, clash))
-stocked_feeder Hand h = absurd (let clash : 0 ≡ 1 = h in omega (arith, clash))
-stocked_feeder ThreePass h = absurd (let clash : 0 ≡ 1 = h in omega (arith, clash))
-
 feeders_by : (h : History) (i : ℕ) (job : Job) (s : SystemState) → Own h i job → Fine h job s → Invariant s → (device_for s i).tray ≡ [] → AreFeeders h job.device
 feeders_by h i job s o f sound none device there named =
     let at = device_named h job.device device o.apart there named in
     let place : wanted_place s i ≡ place_named (infos_of h) job.device = f.places i ∙ own_place h i job o.at in
     let make : make_for s i ≡ make_of (sources_of h (place_named (infos_of h) job.device)) (Some device) = ap (λ (m : ℕ → Make). m (wanted_place s i)) f.makes ∙ (ap (make_at h) place ∙ ap (make_of (sources_of h (place_named (infos_of h) job.device))) at) in
     let stocked : IsStocked (make_for s i).model (device_for s i).tray = (sound.fit (wanted_place s i)).stocked in
-    stocked_feeder device.setup.scene.kind (subst (λ (m : Make). IsStocked m.model []) make (subst (λ (tray : List Page). IsStocked (make_for s i).model tray) none stocked))
+    without_pages device.setup.scene.kind (subst (λ (m : Make). IsStocked m.model []) make (subst (λ (tray : List Page). IsStocked (make_for s i).model tray) none stocked))
 
 -- ---- one step of the job
 

@@ -2,7 +2,8 @@
 use Rattle.std.proofs.Common.{◌≡◌, ◌∙◌, ℕ, List, [], ◌∷◌, Bool, true, false, Option, Some, None, refl, sym}
 use Rattle.page_picture.specs.Shows.{Frame}
 use Rattle.system_model.specs.AbstractMessages.{Challenge, AbstractRequest, Init, GetDevices, Open, Authorize, Describe, Get, Set, Parameters, Start, Cancel, Close, Exit}
-use Rattle.system_model.specs.Devices.{Make, Page, AbstractAcceptedSet, accept_value, has_readable_value, picture_frames}
+use Rattle.device_api.specs.Kinds.{Page}
+use Rattle.system_model.specs.Devices.{Make, AbstractAcceptedSet, accept_value, has_readable_value, picture_frames}
 use Rattle.system_model.specs.AbstractDevices.{AbstractDevice, ScanPhase, Resting, Between, Reading, is_held_by, is_resting}
 use Rattle.system_model.specs.Daemon.{AnswerEffect, Environment, FailureCounts, TransferState, Quiet, Waiting, Streaming, Ending, allow, answer, answer_awaited, answer_if, begin_page, begin_pass, get_reply, hand_out_device, open_listed, put_reply, refuse, serve, set_reply, start_at, start_effect, start_or_fail, start_page, take_listed}
 use Rattle.system_model.specs.AbstractMessages.{same_text}

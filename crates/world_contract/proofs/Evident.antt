@@ -2,7 +2,8 @@
 use Rattle.std.specs.List.{AllByRecursion}
 use Rattle.std.proofs.Common.{◌≡◌, ◌⊎◌, ◌≢◌, ℕ, List, [], ◌∷◌, ◌++◌, true, false, Option, Some, inl, inr, refl, ap, subst, ◌∙◌}
 use Rattle.system_model.specs.AbstractMessages.{Eof, Challenge, AbstractRequest, Start}
-use Rattle.system_model.specs.Devices.{Make, Page, picture_frames, read_status_of}
+use Rattle.device_api.specs.Kinds.{Page}
+use Rattle.system_model.specs.Devices.{Make, picture_frames, read_status_of}
 use Rattle.system_model.specs.AbstractDevices.{AbstractDevice}
 use Rattle.system_model.specs.Daemon.{FailureCounts, Streaming}
 use Rattle.system_model.specs.Causes.{Cause, GaveUp, LinkLost, LinkOutOfMemory, WasUnsaid, SourceFailed, NamesEof, Names, Unforced, WasUnlisted, HadNoPicture, WasHeld, Disallowed, TrayWasEmpty, TrayRanOut, ClientOutOfMemory}

@@ -1,14 +1,14 @@
 -- What is so of the pages of a device, and of its starts, by its marks.
 use Rattle.std.specs.Prelude.{cond}
 use Rattle.std.specs.List.{AllByRecursion}
-use Rattle.std.proofs.Common.{◌≡◌, ℕ, List, [], ◌∷◌, Bool, true, false, Some, None, subst}
-use Rattle.page_picture.specs.declared.scene.DeviceKind.TheVariants.{Flatbed, Hand, ThreePass, Feeder}
-use Rattle.system_model.specs.Devices.{Model, Page}
-use Rattle.system_model.specs.AbstractDevices.{Begin, laid_in, without_first}
+use Rattle.std.proofs.Common.{◌≡◌, ℕ, List, [], ◌∷◌, Bool, true, false, Some, None, subst, sym}
+use Rattle.device_api.specs.Kinds.{Model, Page, laid_in, is_feeder}
+use Rattle.system_model.specs.AbstractDevices.{Begin, without_first}
 use Rattle.system_model.specs.Marks.{Mark, Took, Started, Rested, Returned, Loaded, Removed, DeviceView, MarksLead, MayMark, view_after_mark, starts_in}
 use Rattle.world_contract.proofs.Lists.{all_then}
 use Rattle.world_contract.proofs.Mine.{IsMine}
-use Rattle.device_api.specs.State.{is_feeder}
+use Rattle.device_api.specs.State.{pages_with}
+use Rattle.device_api.proofs.KindLaws.{laid_is}
 
 abbrev pub LoadsIt : (Page → Type 0) → Mark → Type 0
 LoadsIt P (Took i d) = Unit {0}
@@ -43,11 +43,12 @@ started_all : (P : Page → Type 0) (b : Bool) (tray : List Page) → AllByRecur
 started_all P true tray a = rest_all P tray a
 started_all P false tray a = a
 
+with_all : (P : Page → Type 0) (feeder : Bool) (page : Page) (tray : List Page) → P page → AllByRecursion P tray → AllByRecursion P (pages_with feeder tray page)
+with_all P true page tray p a = all_then P tray (page ∷ []) a (p, tt)
+with_all P false page tray p a = (p, tt)
+
 laid_all : (P : Page → Type 0) (model : Model) (page : Page) (tray : List Page) → P page → AllByRecursion P tray → AllByRecursion P (laid_in model page tray)
-laid_all P Feeder page tray p a = all_then P tray (page ∷ []) a (p, tt)
-laid_all P Flatbed page tray p a = (p, tt)
-laid_all P Hand page tray p a = (p, tt)
-laid_all P ThreePass page tray p a = (p, tt)
+laid_all P model page tray p a = subst (AllByRecursion P) (sym (laid_is model page tray)) (with_all P (is_feeder model) page tray p a)
 
 first_page : (P : Page → Type 0) (tray : List Page) (page : Page) (later : List Page) → tray ≡ page ∷ later → AllByRecursion P tray → P page
 first_page P tray page later e a = (subst (AllByRecursion P) e a).0

@@ -7,7 +7,8 @@ use Rattle.page_picture.specs.Meaning.{meaning_of, picture_of}
 use Rattle.scan_frames.specs.Frames.{frame_of, frames_of, has_picture, takes_colors}
 use Rattle.scan_laws.specs.SetAndJoin as rules
 use Rattle.system_model.specs.AbstractMessages.{Challenge, AbstractRequest, Init, GetDevices, Open, Authorize, Describe, Get, Set, Parameters, Start, Cancel, Close, Exit, same_text}
-use Rattle.system_model.specs.Devices.{Make, OptionsInForce, Page, AbstractAcceptedSet, accept_value, has_readable_value, picture_frames}
+use Rattle.device_api.specs.Kinds.{Page}
+use Rattle.system_model.specs.Devices.{Make, OptionsInForce, AbstractAcceptedSet, accept_value, has_readable_value, picture_frames}
 use Rattle.system_model.specs.AbstractDevices.{AbstractDevice, is_held_by, is_resting}
 use Rattle.system_model.specs.Causes.{Cause, HadNoPicture, WasUnlisted, WasHeld, Disallowed}
 use Rattle.system_model.specs.Daemon.{AnswerEffect, Environment, TransferState, allow, answer, answer_awaited, answer_if, get_reply, hand_out_device, held_cause, open_listed, put_reply, refuse, serve, set_reply, take_listed}

@@ -6,7 +6,8 @@ use Rattle.device_api.specs.State.{DeviceState, HeldPage, Phase as AnyPhase, aft
 use Rattle.device_api.specs.State.Phase.{AtRest, Between, Reading}
 use Rattle.daemon_refines.specs.Cores.{fresh_device, fresh_devices}
 use Rattle.daemon_refines.specs.ContextRefinement.{page_views}
-use Rattle.system_model.specs.Devices.{Make, Page}
+use Rattle.device_api.specs.Kinds.{Page}
+use Rattle.system_model.specs.Devices.{Make}
 use Rattle.system_model.specs.AbstractDevices.{Begin}
 use Rattle.system_model.specs.SystemStates.{SystemState, listed_devices, make_for, device_for, wanted_place}
 use Rattle.system_model.specs.Transitions.{By, Loads, Transition, Unplugs, after_transition}

@@ -15,26 +15,17 @@ use Rattle.option_desc.specs.declared.value.Value.TheVariants.{Flag, Int, Fixed,
 use Rattle.option_desc.specs.Fits.{Fits}
 use Rattle.option_desc.specs.Put.{Puts, NearestValue}
 use Rattle.option_desc.specs.Reads.{ReadsAsValue}
-use Rattle.page_picture.specs.declared.scene.DeviceKind.{DeviceKind}
-use Rattle.page_picture.specs.declared.scene.DeviceKind.TheVariants.{Flatbed, Hand, ThreePass, Feeder}
 use Rattle.scan_frames.specs.declared.setup.Setup.{Setup}
 use Rattle.device_api.specs.declared.scan_option.ScanOption.{ScanOption}
 use Rattle.device_api.specs.InForce.{Placement, may_be_set, number_named}
 use Rattle.device_api.specs.Options.{descriptor_of, descriptors_of, is_active, option_at, option_caps, option_name, options_of}
 use Rattle.device_api.specs.Values.{option_passing, setup_after, with_given, with_value}
+use Rattle.device_api.proofs.KindLaws.{are_apart, goes_by, options_apart}
 use Rattle.device_api.proofs.OptionForms.{may_be_set_is}
 use Rattle.scan_laws.specs.NearestSet.{PutsNearest, PutAllNearest}
 use Rattle.world_contract.specs.Settings.{AreSettingsPut, IsSettingPut}
 
 -- ---- options are found by their names
-
-abbrev goes_by : ScanOption → ScanOption → Bool
-goes_by a b = bytes_eq (option_name a) (option_name b)
-
--- no two of these options have one name
-abbrev are_apart : List ScanOption → Bool
-are_apart [] = true
-are_apart (o ∷ os) = not (list_any (goes_by o) os) && are_apart os
 
 both_hold : (a b : Bool) → (a && b) ≡ true → (a ≡ true) × (b ≡ true)
 both_hold true b e = (refl, e)
@@ -69,12 +60,6 @@ number_is (x ∷ os) m (suc i) o at apart =
     let more : (m + 1) + i ≡ m + suc i = omega arith in
     ap (λ b. cond b (Some m) (position_from (λ p. goes_by p o) (m + 1) os)) other ∙ number_is os (m + 1) i o at parts.1 ∙ ap (λ (n : ℕ). Some n) more
 
-all_apart : (k : DeviceKind) → are_apart (options_of k) ≡ true
-all_apart Flatbed = refl
-all_apart Hand = refl
-all_apart ThreePass = refl
-all_apart Feeder = refl
-
 -- ---- and so are their descriptors
 
 by_name : (s : Setup) (name : List ℕ) (m : ℕ) (os : List ScanOption) → position_from (λ (d : Descriptor). bytes_eq d.name name) m (map (descriptor_of s) os) ≡ position_from (λ p. bytes_eq (option_name p) name) m os
@@ -85,7 +70,7 @@ by_name s name m (o ∷ os) = ap (λ r. cond (bytes_eq (option_name o) name) (So
 number_named_is : (s : Setup) (i : ℕ) (o : ScanOption) → slice_get (options_of s.scene.kind) i ≡ Some o → number_named (option_name o) (descriptors_of s) ≡ Some i
 number_named_is s i o at =
     let same : 0 + i ≡ i = omega arith in
-    by_name s (option_name o) 0 (options_of s.scene.kind) ∙ number_is (options_of s.scene.kind) 0 i o at (all_apart s.scene.kind) ∙ ap (λ (n : ℕ). Some n) same
+    by_name s (option_name o) 0 (options_of s.scene.kind) ∙ number_is (options_of s.scene.kind) 0 i o at (options_apart s.scene.kind) ∙ ap (λ (n : ℕ). Some n) same
 
 -- where the test passes first
 abbrev PassesAt : {X : Type 0} → (X → Bool) → ℕ → ℕ → List X → Type 0

@@ -1,7 +1,7 @@
 -- Why a device is not listed, and who holds it, by its marks.
 use Rattle.std.specs.List.{AllByRecursion}
 use Rattle.std.proofs.Common.{◌≡◌, ℕ, List, [], ◌∷◌, false, Some, None, sym, subst}
-use Rattle.system_model.specs.Devices.{Page}
+use Rattle.device_api.specs.Kinds.{Page}
 use Rattle.system_model.specs.Marks.{Mark, Took, Started, Rested, Returned, Loaded, Removed, DeviceView, MarksLead, view_after_mark}
 use Rattle.world_contract.proofs.Mine.{IsMine}
 use Rattle.world_contract.proofs.Marked.{LoadsIt, Slotted, keeps}

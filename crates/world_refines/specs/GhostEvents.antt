@@ -10,8 +10,8 @@ use Rattle.system_model.specs.Client.{Idle, abstract_farewell}
 use Rattle.system_model.specs.Daemon.{Waiting, Streaming, Ending}
 use Rattle.system_model.specs.Actions as actions
 use Rattle.page_picture.specs.Source.{SourceState}
-use Rattle.system_model.specs.Devices.{Page}
-use Rattle.system_model.specs.AbstractDevices.{Resting, has_room}
+use Rattle.device_api.specs.Kinds.{Page, has_room}
+use Rattle.system_model.specs.AbstractDevices.{Resting}
 use Rattle.system_model.specs.Transitions.{Transition, By, Loads, Unplugs, IsHistory, IsImaging, IsUnderWay, after_all}
 use Rattle.saned_core.specs.Loading.{core_after_load}
 use Rattle.dispatch.specs.Table.{after_unplug}

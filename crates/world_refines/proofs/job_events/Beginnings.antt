@@ -7,13 +7,15 @@ use Rattle.sane_fixed.specs.declared.byte_order.ByteOrder.TheVariants.{Little}
 use Rattle.page_picture.specs.Page as page
 use Rattle.page_picture.specs.Page.{IsPageView}
 use Rattle.page_picture.specs.declared.scene.DeviceKind.{DeviceKind}
-use Rattle.page_picture.specs.declared.scene.DeviceKind.TheVariants.{Flatbed, Hand, ThreePass, Feeder}
+use Rattle.page_picture.specs.declared.scene.DeviceKind.TheVariants.{Flatbed}
 use Rattle.md5_auth.specs.declared.users.Entry.{Entry}
 use Rattle.frame_join.specs.FrameHistory.{empty_history}
 use Rattle.device_api.specs.ScannerLimits.{HasLimits, IsHeldPage, IsPageCount}
-use Rattle.device_api.specs.State.{DeviceState, HeldPage, Phase, after_cancel, cancelled_in, feeds, is_feeder, left_behind}
+use Rattle.device_api.specs.Kinds.{is_feeder, IsStocked}
+use Rattle.device_api.specs.State.{DeviceState, HeldPage, Phase, after_cancel, cancelled_in, feeds, left_behind}
 use Rattle.device_api.specs.State.Phase.{AtRest, Between, Reading}
 use Rattle.device_api.proofs.AllowedLaws.{defaults_allowed}
+use Rattle.device_api.proofs.KindLaws.{stocked_by}
 use Rattle.sane_fixed.specs.declared.device_info.DeviceInfo.{DeviceInfo}
 use Rattle.dispatch.specs.RegistryFault.{HaveOwnNames}
 use Rattle.dispatch.specs.Table.{Table, fresh_table}
@@ -23,7 +25,7 @@ use Rattle.scan_job.specs.declared.job.Job.{Job}
 use Rattle.client_replies.specs.ProtocolStates.{is_running}
 use Rattle.net_client.specs.ClientStates.{IsNewClient, ClientState}
 use Rattle.system_model.specs.Devices.{AreOptionsAllowed, IsPageShaped}
-use Rattle.system_model.specs.AbstractDevices.{AreShaped, DeviceInvariant, IsStocked}
+use Rattle.system_model.specs.AbstractDevices.{AreShaped, DeviceInvariant}
 use Rattle.system_model.specs.SystemStates.{initial_job}
 use Rattle.system_model.proofs.JobPromises.{beginning_sound}
 use Rattle.client_refines.proofs.SilentCalls.{made_alike}
@@ -91,10 +93,7 @@ cancelled_count (Between n) s h = left_count (feeds s) s.pages h
 cancelled_count (Reading pass given) s h = left_count (feeds s) s.pages h
 
 stocked : (kind : DeviceKind) (tray : List page.PageView) (n : ℕ) → length tray ≡ n → IsPageCount (is_feeder kind) n → IsStocked kind tray
-stocked Flatbed tray n e h = e ∙ h
-stocked Hand tray n e h = e ∙ h
-stocked ThreePass tray n e h = e ∙ h
-stocked Feeder tray n e h = omega (arith, e, h)
+stocked kind tray n e h = stocked_by kind tray (subst (IsPageCount (is_feeder kind)) (sym e) h)
 
 shaped : (pages : List HeldPage) → AreHeld pages → AreShaped (page_views pages)
 unfolding IsPageShaped

@@ -5,7 +5,8 @@ use Rattle.sane_fixed.specs.declared.status.Status.{Status}
 use Rattle.sane_fixed.specs.declared.status.Status.TheVariants.{Good, Eof}
 use Rattle.page_picture.specs.Source.{SourceState}
 use Rattle.sane_fixed.specs.declared.device_info.DeviceInfo.{DeviceInfo}
-use Rattle.system_model.specs.Devices.{Make, Page}
+use Rattle.device_api.specs.Kinds.{Page}
+use Rattle.system_model.specs.Devices.{Make}
 use Rattle.page_picture.specs.declared.sources.kinds.Source.{Source}
 use Rattle.system_model.specs.Actions.{Action as Ruled}
 use Rattle.scan_job.specs.declared.outcome.Outcome.TheVariants.{Ended}

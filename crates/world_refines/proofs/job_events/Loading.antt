@@ -21,8 +21,9 @@ use Rattle.saned_core.specs.declared.session_slot.SessionId.{SessionId}
 use Rattle.saned_core.specs.Loading.{holds, holds_in, is_lease_named, core_after_load, on_first, slot_with_page}
 use Rattle.saned_core.specs.DaemonStates.{Core, is_slot_number, on_session_slot, on_session, session_slot_of, session_in, session_of}
 use Rattle.system_model.specs.AbstractMessages.{Challenge}
-use Rattle.system_model.specs.Devices.{IsPageShaped, Make, Page}
-use Rattle.system_model.specs.AbstractDevices.{AbstractDevice, Resting, has_room, is_held_by}
+use Rattle.device_api.specs.Kinds.{Page, has_room}
+use Rattle.system_model.specs.Devices.{IsPageShaped, Make}
+use Rattle.system_model.specs.AbstractDevices.{AbstractDevice, Resting, is_held_by}
 use Rattle.system_model.specs.SystemStates.{JobState, with_entry}
 use Rattle.system_model.specs.AbstractSessions.{AbstractSession, one_word_session}
 use Rattle.system_model.specs.Transitions.{IsHistory, Loads, after_all}

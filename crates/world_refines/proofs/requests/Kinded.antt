@@ -3,7 +3,8 @@ use Rattle.std.proofs.Common.{◌≡◌, ℕ, List, [], ◌∷◌, Bool, true, f
 use Rattle.option_desc.specs.declared.value.Value.{Value}
 use Rattle.page_picture.specs.Shows.{Frame}
 use Rattle.system_model.specs.AbstractMessages.{Acked, Authorize, Begun, Cancel, Challenge, Challenged, Close, Describe, Described, Exit, Gave, Get, GetDevices, Got, Greeted, Init, Listed, Open, Opened, Parameters, Refused, AbstractReply, AbstractRequest, Set, Shaped, Start, same_text}
-use Rattle.system_model.specs.Devices.{Make, OptionsInForce, Page, AbstractAcceptedSet, picture_frames, accept_value, has_readable_value, readable_value}
+use Rattle.device_api.specs.Kinds.{Page}
+use Rattle.system_model.specs.Devices.{Make, OptionsInForce, AbstractAcceptedSet, picture_frames, accept_value, has_readable_value, readable_value}
 use Rattle.system_model.specs.AbstractDevices.{Between, AbstractDevice, ScanPhase, Reading, Resting, is_held_by, is_resting}
 use Rattle.system_model.specs.Daemon.{Environment, TransferState, Ending, FailureCounts, Quiet, Streaming, Waiting, allow, answer, answer_awaited, answer_if, begin_page, begin_pass, get_reply, open_listed, put_reply, set_reply, start_at, start_or_fail, start_page, start_effect, hand_out_device, take_listed}
 

@@ -11,7 +11,8 @@ use Rattle.dispatch.specs.declared.table.place.Lease.{Lease}
 use Rattle.saned_requests.specs.Holding.{held_by}
 use Rattle.saned_requests.specs.RequestAnswers.{RequestContext}
 use Rattle.system_model.specs.AbstractMessages.{Authorize, Cancel, Challenge, Close, Describe, Exit, Get, GetDevices, Init, Open, Parameters, AbstractRequest, Set, Start, same_text}
-use Rattle.system_model.specs.Devices.{Make, Page, AbstractAcceptedSet, picture_frames, accept_value, has_readable_value}
+use Rattle.device_api.specs.Kinds.{Page}
+use Rattle.system_model.specs.Devices.{Make, AbstractAcceptedSet, picture_frames, accept_value, has_readable_value}
 use Rattle.system_model.specs.AbstractDevices.{Begin, Between, AbstractDevice, ScanPhase, Reading, Resting, is_held_by, is_resting}
 use Rattle.system_model.specs.Daemon.{Environment, TransferState, Ending, FailureCounts, Quiet, AnswerEffect, Streaming, Waiting, allow, answer, answer_awaited, answer_if, begin_page, begin_pass, get_reply, open_listed, put_reply, set_reply, start_at, start_or_fail, start_page, start_effect, hand_out_device, take_listed}
 use Rattle.system_model.specs.Actions.{environment_of}

@@ -4,7 +4,8 @@ use Rattle.std.proofs.lemmas.List.Elements.{All-cons, All-nil}
 use Rattle.page_picture.specs.SourceView.{source_state}
 use Rattle.page_picture.specs.declared.sources.kinds.Source.{Source}
 use Rattle.device_api.specs.ScannerLimits.{HasLimits, IsHeldPage, IsPageCount}
-use Rattle.device_api.specs.State.{held_from, is_feeder}
+use Rattle.device_api.specs.Kinds.{is_feeder}
+use Rattle.device_api.specs.State.{held_from}
 use Rattle.device_api.specs.State.Phase.{AtRest}
 use Rattle.virtual_scanner.specs.Inside.{device_on}
 use Rattle.virtual_scanner.proofs.Limits.{kind_new, limits_new}

@@ -2,7 +2,8 @@ use Rattle.std.proofs.Common.{◌≡◌, ◌∙◌, ap, sym, subst, map, List}
 use Rattle.page_picture.specs.SourceView.{source_state}
 use Rattle.page_picture.specs.Source.{SourceState}
 use Rattle.device_api.specs.ScannerLimits.{HasLimits}
-use Rattle.device_api.specs.State.{is_feeder, left_behind}
+use Rattle.device_api.specs.Kinds.{is_feeder}
+use Rattle.device_api.specs.State.{left_behind}
 use Rattle.virtual_scanner.specs.Inside.{device_on}
 use Rattle.virtual_scanner.specs.Phases.{phase_of}
 use Rattle.virtual_scanner.proofs.Limits.{kept_frame, limits_left, map-left_behind, same_room}
