@@ -13,10 +13,10 @@ from turns_on import digest, texts_of
 RECORD = f"{ROOT}/tests/edits.record"
 
 
-def whole_texts(folder, below):
+def whole_texts(folder, below, parts):
     """All that decides of a crate: its own text without comments, and what its functions turn on; of a file of specs/ each
     definition, since the file that it stands in decides nothing."""
-    own = [it for part in ("src", "proofs") for it in files_below(f"{folder}/{part}") if it.endswith((".rt", ".antt"))]
+    own = [it for part in parts for it in files_below(f"{folder}/{part}") if it.endswith((".rt", ".antt"))]
     texts = {without_comments(kept_text(it)) for it in own}
     told = [definitions(it) for it in files_below(f"{folder}/specs") if it.endswith(".antt") and not it.endswith("/Lib.antt")]
     texts |= {it.each_text(i) for it in told for i in range(len(it.each))}
@@ -25,8 +25,8 @@ def whole_texts(folder, below):
 
 
 @functools.cache
-def whole_sum(folder, below):
-    return digest(whole_texts(folder, below))
+def whole_sum(folder, below, parts):
+    return digest(whole_texts(folder, below, parts))
 
 
 def sum_of(crate, path):
@@ -39,13 +39,15 @@ def sum_of(crate, path):
     items = [it for it in items_of(crate.folder).get(edit.called, []) if it.path == f"{crate.folder}/{edit.file}" and it.kind == "fn"
              and all(old in it.whole for _, old, _ in edit.pairs)]
     if len(items) != 1:
-        return digest(pairs | {whole_sum(crate.folder, tuple(crate.below))})
+        # no lemma proves what is false
+        return digest(pairs | {whole_sum(crate.folder, tuple(crate.below), ("src",))})
     return digest(pairs | texts_of(crate.folder, crate.below, items[0], "\n".join(pairs)))
 
 
 def sum_of_rights(crate):
     """The sum of what it turns on whether the right bodies of a crate are proved."""
-    return digest({read(it) for it in crate.rights()} | {whole_sum(crate.folder, tuple(crate.below))})
+    # but a right body must be proved by those that stand
+    return digest({read(it) for it in crate.rights()} | {whole_sum(crate.folder, tuple(crate.below), ("src", "proofs"))})
 
 
 def recorded():
