@@ -117,12 +117,12 @@ pub fn is_same(table: &[u8; 256]) -> bool
     ensures same { result ≡ true → IsSame table.now }
     ensures other { result ≡ false → IsSame table.now → ⊥ }
 {
-    for v in 0..256 {
-        if usize::from(table[v]) != v {
-            return false;
-        }
+    // It goes on behind the first that it changes, so that it takes many bytes at once.
+    let mut same = true;
+    for v in 0..256usize {
+        same &= table[v] == v as u8;
     }
-    true
+    same
 }
 
 /// Whether the tables leave each sample's upper byte as it is.

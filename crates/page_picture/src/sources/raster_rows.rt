@@ -373,6 +373,37 @@ pub fn read_row<R: Rereadable>(
     Ok(())
 }
 
+/// A row of so many bytes is read by itself, straight to where its bytes are wanted: to copy it takes longer than a read more.
+const LONG_ROW: usize = 16384;
+
+/// Reads the next row, whose bytes are the upper bytes of its samples, where none are held. It fails where the file has none.
+fn read_straight<R: Rereadable>(
+    reader: &mut R,
+    header: &Header,
+    rows: u32,
+    at: usize,
+    part: &mut [u8],
+) -> Result<(), ReadFault>
+    requires page { IsPageHeader header.now }
+    requires bytes { header.now.maxval ≡ 255 }
+    requires rows { 1 ≤ rows }
+    requires size { length part.old ≡ file_row_size header.now }
+    requires inside { at + length part.old ≤ row_count header.now }
+    ensures kept { R.is_kept reader.new ≡ R.is_kept reader.old }
+    ensures text { R.text reader.new ≡ R.text reader.old }
+    ensures read { OnOk result (R.is_kept reader.old ≡ true
+        → GivesPartOf header.now at (R.left reader.old) (R.left reader.new) part.new) }
+    ensures failed { OnErr result (R.is_kept reader.old ≡ true
+        → HasRows header.now rows (R.left reader.old)
+        → R.faults reader.old < R.faults reader.new) }
+{
+    let mut reads = 0;
+    if !fill(reader, part, &mut reads)? {
+        return Err(ReadFault);
+    }
+    Ok(())
+}
+
 /// Writes the upper bytes of the samples that the next row's numbers show, from the `at`-th on, as `read_row` writes samples.
 pub fn read_row_bytes<R: Rereadable>(
     reader: &mut R,
@@ -403,6 +434,9 @@ pub fn read_row_bytes<R: Rereadable>(
         → R.faults reader.old < R.faults reader.new) }
 {
     let size = raster_size(&row_header(header));
+    if header.maxval == 255 && *held == 0 && size >= LONG_ROW && part.len() == size {
+        return read_straight(reader, header, rows, at, part);
+    }
     let from = take_row(reader, header, rows, held, bytes)?;
     put_upper_bytes(header.maxval, &bytes[from..from + size], at, part);
     Ok(())
