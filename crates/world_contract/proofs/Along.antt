@@ -26,8 +26,8 @@ use Rattle.system_model.specs.Marks.{DeviceView, MarksLead, marks, device_view, 
 use Rattle.system_model.specs.ModelPromises.{CausesAreGrounded, HistoriesKeepInvariant, MarksAreEnabled, OutcomesLast}
 use Rattle.system_model.specs.Invariants.{IsCaused, Invariant, StageInvariant}
 use Rattle.scan_world.specs.declared.event.Event.{Event}
-use Rattle.scan_world.specs.declared.event.Event.TheVariants.{Connect, ToDaemon, ToClient, DataConnect, DataTurn, DataToClient, LoseControl, LoseImage, Cancel, Load, Unplug}
-use Rattle.world_refines.specs.NewWorlds.{info_of_state, make_of}
+use Rattle.scan_world.specs.declared.event.Event.TheVariants.{ToDaemon, ToClient, DataTurn, DataToClient, LoseControl, LoseImage, Cancel, Unplug}
+use Rattle.world_refines.specs.NewWorlds.{make_of}
 use Rattle.world_refines.specs.WorldRefinement.{HaveDifferentNames}
 use Rattle.world_refines.specs.GhostStates.{backend_of, is_guarded, name_at, place_named, abstract_job}
 use Rattle.world_refines.proofs.state.Infos.{place_is}
@@ -46,21 +46,18 @@ use Rattle.world_contract.proofs.Pages.{HasDevice, IsOfDevice, IsOfOne, loads_if
 use Rattle.world_contract.proofs.Options.{IsForced, streaming}
 use Rattle.world_contract.proofs.NoPictures.{IsSet, no_meaning, starting}
 use Rattle.world_contract.proofs.Connected.{IsBehind, IsFree, came_behind}
-use Rattle.world_contract.proofs.Evident.{Comes, IsAnswer, all_come, causes_by, met_by}
+use Rattle.world_contract.proofs.Evident.{Comes, IsAnswer, IsFailedAnswer, all_come, causes_by, met_by}
 use Rattle.world_contract.proofs.Events.{answers_event, chokes_event, fault_event, image_event, loses_event, named_event, short_event, stops_event}
 use Rattle.world_contract.proofs.Nearest.{nearest_for}
 use Rattle.world_contract.proofs.Scanned.{infos_of, name_of}
-use Rattle.world_contract.proofs.Traced.{StepOf}
-use Rattle.world_contract.specs.Calls.{HadUnsaidReply}
+use Rattle.world_refines.specs.FailedSources.{AllAlong, FailsSo}
+use Rattle.world_contract.specs.Calls.{HadFailure, HadUnsaidReply}
 
 -- ---- devices
 
 -- the place that job j names; one job stands for those that there are not
 abbrev pub place_of : History → Job → ℕ → ℕ
 place_of h job j = place_named (infos_of h) (slice_index_or h.jobs j job).device
-
-abbrev pub IsGone : History → ℕ → Type 0
-IsGone h d = (device : DeviceState) → slice_get h.devices d ≡ Some device → Contains h.events (Unplug device.info.name)
 
 abbrev pub IsHeldBy : History → Job → ℕ → ℕ → Type 0
 IsHeldBy h job d j = (place_of h job j ≡ d) × (j < length h.jobs)
@@ -70,7 +67,7 @@ pub record Fine (h : History) (job : Job) (s : SystemState) : Type 0 where
   pub makes : s.make ≡ make_at h
   pub places : (j : ℕ) → wanted_place s j ≡ place_of h job j
   pub slots : (d : ℕ) → Slotted (HasDevice h d) (IsOfDevice h d) (device_view (s.make d) (s.device d))
-  pub owned : (d : ℕ) → Owned (IsGone h d) (IsHeldBy h job d) (device_view (s.make d) (s.device d))
+  pub owned : (d : ℕ) → Owned (Unit {0}) (IsHeldBy h job d) (device_view (s.make d) (s.device d))
 
 make_stays : (s : SystemState) (x : Transition) → (after_transition s x).make ≡ s.make
 make_stays s (By i x) = refl
@@ -82,29 +79,13 @@ device_stays s (By i x) d e = rw e refl
 device_stays s (Loads l page) d e = rw e refl
 device_stays s (Unplugs l) d e = rw e refl
 
-unplugged : (h : History) (d : ℕ) (event : Event) → In event h.events → StepOf (map info_of_state h.devices) event (Unplugs d) → IsGone h d
-unplugged h d (Connect i) among of = absurd of
-unplugged h d (ToDaemon i n) among of = absurd of
-unplugged h d (ToClient i n) among of = absurd of
-unplugged h d (DataConnect i) among of = absurd of
-unplugged h d (DataTurn i) among of = absurd of
-unplugged h d (DataToClient i n) among of = absurd of
-unplugged h d (LoseControl i) among of = absurd of
-unplugged h d (LoseImage i) among of = absurd of
-unplugged h d (Cancel i) among of = absurd of
-unplugged h d (Load name source) among of = absurd of
-unplugged h d (Unplug name) among of = λ device there.
-    let both : Some name ≡ Some device.info.name = sym of ∙ name_there h.devices d device there in
-    let same : name ≡ device.info.name = cc in
-    contains_in h.events (Unplug device.info.name) (subst (λ (x : List ℕ). In (Unplug x) h.events) same among)
-
-owns_it : (h : History) (job : Job) (s : SystemState) (x : Transition) → IsOfOne h x → ((j : ℕ) → wanted_place s j ≡ place_of h job j) → AllByRecursion (OwnsIt (IsGone h (touched_device s x)) (IsHeldBy h job (touched_device s x))) (marks s x)
+owns_it : (h : History) (job : Job) (s : SystemState) (x : Transition) → IsOfOne h x → ((j : ℕ) → wanted_place s j ≡ place_of h job j) → AllByRecursion (OwnsIt (Unit {0}) (IsHeldBy h job (touched_device s x))) (marks s x)
 owns_it h job s (By j deed) of places =
-    all_each (IsMine j (wanted_place s j)) (OwnsIt (IsGone h (wanted_place s j)) (IsHeldBy h job (wanted_place s j))) (marks s (By j deed)) (λ m mine. mine_owns (IsGone h (wanted_place s j)) (IsHeldBy h job (wanted_place s j)) j (wanted_place s j) m (sym (places j), of.there) mine) (deed_mine j (wanted_place s j) (make_for s j) (listed_devices s) (s.job j) (device_for s j) deed)
+    all_each (IsMine j (wanted_place s j)) (OwnsIt (Unit {0}) (IsHeldBy h job (wanted_place s j))) (marks s (By j deed)) (λ m mine. mine_owns (Unit {0}) (IsHeldBy h job (wanted_place s j)) j (wanted_place s j) m (sym (places j), of.there) mine) (deed_mine j (wanted_place s j) (make_for s j) (listed_devices s) (s.job j) (device_for s j) deed)
 owns_it h job s (Loads d page) of places = (tt, tt)
-owns_it h job s (Unplugs d) of places = (unplugged h d of.event of.among of.is, tt)
+owns_it h job s (Unplugs d) of places = (tt, tt)
 
-abbrev slot_at : SystemState → ℕ → DeviceView
+abbrev pub slot_at : SystemState → ℕ → DeviceView
 slot_at s d = device_view (s.make d) (s.device d)
 
 slot_stays : (s : SystemState) (x : Transition) (d : ℕ) → eqb d (touched_device s x) ≡ false → slot_at (after_transition s x) d ≡ slot_at s d
@@ -120,19 +101,20 @@ slots_then legal h job s x sound l of f d true e =
     subst (λ (n : ℕ). Slotted (HasDevice h n) (IsOfDevice h n) (slot_at (after_transition s x) n)) (sym (eqb-true d t e))
     (slotted_then (HasDevice h t) (IsOfDevice h t) (marks s x) (slot_at s t) (slot_at (after_transition s x) t) (slot_goes legal s x sound l) (loads_if h t s x of true (own t)) (f.slots t))
 
-owned_after : MarksAreEnabled → (h : History) (job : Job) (s : SystemState) (x : Transition) → Invariant s → IsEnabled s x → IsOfOne h x → Fine h job s → (d : ℕ) (b : Bool) → eqb d (touched_device s x) ≡ b → Owned (IsGone h d) (IsHeldBy h job d) (slot_at (after_transition s x) d)
-owned_after legal h job s x sound l of f d false e = subst (Owned (IsGone h d) (IsHeldBy h job d)) (sym (slot_stays s x d e)) (f.owned d)
-owned_after legal h job s x sound l of f d true e =
+pub owned_after : MarksAreEnabled → (G : ℕ → Type 0) (H : ℕ → ℕ → Type 0) (s : SystemState) (x : Transition) → Invariant s → IsEnabled s x → AllByRecursion (OwnsIt (G (touched_device s x)) (H (touched_device s x))) (marks s x) → ((d : ℕ) → Owned (G d) (H d) (slot_at s d)) →
+    (d : ℕ) (b : Bool) → eqb d (touched_device s x) ≡ b → Owned (G d) (H d) (slot_at (after_transition s x) d)
+owned_after legal G H s x sound l own_it f d false e = subst (Owned (G d) (H d)) (sym (slot_stays s x d e)) (f d)
+owned_after legal G H s x sound l own_it f d true e =
     let t = touched_device s x in
-    subst (λ (n : ℕ). Owned (IsGone h n) (IsHeldBy h job n) (slot_at (after_transition s x) n)) (sym (eqb-true d t e))
-    (owned_then (IsGone h t) (IsHeldBy h job t) (marks s x) (slot_at s t) (slot_at (after_transition s x) t) (slot_goes legal s x sound l) (owns_it h job s x of f.places) (f.owned t))
+    subst (λ (n : ℕ). Owned (G n) (H n) (slot_at (after_transition s x) n)) (sym (eqb-true d t e))
+    (owned_then (G t) (H t) (marks s x) (slot_at s t) (slot_at (after_transition s x) t) (slot_goes legal s x sound l) own_it (f t))
 
 pub fine_then : MarksAreEnabled → (h : History) (job : Job) (s : SystemState) (x : Transition) → Invariant s → IsEnabled s x → IsOfOne h x → Fine h job s → Fine h job (after_transition s x)
 fine_then legal h job s x sound l of f = record {
   makes = make_stays s x ∙ f.makes;
   places = λ j. wants_same s x j ∙ f.places j;
   slots = λ d. slots_then legal h job s x sound l of f d (eqb d (touched_device s x)) refl;
-  owned = λ d. owned_after legal h job s x sound l of f d (eqb d (touched_device s x)) refl;
+  owned = λ d. owned_after legal (λ (n : ℕ). Unit {0}) (IsHeldBy h job) s x sound l (owns_it h job s x of f.places) f.owned d (eqb d (touched_device s x)) refl;
 }
 
 -- ---- what a cause says
@@ -149,17 +131,35 @@ Evid h i job GaveUp = Contains h.events (Cancel i)
 Evid h i job LinkLost = Came h i (LoseControl i) ⊎ Came h i (LoseImage i)
 Evid h i job LinkOutOfMemory = Unit {0}
 Evid h i job WasUnsaid = HadUnsaidReply h job
-Evid h i job SourceFailed = ((n : ℕ) × (Came h i (ToDaemon i n) ⊎ Came h i (DataTurn i))) × CanFail h job.device
+Evid h i job SourceFailed = ((n : ℕ) × (Came h i (ToDaemon i n) ⊎ Came h i (DataTurn i))) × CanFail h job.device × HadFailure h i job
 Evid h i job NamesEof = Came h i (DataTurn i) × IsTold h job Eof
 Evid h i job (Names status) = Came h i (DataTurn i) × IsTold h job status
 Evid h i job Unforced = ⊥
-Evid h i job WasUnlisted = WasServed h i × IsUnlisted h job.device
+Evid h i job WasUnlisted = (n : ℕ) × (came : Came h i (ToDaemon i n)) × IsUnlisted h came.0 job.device
 Evid h i job HadNoPicture = WasServed h i × MeansNoPicture h job
 Evid h i job WasHeld = WasServed h i × IsShared h i job
 Evid h i job Disallowed = WasServed h i × (is_guarded h.users (backend_of job.device) ≡ true)
 Evid h i job TrayWasEmpty = WasServed h i × AreFeeders h job.device
 Evid h i job TrayRanOut = Unit {0}
 Evid h i job ClientOutOfMemory = (n : ℕ) × (Came h i (ToClient i n) ⊎ Came h i (DataToClient i n))
+
+-- ---- what each step has
+
+-- what failed by the model was counted
+abbrev pub HadFailures : History → ℕ → Type 0
+HadFailures h i = (job : Job) → slice_get h.jobs i ≡ Some job → HadFailure h i job
+
+-- a device that is not listed was taken out in one of these events
+abbrev pub AreGone : History → List Event → SystemState → Type 0
+AreGone h events s = (d : ℕ) (device : DeviceState) → slice_get h.devices d ≡ Some device → (s.device d).listed ≡ false → In (Unplug device.info.name) events
+
+-- an answer is to a request that came behind those events, and behind the connection of its job
+abbrev pub AnswersSo : History → SystemState → Transition → Type 0
+AnswersSo h s (By i (Actions.Answers challenge fault)) = (n : ℕ) × (came : Came h i (ToDaemon i n)) × AreGone h came.0 s
+AnswersSo h s x = Unit {0}
+
+abbrev pub IsStep : History → SystemState → Transition → Type 0
+IsStep h s x = FailsSo (HadFailures h) s x × AnswersSo h s x
 
 -- what is fixed of the job
 pub record Own (h : History) (i : ℕ) (job : Job) : Type 0 where
@@ -253,11 +253,12 @@ shared_by h i job s j o f held other =
       sym (name_of h third.device there.0 (ap (slice_get h.devices) his_place ∙ there.1)) ∙ name_of h job.device there.0 there.1,
     )
 
-unlisted_by : (h : History) (i : ℕ) (job : Job) (s : SystemState) → Own h i job → Fine h job s → (device_for s i).listed ≡ false → IsUnlisted h job.device
-unlisted_by h i job s o f none device there named =
+unlisted_by : (h : History) (i : ℕ) (job : Job) (s : SystemState) (events : List Event) → Own h i job → Fine h job s → AreGone h events s → (device_for s i).listed ≡ false → IsUnlisted h events job.device
+unlisted_by h i job s events o f gone none device there named =
     let place : wanted_place s i ≡ place_named (infos_of h) job.device = f.places i ∙ own_place h i job o.at in
-    let gone : IsGone h (place_named (infos_of h) job.device) = subst (IsGone h) place ((f.owned (wanted_place s i)).gone none) in
-    subst (λ (x : List ℕ). Contains h.events (Unplug x)) named (gone device (device_named h job.device device o.apart there named))
+    let off : (s.device (place_named (infos_of h) job.device)).listed ≡ false = subst (λ (d : ℕ). (s.device d).listed ≡ false) place none in
+    let out : Contains events (Unplug device.info.name) = contains_in events (Unplug device.info.name) (gone (place_named (infos_of h) job.device) device (device_named h job.device device o.apart there named) off) in
+    subst (λ (x : List ℕ). Contains events (Unplug x)) named out
 
 feeders_by : (h : History) (i : ℕ) (job : Job) (s : SystemState) → Own h i job → Fine h job s → Invariant s → (device_for s i).tray ≡ [] → AreFeeders h job.device
 feeders_by h i job s o f sound none device there named =
@@ -285,12 +286,23 @@ served_by_answer h i x a of =
     let b = behind_of h i deed (λ free. free) (of_deed h i x deed a.2 of) in
     answers_event (Came h i) (infos_of h) i a.0 a.1 b.event (came_behind h (infos_of h) i deed b) b.is
 
-failed_by : (h : History) (i : ℕ) (x : Action) → IsAnswer x ⊎ ((fault : _) × (x ≡ Actions.TurnsFault fault)) → own_of h i x → (n : ℕ) × (Came h i (ToDaemon i n) ⊎ Came h i (DataTurn i))
-failed_by h i x (inl a) of = let served = served_by_answer h i x a of in (served.0, inl served.1)
+failed_by : (h : History) (i : ℕ) (x : Action) → IsFailedAnswer x ⊎ ((fault : _) × (x ≡ Actions.TurnsFault fault)) → own_of h i x → (n : ℕ) × (Came h i (ToDaemon i n) ⊎ Came h i (DataTurn i))
+failed_by h i x (inl a) of = let served = served_by_answer h i x (a.0, Some a.1, a.2) of in (served.0, inl served.1)
 failed_by h i x (inr a) of =
     let deed = Actions.TurnsFault a.0 in
     let b = behind_of h i deed (λ free. free) (of_deed h i x deed a.1 of) in
     (0, inr (fault_event (Came h i) (infos_of h) i a.0 b.event (came_behind h (infos_of h) i deed b) b.is))
+
+-- and the failure was counted
+counted_by : (h : History) (i : ℕ) (job : Job) (s : SystemState) (x : Action) → IsFailedAnswer x ⊎ ((fault : _) × (x ≡ Actions.TurnsFault fault)) → IsUnderWay (s.job i).client.stage → IsStep h s (By i x) → slice_get h.jobs i ≡ Some job → HadFailure h i job
+counted_by h i job s x (inl a) on so at = (subst (λ (y : Action). FailsSo (HadFailures h) s (By i y)) a.2 so.0) on job at
+counted_by h i job s x (inr a) on so at = (subst (λ (y : Action). FailsSo (HadFailures h) s (By i y)) a.1 so.0) job at
+
+-- the devices that were not listed then were taken out before it came
+gone_by : (h : History) (i : ℕ) (job : Job) (s : SystemState) (x : Action) → IsAnswer x → IsStep h s (By i x) → Own h i job → Fine h job s → (device_for s i).listed ≡ false → (n : ℕ) × (came : Came h i (ToDaemon i n)) × IsUnlisted h came.0 job.device
+gone_by h i job s x a so o f none =
+    let r : AnswersSo h s (By i (Actions.Answers a.0 a.1)) = subst (λ (y : Action). AnswersSo h s (By i y)) a.2 so.1 in
+    (r.0, r.1, unlisted_by h i job s r.1.0 o f r.2 none)
 
 short_by : (h : History) (i : ℕ) (x : Action) → x ≡ Actions.TurnsShort → own_of h i x → Came h i (DataTurn i)
 short_by h i x is of =
@@ -323,28 +335,28 @@ pub record Here (h : History) (i : ℕ) (job : Job) (s : SystemState) : Type 0 w
   pub asks : AsksGuarded (s.job i)
   pub sound : Invariant s
 
-evid : (h : History) (i : ℕ) (job : Job) (s : SystemState) (x : Action) → Here h i job s → IsUnderWay (s.job i).client.stage → own_of h i x → (c : Cause) → Comes i (make_for s i) (s.job i) (device_for s i) x c → Evid h i job c
-evid h i job s x e on of GaveUp c = let o = of_deed h i x Actions.Stops c of in stops_event (Contains h.events) (infos_of h) i o.event (contains_in h.events o.event o.among) o.is
-evid h i job s x e on of LinkLost c = lost_by h i x c of
-evid h i job s x e on of LinkOutOfMemory c = tt
-evid h i job s x e on of WasUnsaid c = (of_deed h i x (Actions.Breaks false) c of).cut job e.own_job.at
-evid h i job s x e on of SourceFailed c = (failed_by h i x c.0 of, fallible_by h i job s e.own_job e.fine c.1)
-evid h i job s x e on of NamesEof c =
+evid : (h : History) (i : ℕ) (job : Job) (s : SystemState) (x : Action) → Here h i job s → IsUnderWay (s.job i).client.stage → own_of h i x → IsStep h s (By i x) → (c : Cause) → Comes i (make_for s i) (s.job i) (device_for s i) x c → Evid h i job c
+evid h i job s x e on of so GaveUp c = let o = of_deed h i x Actions.Stops c of in stops_event (Contains h.events) (infos_of h) i o.event (contains_in h.events o.event o.among) o.is
+evid h i job s x e on of so LinkLost c = lost_by h i x c of
+evid h i job s x e on of so LinkOutOfMemory c = tt
+evid h i job s x e on of so WasUnsaid c = (of_deed h i x (Actions.Breaks false) c of).cut job e.own_job.at
+evid h i job s x e on of so SourceFailed c = (failed_by h i x c.0 of, fallible_by h i job s e.own_job e.fine c.1, counted_by h i job s x c.0 on so e.own_job.at)
+evid h i job s x e on of so NamesEof c =
     (short_by h i x c.0 of, told_by h i job s Eof e.own_job e.fine e.is c.2 (streaming i (make_for s i) (s.job i) (device_for s i) (s.job i).client.stage on (e.sound.talks i) c.1) c.3)
-evid h i job s x e on of (Names status) c =
+evid h i job s x e on of so (Names status) c =
     (named_by h i x status c.0 of, told_by h i job s status e.own_job e.fine e.is c.2 (streaming i (make_for s i) (s.job i) (device_for s i) (s.job i).client.stage on (e.sound.talks i) c.1) c.3)
-evid h i job s x e on of Unforced c = absurd c
-evid h i job s x e on of WasUnlisted c = (served_by_answer h i x c.0 of, unlisted_by h i job s e.own_job e.fine c.1)
-evid h i job s x e on of HadNoPicture c = (
+evid h i job s x e on of so Unforced c = absurd c
+evid h i job s x e on of so WasUnlisted c = gone_by h i job s x c.0 so e.own_job e.fine c.1
+evid h i job s x e on of so HadNoPicture c = (
   served_by_answer h i x c.0 of,
   meant_by h i job s e.own_job e.fine e.is (starting i (make_for s i) (s.job i) (device_for s i) (s.job i).client.stage c.1.0 on (e.sound.talks i) c.1.1) c.1.2.0 c.1.2.1 c.1.2.2 c.1.2.3,
 )
-evid h i job s x e on of WasHeld c = (served_by_answer h i x c.0 of, shared_by h i job s c.1.0 e.own_job e.fine c.1.1 c.1.2)
-evid h i job s x e on of Disallowed c =
+evid h i job s x e on of so WasHeld c = (served_by_answer h i x c.0 of, shared_by h i job s c.1.0 e.own_job e.fine c.1.1 c.1.2)
+evid h i job s x e on of so Disallowed c =
     (served_by_answer h i x c.0 of, ap (λ (j : RuledJob). j.guarded) (sym e.is) ∙ e.asks c.1.0 c.1.1)
-evid h i job s x e on of TrayWasEmpty c = (served_by_answer h i x c.0 of, feeders_by h i job s e.own_job e.fine e.sound c.1)
-evid h i job s x e on of TrayRanOut c = tt
-evid h i job s x e on of ClientOutOfMemory c = chokes_by h i x c of
+evid h i job s x e on of so TrayWasEmpty c = (served_by_answer h i x c.0 of, feeders_by h i job s e.own_job e.fine e.sound c.1)
+evid h i job s x e on of so TrayRanOut c = tt
+evid h i job s x e on of so ClientOutOfMemory c = chokes_by h i x c of
 
 -- ---- what the job met
 
@@ -389,10 +401,10 @@ judge_all h i job s (Ended status why) at e a = caused h i job s status why e a 
 own_party : (s : SystemState) (i : ℕ) (x : Action) → (after_transition s (By i x)).job i ≡ job_after_action i (make_for s i) (listed_devices s) (s.job i) (device_for s i) x
 own_party s i x = ap (λ (b : Bool). cond b (job_after_action i (make_for s i) (listed_devices s) (s.job i) (device_for s i) x) (s.job i)) (own i)
 
-met_then : CausesAreGrounded → (h : History) (i : ℕ) (job : Job) (s : SystemState) (x : Action) → Here h i job s → IsUnderWay (s.job i).client.stage → own_of h i x → IsEnabled s (By i x) → AllByRecursion (Evid h i job) (s.job i).session.met → AllByRecursion (Evid h i job) ((after_transition s (By i x)).job i).session.met
-met_then so h i job s x e on of legal a =
+met_then : CausesAreGrounded → (h : History) (i : ℕ) (job : Job) (s : SystemState) (x : Action) → Here h i job s → IsUnderWay (s.job i).client.stage → own_of h i x → IsStep h s (By i x) → IsEnabled s (By i x) → AllByRecursion (Evid h i job) (s.job i).session.met → AllByRecursion (Evid h i job) ((after_transition s (By i x)).job i).session.met
+met_then so h i job s x e on of step legal a =
     let causes = causes_by i (make_for s i) (listed_devices s) (s.job i) (device_for s i) x in
-    let fresh = all_each (Comes i (make_for s i) (s.job i) (device_for s i) x) (Evid h i job) causes (evid h i job s x e on of) (all_come so i (make_for s i) (listed_devices s) (s.job i) (device_for s i) x legal) in
+    let fresh = all_each (Comes i (make_for s i) (s.job i) (device_for s i) x) (Evid h i job) causes (evid h i job s x e on of step) (all_come so i (make_for s i) (listed_devices s) (s.job i) (device_for s i) x legal) in
     subst (AllByRecursion (Evid h i job)) (sym (ap (λ (p : JobState). p.session.met) (own_party s i x) ∙ met_by i (make_for s i) (listed_devices s) (s.job i) (device_for s i) x)) (all_then (Evid h i job) causes (s.job i).session.met fresh a)
 
 -- what a job that is over met changes nothing
@@ -421,18 +433,18 @@ pub record Laws : Type 0 where
   pub last : OutcomesLast
   pub grounds : CausesAreGrounded
 
-own_step : Laws → (h : History) (i : ℕ) (job : Job) (s : SystemState) (x : Action) (stage : JobStage) → (s.job i).client.stage ≡ stage → Here h i job s → Here h i job (after_transition s (By i x)) → own_of h i x → IsEnabled s (By i x) → JudgedAt h i job s → JudgedAt h i job (after_transition s (By i x))
-own_step laws h i job s x Idle at e f of legal j =
+own_step : Laws → (h : History) (i : ℕ) (job : Job) (s : SystemState) (x : Action) (stage : JobStage) → (s.job i).client.stage ≡ stage → Here h i job s → Here h i job (after_transition s (By i x)) → own_of h i x → IsStep h s (By i x) → IsEnabled s (By i x) → JudgedAt h i job s → JudgedAt h i job (after_transition s (By i x))
+own_step laws h i job s x Idle at e f of step legal j =
     judge_all h i job (after_transition s (By i x)) ((after_transition s (By i x)).job i).client.stage refl f
-    (met_then laws.grounds h i job s x e (subst IsUnderWay (sym at) tt) of legal (subst (Judged h i job (s.job i).session.met) at j))
-own_step laws h i job s x (Running g) at e f of legal j =
+    (met_then laws.grounds h i job s x e (subst IsUnderWay (sym at) tt) of step legal (subst (Judged h i job (s.job i).session.met) at j))
+own_step laws h i job s x (Running g) at e f of step legal j =
     judge_all h i job (after_transition s (By i x)) ((after_transition s (By i x)).job i).client.stage refl f
-    (met_then laws.grounds h i job s x e (subst IsUnderWay (sym at) tt) of legal (subst (Judged h i job (s.job i).session.met) at j))
-own_step laws h i job s x Done at e f of legal j =
+    (met_then laws.grounds h i job s x e (subst IsUnderWay (sym at) tt) of step legal (subst (Judged h i job (s.job i).session.met) at j))
+own_step laws h i job s x Done at e f of step legal j =
     let off : IsUnderWay (s.job i).client.stage → ⊥ = λ on. subst IsUnderWay at on in
     subst (λ (st : JobStage). Judged h i job ((after_transition s (By i x)).job i).session.met st) (sym (ap (λ (m : ClientView). m.stage) (laws.last s i x legal off)))
     (judged_over h i job (s.job i).session.met ((after_transition s (By i x)).job i).session.met (s.job i).client.stage off (grows s i x) j)
-own_step laws h i job s x (Ended status why) at e f of legal j =
+own_step laws h i job s x (Ended status why) at e f of step legal j =
     let off : IsUnderWay (s.job i).client.stage → ⊥ = λ on. subst IsUnderWay at on in
     subst (λ (st : JobStage). Judged h i job ((after_transition s (By i x)).job i).session.met st) (sym (ap (λ (m : ClientView). m.stage) (laws.last s i x legal off)))
     (judged_over h i job (s.job i).session.met ((after_transition s (By i x)).job i).session.met (s.job i).client.stage off (grows s i x) j)
@@ -440,16 +452,16 @@ own_step laws h i job s x (Ended status why) at e f of legal j =
 abbrev judged_party : History → ℕ → Job → JobState → Type 0
 judged_party h i job p = Judged h i job p.session.met p.client.stage
 
-by_step : Laws → (h : History) (i : ℕ) (job : Job) (s : SystemState) (j : ℕ) (x : Action) (b : Bool) → eqb i j ≡ b → Here h i job s → Here h i job (after_transition s (By j x)) → IsOfOne h (By j x) → IsEnabled s (By j x) → JudgedAt h i job s → JudgedAt h i job (after_transition s (By j x))
-by_step laws h i job s j x false e here now of legal judged = subst (judged_party h i job) (sym (party_stays s j x i e)) judged
-by_step laws h i job s j x true e here now of legal judged =
-    subst (λ (n : ℕ). Here h i job (after_transition s (By n x)) → IsOfOne h (By n x) → IsEnabled s (By n x) → JudgedAt h i job (after_transition s (By n x))) (eqb-true i j e)
-    (λ f o l. own_step laws h i job s x (s.job i).client.stage refl here f o l judged) now of legal
+by_step : Laws → (h : History) (i : ℕ) (job : Job) (s : SystemState) (j : ℕ) (x : Action) (b : Bool) → eqb i j ≡ b → Here h i job s → Here h i job (after_transition s (By j x)) → IsOfOne h (By j x) → IsStep h s (By j x) → IsEnabled s (By j x) → JudgedAt h i job s → JudgedAt h i job (after_transition s (By j x))
+by_step laws h i job s j x false e here now of step legal judged = subst (judged_party h i job) (sym (party_stays s j x i e)) judged
+by_step laws h i job s j x true e here now of step legal judged =
+    subst (λ (n : ℕ). Here h i job (after_transition s (By n x)) → IsOfOne h (By n x) → IsStep h s (By n x) → IsEnabled s (By n x) → JudgedAt h i job (after_transition s (By n x))) (eqb-true i j e)
+    (λ f o r l. own_step laws h i job s x (s.job i).client.stage refl here f o r l judged) now of step legal
 
-one_step : Laws → (h : History) (i : ℕ) (job : Job) (s : SystemState) (x : Transition) → Here h i job s → Here h i job (after_transition s x) → IsOfOne h x → IsEnabled s x → JudgedAt h i job s → JudgedAt h i job (after_transition s x)
-one_step laws h i job s (By j x) here now of legal judged = by_step laws h i job s j x (eqb i j) refl here now of legal judged
-one_step laws h i job s (Loads d page) here now of legal judged = judged
-one_step laws h i job s (Unplugs d) here now of legal judged = judged
+one_step : Laws → (h : History) (i : ℕ) (job : Job) (s : SystemState) (x : Transition) → Here h i job s → Here h i job (after_transition s x) → IsOfOne h x → IsStep h s x → IsEnabled s x → JudgedAt h i job s → JudgedAt h i job (after_transition s x)
+one_step laws h i job s (By j x) here now of step legal judged = by_step laws h i job s j x (eqb i j) refl here now of step legal judged
+one_step laws h i job s (Loads d page) here now of step legal judged = judged
+one_step laws h i job s (Unplugs d) here now of step legal judged = judged
 
 asks_by : (s : SystemState) (j : ℕ) (x : Action) (i : ℕ) (b : Bool) → eqb i j ≡ b → AsksGuarded (s.job i) → AsksGuarded ((after_transition s (By j x)).job i)
 asks_by s j x i false e h = subst AsksGuarded (sym (party_stays s j x i e)) h
@@ -471,8 +483,8 @@ here_then laws h i job s x e of legal = record {
   sound = laws.sound s (x ∷ []) e.sound (legal, tt);
 }
 
-pub all_judged : Laws → (h : History) (i : ℕ) (job : Job) (xs : List Transition) (s : SystemState) → Here h i job s → AllByRecursion (IsOfOne h) xs → IsHistory s xs → JudgedAt h i job s → JudgedAt h i job (after_all s xs)
-all_judged laws h i job [] s e of legal j = j
-all_judged laws h i job (x ∷ xs) s e of legal j =
+pub all_judged : Laws → (h : History) (i : ℕ) (job : Job) (xs : List Transition) (s : SystemState) → Here h i job s → AllByRecursion (IsOfOne h) xs → AllAlong (IsStep h) s xs → IsHistory s xs → JudgedAt h i job s → JudgedAt h i job (after_all s xs)
+all_judged laws h i job [] s e of steps legal j = j
+all_judged laws h i job (x ∷ xs) s e of steps legal j =
     let now = here_then laws h i job s x e of.0 legal.0 in
-    all_judged laws h i job xs (after_transition s x) now of.1 legal.1 (one_step laws h i job s x e now of.0 legal.0 j)
+    all_judged laws h i job xs (after_transition s x) now of.1 steps.1 legal.1 (one_step laws h i job s x e now of.0 steps.0 legal.0 j)

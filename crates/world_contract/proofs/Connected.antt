@@ -1,5 +1,5 @@
 -- Whatever comes to a job comes behind its connection, but for that and a cancel.
-use Rattle.std.specs.Prelude.{cond, eqb, map, slice_index_or}
+use Rattle.std.specs.Prelude.{cond, eqb}
 use Rattle.std.specs.List.{AllByRecursion}
 use Rattle.std.proofs.Common.{◌≡◌, ◌∙◌, ◌⊎◌, ℕ, List, [], ◌∷◌, ◌++◌, Bool, true, false, inl, inr, refl, sym, ap, subst, eqb-true, append_assoc}
 use Rattle.sane_fixed.specs.declared.device_info.DeviceInfo.{DeviceInfo}
@@ -169,7 +169,7 @@ connects_free infos i j (deeds.Loses true) of = tt
 connects_free infos i j (deeds.Loses false) of = absurd of.1
 connects_free infos i j x of = absurd of.1
 
-in_front : (e f : Event) (front : List Event) → In e (front ++ f ∷ []) → In e front ⊎ (e ≡ f)
+pub in_front : (e f : Event) (front : List Event) → In e (front ++ f ∷ []) → In e front ⊎ (e ≡ f)
 in_front e f [] (inl is) = inr is
 in_front e f [] (inr none) = absurd none
 in_front e f (g ∷ front) (inl is) = inl (inl is)
@@ -202,7 +202,7 @@ pub last_in : (e : Event) (front : List Event) → In e (front ++ e ∷ [])
 last_in e [] = inl refl
 last_in e (f ∷ front) = inr (last_in e front)
 
-more_in : (e f : Event) (front : List Event) → In e front → In e (front ++ f ∷ [])
+pub more_in : (e f : Event) (front : List Event) → In e front → In e (front ++ f ∷ [])
 more_in e f [] none = absurd none
 more_in e f (g ∷ front) (inl is) = inl is
 more_in e f (g ∷ front) (inr among) = inr (more_in e f front among)
@@ -236,7 +236,7 @@ linked_all infos events e (x ∷ xs) s among of legal known = linked_all infos e
 
 from_here : (infos : List DeviceInfo) (front es : List Event) (steps : List Transition) (s : SystemState) → AreLinked front s → Traced infos es steps → IsHistory s steps → AllByRecursion (ComesBehind infos (front ++ es)) steps
 from_here infos front [] steps s known is legal = subst (AllByRecursion (ComesBehind infos (front ++ []))) (sym is) tt
-from_here infos front (e ∷ es) steps s known (first, more, split, of, rest) legal =
+from_here infos front (e ∷ es) steps s known (first, more, split, of, link, rest) legal =
     let whole : IsHistory s (first ++ more) = subst (IsHistory s) split legal in
     let begins = history_first s first more whole in
     let now = linked_more front e s known in

@@ -1,6 +1,6 @@
 -- A job that ended has its cause.
 use Rattle.std.specs.Prelude.{option_map, map, slice_get, slice_index_or}
-use Rattle.std.proofs.Common.{◌≡◌, ◌∙◌, ◌⊎◌, ℕ, List, Bool, true, false, Option, Some, None, inl, inr, refl, sym, ap, subst, ◌∷◌, []}
+use Rattle.std.proofs.Common.{◌≡◌, ◌∙◌, ◌⊎◌, ℕ, List, Bool, true, Option, Some, None, inl, inr, refl, sym, ap, subst, ◌∷◌, []}
 use Rattle.sane_fixed.specs.declared.status.Status.{Status as Code}
 use Rattle.sane_fixed.specs.declared.status.Status.TheVariants as codes
 use Rattle.device_api.specs.InForce as devices
@@ -41,16 +41,18 @@ use Rattle.system_model.specs.Client as rules
 use Rattle.std.proofs.lemmas.Option.{get_or_from_slice_get}
 use Rattle.world_refines.specs.GhostStates.{job_state, place_named, place_of_info, abstract_job}
 use Rattle.world_contract.proofs.Pages.{all_of_one, first_slot}
-use Rattle.world_contract.proofs.Scanned.{at_first, behind_there, infos_of, kept_by, untouched_at_first}
+use Rattle.world_contract.proofs.Scanned.{at_first, behind_there, fresh_there, infos_of, kept_by, untouched_at_first}
 use Rattle.world_contract.proofs.OfJobs.{all_of_jobs}
 use Rattle.world_contract.proofs.Traced.{each_of, traced}
 use Rattle.world_contract.proofs.Slots.{Owned}
 use Rattle.daemon_refines.specs.Cores.{fresh_device}
 use Rattle.system_model.specs.Marks.{device_view}
 use Rattle.md5_auth.specs.declared.users.Entry.{Entry}
-use Rattle.world_contract.proofs.Along.{EndedBy, Evid, Fine, Here, IsGone, IsHeldBy, Judged, JudgedAt, Laws, NotForced, Own, all_judged, device_named, forced_there}
+use Rattle.world_contract.proofs.Along.{EndedBy, Evid, Fine, Here, IsHeldBy, Judged, JudgedAt, Laws, NotForced, Own, all_judged, device_named, forced_there}
 use Rattle.world_contract.proofs.Cuts.{cut_of_history}
-use Rattle.world_contract.specs.Calls.{HadUnsaidReply}
+use Rattle.world_contract.specs.Calls.{NamesIoError, HadFailure, HadUnsaidReply}
+use Rattle.world_contract.proofs.Counted.{steps_there}
+use Rattle.world_contract.proofs.Gone.{all_answers, none_out}
 use Rattle.scan_world.specs.JobMoves.{IsNextMove}
 use Rattle.system_model.specs.Transitions.{IsUnderWay}
 use Rattle.std.specs.List.{AllByRecursion}
@@ -157,7 +159,7 @@ row h i job starved status why w (Names s) is z e x =
     NamesStatus (λ eof. x.1 (sym x.0 ∙ ap abstract_status eof), why_is why words.Answer (is ∙ ap (λ (y : Why). Some y) x.2)) e.0 e.1.0
     (code_in e.1.0.setup.told s e.1.1 ∙ ap (λ (y : Code). Some y) (sym (code_is status s x.0)))
 row h i job starved status why w Unforced is z e x = absurd e
-row h i job starved status why w WasUnlisted is z e x = Unlisted (both_are status why words.Inval words.Answer w is x) e.0.0 e.0.1 e.1
+row h i job starved status why w WasUnlisted is z e x = Unlisted (both_are status why words.Inval words.Answer w is x) e.0 e.1 e.2
 row h i job starved status why w HadNoPicture is z e x = HadNoPictureRow (both_are status why words.Inval words.Answer w is x) e.0.0 e.0.1 e.1
 row h i job starved status why w WasHeld is z e x = WasHeldRow (both_are status why words.Busy words.Answer w is x) e.0.0 e.0.1 e.1
 row h i job starved status why w Disallowed is z e x = DisallowedRow (both_are status why words.AccessDenied words.Answer w is x) e.0.0 e.0.1 e.1
@@ -171,15 +173,9 @@ table h i job starved met status why w o is z (inr n) = UnforcedRow (code_is sta
 
 -- ---- the job at its end
 
-first_owned : (h : History) (job : Job) (k : Make) (d : ℕ) (o : Option DeviceState) → slice_get h.devices d ≡ o → Owned (IsGone h d) (IsHeldBy h job d) (device_view k (fresh_device o))
-first_owned h job k d None at = record {
-  gone = λ e. λ device there. absurd (let clash : None ≡ Some device = sym at ∙ there in cc);
-  held = λ j e. absurd (let clash : None ≡ Some j = e in cc);
-}
-first_owned h job k d (Some s) at = record {
-  gone = λ e. absurd (let clash : true ≡ false = e in cc);
-  held = λ j e. absurd (let clash : None ≡ Some j = e in cc);
-}
+first_owned : (h : History) (job : Job) (k : Make) (d : ℕ) (o : Option DeviceState) → Owned (Unit {0}) (IsHeldBy h job d) (device_view k (fresh_device o))
+first_owned h job k d None = record { gone = λ e. tt; held = λ j e. absurd (let clash : None ≡ Some j = e in cc) }
+first_owned h job k d (Some s) = record { gone = λ e. tt; held = λ j e. absurd (let clash : None ≡ Some j = e in cc) }
 
 woken_ended : (st : JobStage) (m : ClientView) (status : Status) (why : Why) → m.stage ≡ st → (client_at_greeting st m).stage ≡ Ended status why → st ≡ Ended status why
 woken_ended Idle m status why e h = absurd (let clash : Running rules.Greeting ≡ Ended status why = h in cc)
@@ -200,11 +196,23 @@ judged_there below h w i job endpoint j =
     let steps = k.run.steps in
     let new = below.new (sources_of h) h.jobs job h.devices l.first l.endpoints l.daemon l.names l.limits (have_sources h) l.fit in
     let o : Own h i job = record { at = j.job_at; apart = new.is_of.apart; same = below.same } in
-    let fine : Fine h job t.system = record { makes = refl; places = λ n. refl; slots = λ d. first_slot h (t.system.make d) d; owned = λ d. first_owned h job (t.system.make d) d (slice_get h.devices d) refl } in
+    let fine : Fine h job t.system = record { makes = refl; places = λ n. refl; slots = λ d. first_slot h (t.system.make d) d; owned = λ d. first_owned h job (t.system.make d) d (slice_get h.devices d) } in
     let here : Here h i job t.system = record { own_job = o; fine = fine; is = ap (λ (users : List Entry). abstract_job users (infos_of h) (slice_index_or h.jobs i job)) l.users_are ∙ ap (λ (x : Job). abstract_job h.users (infos_of h) x) (get_or_from_slice_get h.jobs i job job j.job_at); asks = λ c is. absurd (let clash : None ≡ Some c = is in cc); sound = new.sound } in
     let laws : Laws = record { legal = below.marks; sound = below.histories; last = below.last; grounds = below.grounds } in
     let of = all_of_one h steps (each_of t.infos h.events steps (traced h.events t steps u k.run.comes)) (all_of_jobs h.events t steps u (untouched_at_first h w job l) k.run.comes) (cut_of_history h t u job steps l.users_are refl refl k.run.comes) (behind_there h w job l k.run) in
-    subst (JudgedAt h i job) (sym k.run.rules_are) (all_judged laws h i job steps t.system here of k.run.legal tt)
+    let answers = all_answers below.marks below.histories h steps t.system new.sound (fresh_there h w job l) (none_out h t.system refl) (traced h.events t steps u k.run.comes) k.run.legal in
+    subst (JudgedAt h i job) (sym k.run.rules_are) (all_judged laws h i job steps t.system here of (steps_there h w job l k.run answers) k.run.legal tt)
+
+-- the end, in the words of the rules
+ended_there : (below : Below) (h : History) (w : WorldCore) (i : ℕ) (job : Job) (endpoint : Endpoint) (status : Code) (why : Reason) → (j : IsJob h w i job endpoint) → endpoint.client.outcome ≡ outcomes.Ended status why →
+    (v : Why) × (why_of why ≡ Some v) × EndedBy h i job (job_state (kept_by below.kept h w job j.led).run.ghost_then i).session.met (abstract_status status) v
+ended_there below h w i job endpoint status why j e =
+    let k = kept_by below.kept h w job j.led in
+    let u = k.run.ghost_then in
+    let sits = k.run.stands.endpoints i endpoint j.endpoint_at in
+    let d = ended_reads (place_of_info u.infos) (target_of (u.jobs i)) (job_state u i).session.job (map (λ (q : JoinHistory). q.ended) (u.pages i)) endpoint.client.outcome endpoint.client.progress endpoint.client.notes (u.history i) (client_at_greeting (job_state u i).client.stage (job_state u i).client) status why sits.talks.reads.stands e in
+    let stage = woken_ended (job_state u i).client.stage (job_state u i).client (abstract_status status) d.0 refl d.1.1 in
+    (d.0, d.1.0, subst (Judged h i job (job_state u i).session.met) stage (judged_there below h w i job endpoint j))
 
 pub at_end : Below → (h : History) (w : WorldCore) (i : ℕ) (job : Job) (endpoint : Endpoint) (status : Code) (why : Reason) → IsJob h w i job endpoint → endpoint.client.outcome ≡ outcomes.Ended status why → IsEndingExplained h i job endpoint.out_of_memory status why
 at_end below h w i job endpoint status why j e =
@@ -213,9 +221,42 @@ at_end below h w i job endpoint status why j e =
     let new = below.new (sources_of h) h.jobs job h.devices j.led.first j.led.endpoints j.led.daemon j.led.names j.led.limits (have_sources h) j.led.fit in
     let o : Own h i job = record { at = j.job_at; apart = new.is_of.apart; same = below.same } in
     let sits = k.run.stands.endpoints i endpoint j.endpoint_at in
-    let d = ended_reads (place_of_info u.infos) (target_of (u.jobs i)) (job_state u i).session.job (map (λ (q : JoinHistory). q.ended) (u.pages i)) endpoint.client.outcome endpoint.client.progress endpoint.client.notes (u.history i) (client_at_greeting (job_state u i).client.stage (job_state u i).client) status why sits.talks.reads.stands e in
-    let stage = woken_ended (job_state u i).client.stage (job_state u i).client (abstract_status status) d.0 refl d.1.1 in
-    table h i job endpoint.out_of_memory (job_state u i).session.met status why d.0 o d.1.0 sits.means.starved (subst (Judged h i job (job_state u i).session.met) stage (judged_there below h w i job endpoint j))
+    let d = ended_there below h w i job endpoint status why j e in
+    table h i job endpoint.out_of_memory (job_state u i).session.met status why d.0 o d.1 sits.means.starved d.2
+
+-- ---- where IO_ERROR was answered
+
+abbrev IsFailed : History → ℕ → Job → Type 0
+IsFailed h i job = HadFailure h i job ⊎ NamesIoError h job
+
+not_answered : (w : Why) → why_of whys.Answer ≡ Some w → w ≡ words.Answer
+not_answered w is = let same : Some words.Answer ≡ Some w = is in cc
+
+failed_row : (h : History) (i : ℕ) (job : Job) (w : Why) (c : Cause) → w ≡ words.Answer → Evid h i job c → Explains c words.IoError w → IsFailed h i job
+failed_row h i job w GaveUp is e x = absurd (let clash : words.IoError ≡ words.GivenUp = x.0 in cc)
+failed_row h i job w LinkLost is e x = absurd (let clash : words.Answer ≡ words.Lost = sym is ∙ x.1 in cc)
+failed_row h i job w WasUnsaid is e x = absurd x
+failed_row h i job w LinkOutOfMemory is e x = absurd (let clash : words.Answer ≡ words.Lost = sym is ∙ x.1 in cc)
+failed_row h i job w SourceFailed is e x = inl e.2
+failed_row h i job w NamesEof is e x = absurd (let clash : words.Answer ≡ words.Short = sym is ∙ x.1 in cc)
+failed_row h i job w (Names s) is e x = inr (e.1.0, code_in e.1.0.setup.told s e.1.1 ∙ ap (λ (y : Code). Some y) (sym (code_is codes.IoError s x.0)))
+failed_row h i job w Unforced is e x = absurd e
+failed_row h i job w WasUnlisted is e x = absurd (let clash : words.IoError ≡ words.Inval = x.0 in cc)
+failed_row h i job w HadNoPicture is e x = absurd (let clash : words.IoError ≡ words.Inval = x.0 in cc)
+failed_row h i job w WasHeld is e x = absurd (let clash : words.IoError ≡ words.Busy = x.0 in cc)
+failed_row h i job w Disallowed is e x = absurd (let clash : words.IoError ≡ words.AccessDenied = x.0 in cc)
+failed_row h i job w TrayWasEmpty is e x = absurd (let clash : words.IoError ≡ words.NoDocs = x.0 in cc)
+failed_row h i job w TrayRanOut is e x = absurd x
+failed_row h i job w ClientOutOfMemory is e x = absurd (let clash : words.IoError ≡ words.NoMem = x.0 in cc)
+
+failed_by_table : (h : History) (i : ℕ) (job : Job) (met : List Cause) (w : Why) → w ≡ words.Answer → EndedBy h i job met words.IoError w → IsFailed h i job
+failed_by_table h i job met w is (inl (c, e, m, x)) = failed_row h i job w c is e x
+failed_by_table h i job met w is (inr n) = absurd (let clash : words.IoError ≡ words.Inval = n.1.0 in cc)
+
+pub failed_at_end : Below → (h : History) (w : WorldCore) (i : ℕ) (job : Job) (endpoint : Endpoint) → IsJob h w i job endpoint → endpoint.client.outcome ≡ outcomes.Ended codes.IoError whys.Answer → IsFailed h i job
+failed_at_end below h w i job endpoint j e =
+    let s = ended_there below h w i job endpoint codes.IoError whys.Answer j e in
+    failed_by_table h i job (job_state (kept_by below.kept h w job j.led).run.ghost_then i).session.met s.0 (not_answered s.0 s.1) s.2
 
 -- ---- a reply that could not be said
 

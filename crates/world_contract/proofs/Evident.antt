@@ -60,6 +60,10 @@ met_by i k ds p dev Actions.Stops = refl
 abbrev pub IsAnswer : Action → Type 0
 IsAnswer x = (challenge : Challenge) × (fault : Option FailureCounts) × (x ≡ Actions.Answers challenge fault)
 
+-- one in which a source fails
+abbrev pub IsFailedAnswer : Action → Type 0
+IsFailedAnswer x = (challenge : Challenge) × (fault : FailureCounts) × (x ≡ Actions.Answers challenge (Some fault))
+
 -- a START comes next, and the page that it would take has no frames by the options
 abbrev pub StartsNothing : Make → JobState → AbstractDevice → Type 0
 StartsNothing k p dev = (rest : List AbstractRequest) × (p.todo ≡ Start ∷ rest) × ((page : Page) × (later : List Page) × (dev.tray ≡ page ∷ later) × (picture_frames k dev.options page ≡ []))
@@ -69,7 +73,7 @@ Comes i k p dev x GaveUp = x ≡ Actions.Stops
 Comes i k p dev x LinkLost = (x ≡ Actions.Loses false) ⊎ (x ≡ Actions.LosesImage false)
 Comes i k p dev x LinkOutOfMemory = Unit {0}
 Comes i k p dev x WasUnsaid = x ≡ Actions.Breaks false
-Comes i k p dev x SourceFailed = (IsAnswer x ⊎ ((fault : FailureCounts) × (x ≡ Actions.TurnsFault fault))) × (k.fallible ≡ true)
+Comes i k p dev x SourceFailed = (IsFailedAnswer x ⊎ ((fault : FailureCounts) × (x ≡ Actions.TurnsFault fault))) × (k.fallible ≡ true)
 Comes i k p dev x NamesEof = (x ≡ Actions.TurnsShort) × (p.session.transfer ≡ Streaming) × (dev.holder ≡ Some i) × (read_status_of k dev.options ≡ Some Eof)
 Comes i k p dev x (Names status) = (x ≡ Actions.TurnsNamed status) × (p.session.transfer ≡ Streaming) × (dev.holder ≡ Some i) × (read_status_of k dev.options ≡ Some status)
 Comes i k p dev x Unforced = ⊥
@@ -86,7 +90,7 @@ grounds i k ds p dev challenge fault q rest may todo GaveUp start g = absurd g
 grounds i k ds p dev challenge fault q rest may todo LinkLost start g = absurd g
 grounds i k ds p dev challenge fault q rest may todo LinkOutOfMemory start g = tt
 grounds i k ds p dev challenge fault q rest may todo WasUnsaid start g = absurd g
-grounds i k ds p dev challenge fault q rest may todo SourceFailed start g = (inl (challenge, fault, refl), (subst (λ (o : Option FailureCounts). MayFail k o) g.1 may).0)
+grounds i k ds p dev challenge fault q rest may todo SourceFailed start g = (inl (challenge, g.0, ap (λ (o : Option FailureCounts). Actions.Answers challenge o) g.1), (subst (λ (o : Option FailureCounts). MayFail k o) g.1 may).0)
 grounds i k ds p dev challenge fault q rest may todo NamesEof start g = absurd g
 grounds i k ds p dev challenge fault q rest may todo (Names status) start g = absurd g
 grounds i k ds p dev challenge fault q rest may todo Unforced start g = absurd g

@@ -19,6 +19,8 @@ pub mod NoPictures
 pub mod Evident
 pub mod Events
 pub mod Along
+pub mod Gone
+pub mod Counted
 pub mod Ended
 pub mod Placed
 pub mod Reported

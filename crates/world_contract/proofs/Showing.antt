@@ -1,7 +1,7 @@
 -- Each mark is shown in its event, and the starts of a job are those of its marks.
 use Rattle.std.specs.Prelude.{Contains, cond, eqb}
 use Rattle.std.specs.List.{AllByRecursion}
-use Rattle.std.proofs.Common.{◌≡◌, ◌∙◌, ℕ, inr, List, [], ◌∷◌, ◌++◌, Bool, true, false, Some, refl, sym, ap, subst, append_assoc, eqb-true}
+use Rattle.std.proofs.Common.{◌≡◌, ◌≢◌, ◌∙◌, ℕ, inl, inr, List, [], ◌∷◌, ◌++◌, Bool, true, false, Option, Some, None, refl, sym, ap, subst, append_assoc, eqb-true}
 use Rattle.std.proofs.lemmas.List.{append-nil}
 use Rattle.sane_fixed.specs.declared.device_info.DeviceInfo.{DeviceInfo}
 use Rattle.system_model.specs.Devices.{Make}
@@ -12,18 +12,20 @@ use Rattle.system_model.specs.Actions
 use Rattle.system_model.specs.Transitions.{By, IsEnabled, IsHistory, Loads, Transition, Unplugs, after_transition, after_all}
 use Rattle.system_model.specs.Marks.{Mark, Took, Started, Rested, Returned, Loaded, Removed, action_marks, is_busy, left_marks, lost_marks, marks, off_marks, rested_if, starts_in, touched_device}
 use Rattle.system_model.specs.MoveRuns.{all_marks, marks_at}
-use Rattle.system_model.specs.ModelPromises.{NotesAreTrue}
+use Rattle.system_model.specs.ModelPromises.{HistoriesKeepInvariant, NotesAreTrue}
+use Rattle.system_model.specs.Invariants.{Invariant, StageInvariant}
+use Rattle.system_model.specs.Client.{Idle}
 use Rattle.scan_world.specs.declared.event.Event.{Event}
 use Rattle.scan_world.specs.declared.event.Event.TheVariants.{Connect, ToDaemon, ToClient, DataConnect, DataTurn, DataToClient, LoseControl, LoseImage, Cancel, Load, Unplug}
 use Rattle.scan_world.specs.declared.event.JobEvent.TheVariants as events
 use Rattle.world_refines.specs.GhostStates.{name_at}
-use Rattle.daemon_refines.proofs.Moved.{own}
+use Rattle.daemon_refines.proofs.Moved.{own, put_there}
 use Rattle.world_contract.specs.Marks.{IsLeft, IsMarkOf, IsRest, MayShow, ShowsMarks, starts_by}
 use Rattle.world_contract.proofs.Connected.{AreLinked, IsUnlinked, front_of, history_first, history_rest, last_in, linked_all, linked_more, linked_then, unfree}
 use Rattle.world_contract.proofs.Lists.{In, all_each, all_then, contains_in}
 use Rattle.world_contract.proofs.Mine.{IsMine, AreMine, deed_mine}
 use Rattle.world_contract.proofs.Begun.{party_stays, wants_same}
-use Rattle.world_contract.proofs.Traced.{AreOf, DeedOf, StepOf, Traced}
+use Rattle.world_contract.proofs.Traced.{AreOf, DeedOf, IsConnection, StepOf, Traced}
 
 mine_of : (i d : ℕ) (m : Mark) → IsMine i d m → IsMarkOf i m
 mine_of i d (Took j e) h = h.0
@@ -72,27 +74,6 @@ turn_rest i n d k ds p dev (Actions.LosesImage false) of = absurd of
 turn_rest i n d k ds p dev (Actions.Breaks memory) of = absurd of
 turn_rest i n d k ds p dev Actions.RunsOutOfMemory of = absurd of
 turn_rest i n d k ds p dev Actions.Stops of = absurd of
-
-connect_left : (i n d : ℕ) (k : Make) (ds : List ℕ) (p : JobState) (dev : AbstractDevice) (x : Actions.Action) → DeedOf events.Connect x → AllByRecursion (IsLeft i) (action_marks i d k ds p dev x)
-connect_left i n d k ds p dev Actions.Connects of = tt
-connect_left i n d k ds p dev (Actions.Answers challenge fault) of = absurd of
-connect_left i n d k ds p dev (Actions.Hears reply) of = absurd of
-connect_left i n d k ds p dev Actions.Dials of = absurd of
-connect_left i n d k ds p dev (Actions.Turns bytes) of = absurd of
-connect_left i n d k ds p dev Actions.TurnsLast of = absurd of
-connect_left i n d k ds p dev (Actions.TurnsNamed status) of = absurd of
-connect_left i n d k ds p dev Actions.TurnsShort of = absurd of
-connect_left i n d k ds p dev (Actions.TurnsFault fault) of = absurd of
-connect_left i n d k ds p dev Actions.TurnsOff of = absurd of
-connect_left i n d k ds p dev (Actions.Reads bytes) of = absurd of
-connect_left i n d k ds p dev (Actions.Finishes status) of = absurd of
-connect_left i n d k ds p dev (Actions.Loses true) of = lost_left (is_held_by i dev.holder) i d dev
-connect_left i n d k ds p dev (Actions.Loses false) of = absurd of
-connect_left i n d k ds p dev (Actions.LosesImage true) of = absurd of
-connect_left i n d k ds p dev (Actions.LosesImage false) of = absurd of
-connect_left i n d k ds p dev (Actions.Breaks memory) of = absurd of
-connect_left i n d k ds p dev Actions.RunsOutOfMemory of = absurd of
-connect_left i n d k ds p dev Actions.Stops of = absurd of
 
 lose_left : (i n d : ℕ) (k : Make) (ds : List ℕ) (p : JobState) (dev : AbstractDevice) (x : Actions.Action) → DeedOf events.LoseControl x → AllByRecursion (IsLeft i) (action_marks i d k ds p dev x)
 lose_left i n d k ds p dev Actions.Connects of = absurd of
@@ -229,74 +210,127 @@ by_name infos d place name other is same there =
 behind_front : (P : Mark → Type 0) (i : ℕ) (ms : List Mark) (front : List Event) → In (Connect i) front → AllByRecursion P ms → AllByRecursion (λ (m : Mark). P m × Contains front (Connect i)) ms
 behind_front P i ms front there a = all_each P (λ (m : Mark). P m × Contains front (Connect i)) ms (λ m p. (p, contains_in front (Connect i) there)) a
 
-step_shows : (infos : List DeviceInfo) (name : List ℕ) (d : ℕ) → name_at infos d ≡ Some name → (front : List Event) (e : Event) (s : SystemState) (x : Transition) → StepOf infos e x → IsEnabled s x → AreLinked (front ++ e ∷ []) s → d ≡ touched_device s x → AllByRecursion (MayShow name front e) (marks s x)
-step_shows infos name d is front (Connect i) s (By j x) of may known same = subst (λ (m : ℕ). AllByRecursion (MayShow name front (Connect m)) (marks s (By j x))) of.0 (connect_left j 0 (wanted_place s j) (make_for s j) (listed_devices s) (s.job j) (device_for s j) x of.1)
-step_shows infos name d is front (Connect i) s (Loads place page) of may known same = absurd of
-step_shows infos name d is front (Connect i) s (Unplugs place) of may known same = absurd of
-step_shows infos name d is front (DataConnect i) s (By j x) of may known same = subst (λ (m : ℕ). AllByRecursion (MayShow name front (DataConnect m)) (marks s (By j x))) of.0 (dial_none j 0 (wanted_place s j) (make_for s j) (listed_devices s) (s.job j) (device_for s j) x of.1)
-step_shows infos name d is front (DataConnect i) s (Loads place page) of may known same = absurd of
-step_shows infos name d is front (DataConnect i) s (Unplugs place) of may known same = absurd of
-step_shows infos name d is front (DataTurn i) s (By j x) of may known same = subst (λ (m : ℕ). AllByRecursion (MayShow name front (DataTurn m)) (marks s (By j x))) of.0
+abbrev IsNoConnection : Event → Type 0
+IsNoConnection (Connect i) = ⊥
+IsNoConnection e = Unit {0}
+
+step_shows : (infos : List DeviceInfo) (name : List ℕ) (d : ℕ) → name_at infos d ≡ Some name → (front : List Event) (e : Event) → IsNoConnection e → (s : SystemState) (x : Transition) → StepOf infos e x → IsEnabled s x → AreLinked (front ++ e ∷ []) s → d ≡ touched_device s x → AllByRecursion (MayShow name front e) (marks s x)
+step_shows infos name d is front (Connect i) other s x of may known same = absurd other
+step_shows infos name d is front (DataConnect i) other s (By j x) of may known same = subst (λ (m : ℕ). AllByRecursion (MayShow name front (DataConnect m)) (marks s (By j x))) of.0 (dial_none j 0 (wanted_place s j) (make_for s j) (listed_devices s) (s.job j) (device_for s j) x of.1)
+step_shows infos name d is front (DataConnect i) other s (Loads place page) of may known same = absurd of
+step_shows infos name d is front (DataConnect i) other s (Unplugs place) of may known same = absurd of
+step_shows infos name d is front (DataTurn i) other s (By j x) of may known same = subst (λ (m : ℕ). AllByRecursion (MayShow name front (DataTurn m)) (marks s (By j x))) of.0
     (behind_front (IsRest j) j (marks s (By j x)) front (front_of infos front (DataTurn i) s j x (unfree events.DataTurn x tt of.1) of may known) (turn_rest j 0 (wanted_place s j) (make_for s j) (listed_devices s) (s.job j) (device_for s j) x of.1))
-step_shows infos name d is front (DataTurn i) s (Loads place page) of may known same = absurd of
-step_shows infos name d is front (DataTurn i) s (Unplugs place) of may known same = absurd of
-step_shows infos name d is front (LoseControl i) s (By j x) of may known same = subst (λ (m : ℕ). AllByRecursion (MayShow name front (LoseControl m)) (marks s (By j x))) of.0
+step_shows infos name d is front (DataTurn i) other s (Loads place page) of may known same = absurd of
+step_shows infos name d is front (DataTurn i) other s (Unplugs place) of may known same = absurd of
+step_shows infos name d is front (LoseControl i) other s (By j x) of may known same = subst (λ (m : ℕ). AllByRecursion (MayShow name front (LoseControl m)) (marks s (By j x))) of.0
     (behind_front (IsLeft j) j (marks s (By j x)) front (front_of infos front (LoseControl i) s j x (unfree events.LoseControl x tt of.1) of may known) (lose_left j 0 (wanted_place s j) (make_for s j) (listed_devices s) (s.job j) (device_for s j) x of.1))
-step_shows infos name d is front (LoseControl i) s (Loads place page) of may known same = absurd of
-step_shows infos name d is front (LoseControl i) s (Unplugs place) of may known same = absurd of
-step_shows infos name d is front (LoseImage i) s (By j x) of may known same = subst (λ (m : ℕ). AllByRecursion (MayShow name front (LoseImage m)) (marks s (By j x))) of.0
+step_shows infos name d is front (LoseControl i) other s (Loads place page) of may known same = absurd of
+step_shows infos name d is front (LoseControl i) other s (Unplugs place) of may known same = absurd of
+step_shows infos name d is front (LoseImage i) other s (By j x) of may known same = subst (λ (m : ℕ). AllByRecursion (MayShow name front (LoseImage m)) (marks s (By j x))) of.0
     (behind_front (IsRest j) j (marks s (By j x)) front (front_of infos front (LoseImage i) s j x (unfree events.LoseImage x tt of.1) of may known) (image_rest j 0 (wanted_place s j) (make_for s j) (listed_devices s) (s.job j) (device_for s j) x of.1))
-step_shows infos name d is front (LoseImage i) s (Loads place page) of may known same = absurd of
-step_shows infos name d is front (LoseImage i) s (Unplugs place) of may known same = absurd of
-step_shows infos name d is front (Cancel i) s (By j x) of may known same = subst (λ (m : ℕ). AllByRecursion (MayShow name front (Cancel m)) (marks s (By j x))) of.0 (cancel_none j 0 (wanted_place s j) (make_for s j) (listed_devices s) (s.job j) (device_for s j) x of.1)
-step_shows infos name d is front (Cancel i) s (Loads place page) of may known same = absurd of
-step_shows infos name d is front (Cancel i) s (Unplugs place) of may known same = absurd of
-step_shows infos name d is front (ToClient i n) s (By j x) of may known same = subst (λ (m : ℕ). AllByRecursion (MayShow name front (ToClient m n)) (marks s (By j x))) of.0 (client_none j n (wanted_place s j) (make_for s j) (listed_devices s) (s.job j) (device_for s j) x of.1)
-step_shows infos name d is front (ToClient i n) s (Loads place page) of may known same = absurd of
-step_shows infos name d is front (ToClient i n) s (Unplugs place) of may known same = absurd of
-step_shows infos name d is front (DataToClient i n) s (By j x) of may known same = subst (λ (m : ℕ). AllByRecursion (MayShow name front (DataToClient m n)) (marks s (By j x))) of.0 (data_none j n (wanted_place s j) (make_for s j) (listed_devices s) (s.job j) (device_for s j) x of.1)
-step_shows infos name d is front (DataToClient i n) s (Loads place page) of may known same = absurd of
-step_shows infos name d is front (DataToClient i n) s (Unplugs place) of may known same = absurd of
-step_shows infos name d is front (ToDaemon i n) s (By j x) of may known same = subst (λ (m : ℕ). AllByRecursion (MayShow name front (ToDaemon m n)) (marks s (By j x))) of.0
+step_shows infos name d is front (LoseImage i) other s (Loads place page) of may known same = absurd of
+step_shows infos name d is front (LoseImage i) other s (Unplugs place) of may known same = absurd of
+step_shows infos name d is front (Cancel i) other s (By j x) of may known same = subst (λ (m : ℕ). AllByRecursion (MayShow name front (Cancel m)) (marks s (By j x))) of.0 (cancel_none j 0 (wanted_place s j) (make_for s j) (listed_devices s) (s.job j) (device_for s j) x of.1)
+step_shows infos name d is front (Cancel i) other s (Loads place page) of may known same = absurd of
+step_shows infos name d is front (Cancel i) other s (Unplugs place) of may known same = absurd of
+step_shows infos name d is front (ToClient i n) other s (By j x) of may known same = subst (λ (m : ℕ). AllByRecursion (MayShow name front (ToClient m n)) (marks s (By j x))) of.0 (client_none j n (wanted_place s j) (make_for s j) (listed_devices s) (s.job j) (device_for s j) x of.1)
+step_shows infos name d is front (ToClient i n) other s (Loads place page) of may known same = absurd of
+step_shows infos name d is front (ToClient i n) other s (Unplugs place) of may known same = absurd of
+step_shows infos name d is front (DataToClient i n) other s (By j x) of may known same = subst (λ (m : ℕ). AllByRecursion (MayShow name front (DataToClient m n)) (marks s (By j x))) of.0 (data_none j n (wanted_place s j) (make_for s j) (listed_devices s) (s.job j) (device_for s j) x of.1)
+step_shows infos name d is front (DataToClient i n) other s (Loads place page) of may known same = absurd of
+step_shows infos name d is front (DataToClient i n) other s (Unplugs place) of may known same = absurd of
+step_shows infos name d is front (ToDaemon i n) other s (By j x) of may known same = subst (λ (m : ℕ). AllByRecursion (MayShow name front (ToDaemon m n)) (marks s (By j x))) of.0
     (behind_front (IsMarkOf j) j (marks s (By j x)) front (front_of infos front (ToDaemon i n) s j x (unfree (events.ToDaemon n) x tt of.1) of may known) (all_each (IsMine j (wanted_place s j)) (IsMarkOf j) (marks s (By j x)) (mine_of j (wanted_place s j)) (deed_mine j (wanted_place s j) (make_for s j) (listed_devices s) (s.job j) (device_for s j) x)))
-step_shows infos name d is front (ToDaemon i n) s (Loads place page) of may known same = absurd of
-step_shows infos name d is front (ToDaemon i n) s (Unplugs place) of may known same = absurd of
-step_shows infos name d is front (Load other source) s (By j x) of may known same = absurd of
-step_shows infos name d is front (Load other source) s (Loads place page) of may known same = ((by_name infos d place name other is same of.0, of.1), tt)
-step_shows infos name d is front (Load other source) s (Unplugs place) of may known same = absurd of
-step_shows infos name d is front (Unplug other) s (By j x) of may known same = absurd of
-step_shows infos name d is front (Unplug other) s (Loads place page) of may known same = absurd of
-step_shows infos name d is front (Unplug other) s (Unplugs place) of may known same = (by_name infos d place name other is same of, tt)
+step_shows infos name d is front (ToDaemon i n) other s (Loads place page) of may known same = absurd of
+step_shows infos name d is front (ToDaemon i n) other s (Unplugs place) of may known same = absurd of
+step_shows infos name d is front (Load laid source) other s (By j x) of may known same = absurd of
+step_shows infos name d is front (Load laid source) other s (Loads place page) of may known same = ((by_name infos d place name laid is same of.0, of.1), tt)
+step_shows infos name d is front (Load laid source) other s (Unplugs place) of may known same = absurd of
+step_shows infos name d is front (Unplug gone) other s (By j x) of may known same = absurd of
+step_shows infos name d is front (Unplug gone) other s (Loads place page) of may known same = absurd of
+step_shows infos name d is front (Unplug gone) other s (Unplugs place) of may known same = (by_name infos d place name gone is same of, tt)
 
-shows_if : (infos : List DeviceInfo) (name : List ℕ) (d : ℕ) → name_at infos d ≡ Some name → (front : List Event) (e : Event) (s : SystemState) (x : Transition) → StepOf infos e x → IsEnabled s x → AreLinked (front ++ e ∷ []) s → (b : Bool) → eqb d (touched_device s x) ≡ b → AllByRecursion (MayShow name front e) (cond b (marks s x) [])
-shows_if infos name d is front e s x of may known false same = tt
-shows_if infos name d is front e s x of may known true same = step_shows infos name d is front e s x of may known (eqb-true d (touched_device s x) same)
+shows_if : (infos : List DeviceInfo) (name : List ℕ) (d : ℕ) → name_at infos d ≡ Some name → (front : List Event) (e : Event) → IsNoConnection e → (s : SystemState) (x : Transition) → StepOf infos e x → IsEnabled s x → AreLinked (front ++ e ∷ []) s → (b : Bool) → eqb d (touched_device s x) ≡ b → AllByRecursion (MayShow name front e) (cond b (marks s x) [])
+shows_if infos name d is front e other s x of may known false same = tt
+shows_if infos name d is front e other s x of may known true same = step_shows infos name d is front e other s x of may known (eqb-true d (touched_device s x) same)
 
-first_shows : (infos : List DeviceInfo) (name : List ℕ) (d : ℕ) → name_at infos d ≡ Some name → (front : List Event) (e : Event) (xs : List Transition) (s : SystemState) → AreOf infos e xs → IsHistory s xs → AreLinked (front ++ e ∷ []) s → AllByRecursion (MayShow name front e) (all_marks d s xs)
-first_shows infos name d is front e [] s of legal known = tt
-first_shows infos name d is front e (x ∷ xs) s of legal known =
-    all_then (MayShow name front e) (marks_at d s x) (all_marks d (after_transition s x) xs) (shows_if infos name d is front e s x of.0 legal.0 known (eqb d (touched_device s x)) refl)
-    (first_shows infos name d is front e xs (after_transition s x) of.1 legal.1 (linked_then (front ++ e ∷ []) infos e s x (last_in e front) of.0 legal.0 known))
+first_shows : (infos : List DeviceInfo) (name : List ℕ) (d : ℕ) → name_at infos d ≡ Some name → (front : List Event) (e : Event) → IsNoConnection e → (xs : List Transition) (s : SystemState) → AreOf infos e xs → IsHistory s xs → AreLinked (front ++ e ∷ []) s → AllByRecursion (MayShow name front e) (all_marks d s xs)
+first_shows infos name d is front e other [] s of legal known = tt
+first_shows infos name d is front e other (x ∷ xs) s of legal known =
+    all_then (MayShow name front e) (marks_at d s x) (all_marks d (after_transition s x) xs) (shows_if infos name d is front e other s x of.0 legal.0 known (eqb d (touched_device s x)) refl)
+    (first_shows infos name d is front e other xs (after_transition s x) of.1 legal.1 (linked_then (front ++ e ∷ []) infos e s x (last_in e front) of.0 legal.0 known))
+
+-- ---- a connection shows none: its job has no device yet
+
+none_at : (b : Bool) → ◌≡◌ {A = List Mark} (cond b [] []) []
+none_at true = refl
+none_at false = refl
+
+not_held : (i : ℕ) (holder : Option ℕ) → holder ≢ Some i → is_held_by i holder ≡ false
+not_held i None n = refl
+not_held i (Some j) n = by_test (eqb j i) refl
+  where
+    by_test : (b : Bool) → eqb j i ≡ b → is_held_by i (Some j) ≡ false
+    by_test false e = e
+    by_test true e = absurd (n (ap (λ (k : ℕ). Some k) (eqb-true j i e)))
+
+-- one that is to be connected holds nothing
+free_at : (s : SystemState) (i : ℕ) → Invariant s → (s.job i).client.stage ≡ Idle → (device_for s i).holder ≢ Some i
+free_at s i sound idle = (subst (StageInvariant i (make_for s i) (s.job i) (device_for s i)) idle (sound.talks i)).3.free
+
+same_device : (s : SystemState) (i : ℕ) → device_for (after_transition s (By i Actions.Connects)) i ≡ device_for s i
+same_device s i = ap (after_transition s (By i Actions.Connects)).device (wants_same s (By i Actions.Connects) i) ∙ put_there s.device (wanted_place s i) (device_for s i)
+
+lost_none : (s : SystemState) (i : ℕ) → Invariant s → (s.job i).client.stage ≡ Idle → marks (after_transition s (By i Actions.Connects)) (By i (Actions.Loses true)) ≡ []
+lost_none s i sound idle =
+    let t = after_transition s (By i Actions.Connects) in
+    let none : is_held_by i (device_for t i).holder ≡ false = not_held i (device_for t i).holder (λ e. free_at s i sound idle (ap (λ (dev : AbstractDevice). dev.holder) (sym (same_device s i)) ∙ e)) in
+    ap (λ (b : Bool). lost_marks b i (wanted_place t i) (device_for t i)) none
+
+connection_none : (d i : ℕ) (s : SystemState) (xs : List Transition) → Invariant s → IsHistory s xs → IsConnection (Connect i) xs → all_marks d s xs ≡ []
+connection_none d i s xs sound legal (inl none) = ap (all_marks d s) none
+connection_none d i s xs sound legal (inr (inl one)) = ap (all_marks d s) one ∙ ap (λ (ms : List Mark). ms ++ []) (none_at (eqb d (wanted_place s i)))
+connection_none d i s xs sound legal (inr (inr two)) =
+    let t = after_transition s (By i Actions.Connects) in
+    let idle : (s.job i).client.stage ≡ Idle = (subst (IsHistory s) two legal).0 in
+    let later : marks_at d t (By i (Actions.Loses true)) ≡ [] = ap (λ (ms : List Mark). cond (eqb d (wanted_place t i)) ms []) (lost_none s i sound idle) ∙ none_at (eqb d (wanted_place t i)) in
+    ap (all_marks d s) two ∙ (ap (λ (ms : List Mark). ms ++ (marks_at d t (By i (Actions.Loses true)) ++ [])) (none_at (eqb d (wanted_place s i))) ∙ ap (λ (ms : List Mark). ms ++ []) later)
+
+event_shows : (infos : List DeviceInfo) (name : List ℕ) (d : ℕ) → name_at infos d ≡ Some name → (front : List Event) (e : Event) (xs : List Transition) (s : SystemState) → Invariant s → AreOf infos e xs → IsConnection e xs → IsHistory s xs → AreLinked (front ++ e ∷ []) s → AllByRecursion (MayShow name front e) (all_marks d s xs)
+event_shows infos name d is front (Connect i) xs s sound of link legal known = subst (AllByRecursion (MayShow name front (Connect i))) (sym (connection_none d i s xs sound legal link)) tt
+event_shows infos name d is front (ToDaemon i n) xs s sound of link legal known = first_shows infos name d is front (ToDaemon i n) tt xs s of legal known
+event_shows infos name d is front (ToClient i n) xs s sound of link legal known = first_shows infos name d is front (ToClient i n) tt xs s of legal known
+event_shows infos name d is front (DataConnect i) xs s sound of link legal known = first_shows infos name d is front (DataConnect i) tt xs s of legal known
+event_shows infos name d is front (DataTurn i) xs s sound of link legal known = first_shows infos name d is front (DataTurn i) tt xs s of legal known
+event_shows infos name d is front (DataToClient i n) xs s sound of link legal known = first_shows infos name d is front (DataToClient i n) tt xs s of legal known
+event_shows infos name d is front (LoseControl i) xs s sound of link legal known = first_shows infos name d is front (LoseControl i) tt xs s of legal known
+event_shows infos name d is front (LoseImage i) xs s sound of link legal known = first_shows infos name d is front (LoseImage i) tt xs s of legal known
+event_shows infos name d is front (Cancel i) xs s sound of link legal known = first_shows infos name d is front (Cancel i) tt xs s of legal known
+event_shows infos name d is front (Load laid source) xs s sound of link legal known = first_shows infos name d is front (Load laid source) tt xs s of legal known
+event_shows infos name d is front (Unplug gone) xs s sound of link legal known = first_shows infos name d is front (Unplug gone) tt xs s of legal known
+
+-- ---- all of them
 
 marks_then : (d : ℕ) (xs ys : List Transition) (s : SystemState) → all_marks d s (xs ++ ys) ≡ all_marks d s xs ++ all_marks d (after_all s xs) ys
 marks_then d [] ys s = refl
 marks_then d (x ∷ xs) ys s = ap (λ (ms : List Mark). marks_at d s x ++ ms) (marks_then d xs ys (after_transition s x)) ∙ sym (append_assoc (marks_at d s x) (all_marks d (after_transition s x) xs) (all_marks d (after_all (after_transition s x) xs) ys))
 
-shows_from : (infos : List DeviceInfo) (name : List ℕ) (d : ℕ) → name_at infos d ≡ Some name → (front es : List Event) (steps : List Transition) (s : SystemState) → Traced infos es steps → IsHistory s steps → AreLinked front s → ShowsMarks name front es (all_marks d s steps)
-shows_from infos name d is front [] steps s h legal known = ap (all_marks d s) h
-shows_from infos name d is front (e ∷ es) steps s (first, more, split, of, rest) legal known =
+shows_from : HistoriesKeepInvariant → (infos : List DeviceInfo) (name : List ℕ) (d : ℕ) → name_at infos d ≡ Some name → (front es : List Event) (steps : List Transition) (s : SystemState) → Invariant s → Traced infos es steps → IsHistory s steps → AreLinked front s → ShowsMarks name front es (all_marks d s steps)
+shows_from keeps infos name d is front [] steps s sound h legal known = ap (all_marks d s) h
+shows_from keeps infos name d is front (e ∷ es) steps s sound (first, more, split, of, link, rest) legal known =
     let whole : IsHistory s (first ++ more) = subst (IsHistory s) split legal in
     let begins = history_first s first more whole in
     let now = linked_more front e s known in (
       all_marks d s first,
       all_marks d (after_all s first) more,
       ap (all_marks d s) split ∙ marks_then d first more s,
-      first_shows infos name d is front e first s of begins now,
-      shows_from infos name d is (front ++ e ∷ []) es more (after_all s first) rest (history_rest s first more whole) (linked_all infos (front ++ e ∷ []) e first s (last_in e front) of begins now),
+      event_shows infos name d is front e first s sound of link begins now,
+      shows_from keeps infos name d is (front ++ e ∷ []) es more (after_all s first) (keeps s first sound begins) rest (history_rest s first more whole) (linked_all infos (front ++ e ∷ []) e first s (last_in e front) of begins now),
     )
 
-pub all_shows : (infos : List DeviceInfo) (name : List ℕ) (d : ℕ) → name_at infos d ≡ Some name → (es : List Event) (steps : List Transition) (s : SystemState) → Traced infos es steps → IsHistory s steps → ((i : ℕ) → IsUnlinked (s.job i)) → ShowsMarks name [] es (all_marks d s steps)
-all_shows infos name d is es steps s h legal fresh = shows_from infos name d is [] es steps s h legal (λ i. inr (fresh i))
+pub all_shows : HistoriesKeepInvariant → (infos : List DeviceInfo) (name : List ℕ) (d : ℕ) → name_at infos d ≡ Some name → (es : List Event) (steps : List Transition) (s : SystemState) → Invariant s → Traced infos es steps → IsHistory s steps → ((i : ℕ) → IsUnlinked (s.job i)) → ShowsMarks name [] es (all_marks d s steps)
+all_shows keeps infos name d is es steps s sound h legal fresh = shows_from keeps infos name d is [] es steps s sound h legal (λ i. inr (fresh i))
 
 -- ---- the starts
 

@@ -19,7 +19,8 @@ use Rattle.page_picture.specs.SourceView.{source_state}
 use Rattle.world_contract.specs.Histories.{History, LedTo}
 use Rattle.world_contract.specs.Marks.{HasMarks, IsOfStart, starts_by}
 use Rattle.world_contract.specs.Laws.{Below, MarksFollow}
-use Rattle.world_contract.proofs.Sources.{sources_of, make_at}
+use Rattle.world_contract.proofs.Sources.{sources_of, have_sources, make_at}
+use Rattle.system_model.specs.Invariants.{Invariant}
 use Rattle.world_contract.proofs.Jobs.{IsJob}
 use Rattle.world_contract.proofs.Along.{get_at}
 use Rattle.world_contract.proofs.Lists.{contains_at}
@@ -40,14 +41,18 @@ use Rattle.world_contract.proofs.Calls.{endpoint_there, outcome_there}
 use Rattle.world_contract.specs.Page.{IsSteady}
 
 -- the marks at a place
-pub marks_at_place : (h : History) (w : WorldCore) (job : Job) (l : LedTo h w) (k : PromisesAreKept source_state h.events (at_first h w job l) l.first w) (d : ℕ) (device : DeviceState) → slice_get h.devices d ≡ Some device → (m : HasMarks h device) × (m.marks ≡ all_marks d (at_first h w job l).system k.run.steps)
-marks_at_place h w job l k d device at =
+-- at first all is as it must be
+first_sound : Below → (h : History) (w : WorldCore) (job : Job) (l : LedTo h w) → Invariant (at_first h w job l).system
+first_sound below h w job l = (below.new (sources_of h) h.jobs job h.devices l.first l.endpoints l.daemon l.names l.limits (have_sources h) l.fit).sound
+
+pub marks_at_place : Below → (h : History) (w : WorldCore) (job : Job) (l : LedTo h w) (k : PromisesAreKept source_state h.events (at_first h w job l) l.first w) (d : ℕ) (device : DeviceState) → slice_get h.devices d ≡ Some device → (m : HasMarks h device) × (m.marks ≡ all_marks d (at_first h w job l).system k.run.steps)
+marks_at_place below h w job l k d device at =
     let t = at_first h w job l in
     let steps = k.run.steps in
     let last = device_view (t.system.make d) ((after_all t.system steps).device d) in (
       record {
         marks = all_marks d t.system steps;
-        shows = all_shows t.infos device.info.name d (name_there h.devices d device at) h.events steps t.system (traced h.events t steps k.run.ghost_then k.run.comes) k.run.legal (fresh_there h w job l);
+        shows = all_shows below.histories t.infos device.info.name d (name_there h.devices d device at) h.events steps t.system (first_sound below h w job l) (traced h.events t steps k.run.ghost_then k.run.comes) k.run.legal (fresh_there h w job l);
         last = last;
         legal = subst (λ (o : Option DeviceState). MarksLead (device_view (make_of (sources_of h d) o) (fresh_device o)) (all_marks d t.system steps) last) at (k.run.marks d);
       },
@@ -64,7 +69,7 @@ of_start below h w i n job l k begin file at started meant =
     let begun = subst (λ (x : ℕ). AllByRecursion (IsBegun h x) (job_state k.run.ghost_then i).session.started) place (begun_there below.notes h w job l k i) in
     let there : HasDevice h d = (at_all (IsBegun h d) (job_state k.run.ghost_then i).session.started n begin begun started).0 in
     let device = there.0 in
-    let has = marks_at_place h w job l k d device there.1 in
+    let has = marks_at_place below h w job l k d device there.1 in
     let b = sources_of h d in
     let m : IsMeant (make_of b (Some device)) job.settings.items begin file = subst (λ (o : Option DeviceState). IsMeant (make_of b o) job.settings.items begin file) there.1 meant in
     let put = nearest_for device.setup.scene.kind device.setup.order job.settings.items begin.options m.in_force in
@@ -101,7 +106,7 @@ page_started below h w i n job p file j steady low is =
 
 pub marks_follow : MarksFollow
 marks_follow below = record {
-  legal = λ h w i job device at there. (marks_at_place h w job at.led (kept_by below.kept h w job at.led) there.0 device (get_at h.devices there.0 device there.1 ∙ ap (λ (x : DeviceState). Some x) there.2)).0;
+  legal = λ h w i job device at there. (marks_at_place below h w job at.led (kept_by below.kept h w job at.led) there.0 device (get_at h.devices there.0 device there.1 ∙ ap (λ (x : DeviceState). Some x) there.2)).0;
   scans = λ h w i job reports file at steady scan done is.
       let p = endpoint_there below h w i job at in
       scan_started below h w i job p.0 reports file p.1 steady scan (outcome_there w.endpoints i p.0 (Done reports) p.1.endpoint_at done) (ap (option_and_then (λ (x : Endpoint). x.file)) (sym p.1.endpoint_at) ∙ is);

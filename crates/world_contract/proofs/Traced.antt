@@ -174,16 +174,46 @@ comes_of (Cancel i) t steps u h = either_way _ (GhostCan t i events.Cancel) _ t 
 comes_of (Load name source) t steps u h = either_way _ (CanLoad t name) _ t steps u (λ d. steps_by (StepOf t.infos (Load name source)) steps (Loads d.place (source_state source).page ∷ []) d.steps_are ((d.named, refl), tt)) h
 comes_of (Unplug name) t steps u h = either_way _ (CanUnplug t name) _ t steps u (λ d. steps_by (StepOf t.infos (Unplug name)) steps (Unplugs d.place ∷ []) d.steps_are (d.named, tt)) h
 
+-- ---- the steps of a connection
+
+abbrev pub IsConnection : Event → List Transition → Type 0
+IsConnection (Connect i) steps = (steps ≡ []) ⊎ ((steps ≡ By i deeds.Connects ∷ []) ⊎ (steps ≡ By i deeds.Connects ∷ By i (deeds.Loses true) ∷ []))
+IsConnection e steps = Unit {0}
+
+connects_so : (t : Ghost) (i : ℕ) (steps : List Transition) (u : Ghost) → GhostConnects t i steps u → IsConnection (Connect i) steps
+connects_so t i steps u (inl h) = inr (inl h.0)
+connects_so t i steps u (inr h) = inr (inr h.0)
+
+connected_by : (t : Ghost) (i : ℕ) (steps : List Transition) (u : Ghost) → GhostHappens (GhostCan t i events.Connect) (GhostConnects t i steps u) t steps u → IsConnection (Connect i) steps
+connected_by t i steps u h = by_case h.either
+  where
+    by_case : GhostCan t i events.Connect ⊎ (GhostCan t i events.Connect → ⊥) → IsConnection (Connect i) steps
+    by_case (inl m) = connects_so t i steps u (h.does m)
+    by_case (inr n) = inl (h.cannot n).0
+
+connection_of : (e : Event) (t : Ghost) (steps : List Transition) (u : Ghost) → GhostComes source_state e t steps u → IsConnection e steps
+connection_of (Connect i) t steps u h = connected_by t i steps u h
+connection_of (ToDaemon i n) t steps u h = tt
+connection_of (ToClient i n) t steps u h = tt
+connection_of (DataConnect i) t steps u h = tt
+connection_of (DataTurn i) t steps u h = tt
+connection_of (DataToClient i n) t steps u h = tt
+connection_of (LoseControl i) t steps u h = tt
+connection_of (LoseImage i) t steps u h = tt
+connection_of (Cancel i) t steps u h = tt
+connection_of (Load name source) t steps u h = tt
+connection_of (Unplug name) t steps u h = tt
+
 -- ---- the steps of all events, one behind the other
 
 abbrev pub Traced : List DeviceInfo → List Event → List Transition → Type 0
 Traced infos [] steps = steps ≡ []
-Traced infos (e ∷ es) steps = (first more : List Transition) × (steps ≡ first ++ more) × AreOf infos e first × Traced infos es more
+Traced infos (e ∷ es) steps = (first more : List Transition) × (steps ≡ first ++ more) × AreOf infos e first × IsConnection e first × Traced infos es more
 
 pub traced : (es : List Event) (t : Ghost) (steps : List Transition) (u : Ghost) → GhostComesAll source_state es t steps u → Traced t.infos es steps
 traced [] t steps u h = h.0
 traced (e ∷ es) t steps v (first, more, u, is, one, rest) =
-    (first, more, is, comes_of e t first u one, subst (λ (infos : List DeviceInfo). Traced infos es more) (ap (λ (f : Fixed). f.1) (stays_fixed source_state e t first u one)) (traced es u more v rest))
+    (first, more, is, comes_of e t first u one, connection_of e t first u one, subst (λ (infos : List DeviceInfo). Traced infos es more) (ap (λ (f : Fixed). f.1) (stays_fixed source_state e t first u one)) (traced es u more v rest))
 
 -- each of them is of one of the events
 pub record IsOfSome (infos : List DeviceInfo) (es : List Event) (x : Transition) : Type 0 where
@@ -196,7 +226,7 @@ each_of infos [] steps h = steps_of steps h
   where
     steps_of : (steps : List Transition) → steps ≡ [] → AllByRecursion (IsOfSome infos []) steps
     steps_of xs e = subst (λ (x : List Transition). AllByRecursion (IsOfSome infos []) x) (sym e) tt
-each_of infos (e ∷ es) steps (first, more, is, of, rest) =
+each_of infos (e ∷ es) steps (first, more, is, of, link, rest) =
     subst (λ (x : List Transition). AllByRecursion (IsOfSome infos (e ∷ es)) x) (sym is)
     (all_then (IsOfSome infos (e ∷ es)) first more
     (all_each (StepOf infos e) (IsOfSome infos (e ∷ es)) first (λ x o. record { event = e; among = inl refl; is = o }) of)

@@ -20,9 +20,11 @@ use Rattle.scan_world.specs.Rounds.{total_left}
 use Rattle.scan_world.specs.Worlds.{Runs, WorldCore}
 use Rattle.page_picture.specs.SourceView.{source_state}
 use Rattle.world_contract.specs.Histories.{History, LedTo, and_then}
+use Rattle.world_contract.specs.Page.{Settled}
 use Rattle.world_contract.specs.Endings.{IsEndingExplained}
 use Rattle.world_contract.specs.Promise.{JobAnswers, CountIsKept, FileIsKept, MoveIsKept, MovesAreKept, OutcomeIsKept, PageIsKept}
 use Rattle.world_refines.specs.Answering.{HasUnsaidReply}
+use Rattle.world_refines.specs.FailedSources.{FailedIn}
 use Rattle.world_refines.specs.NewWorlds.{info_of_state}
 
 -- ---- what they answer of job i
@@ -94,6 +96,23 @@ KeepsOutcome w i given = ForEach w i (λ h job. (outcome : Outcome) × (given �
 abbrev pub history_up_to : History → List Event → History
 history_up_to h events = record h { events = events }
 
+-- A source of its device failed in one of the events: in the world that those in front of it led to its session held the device, and the
+-- daemon behind it has the device stopped, with one failure more.
+pub record HadFailure (h : History) (i : ℕ) (job : Job) : Type 0 where
+  pub front : List Event
+  pub event : Event
+  pub back : List Event
+  pub split : h.events ≡ front ++ event ∷ back
+  pub before : WorldCore
+  pub led_before : LedTo (history_up_to h front) before
+  pub behind : WorldCore
+  pub leads : Runs source_state (event ∷ []) before behind
+  pub failed : FailedIn before behind.daemon i job.device
+
+-- or `read-return-value` says IO_ERROR, by its settings
+abbrev pub NamesIoError : History → Job → Type 0
+NamesIoError h job = (s : Settled h job) × (s.setup.told ≡ Some statuses.IoError)
+
 -- It ended in one of the events: the world that those in front of it led to had it running, and the world behind it had it ended so, by a
 -- cause among the events up to it.
 pub record EndedIn (h : History) (w : WorldCore) (i : ℕ) (job : Job) (status : Status) (why : Why) : Type 0 where
@@ -110,6 +129,7 @@ pub record EndedIn (h : History) (w : WorldCore) (i : ℕ) (job : Job) (status :
   pub ended : outcome_at after i ≡ Some (Ended status why)
   pub rest : Runs source_state back after w
   pub caused : IsEndingExplained (history_up_to h (front ++ event ∷ [])) i job (starved_at after i) status why
+  pub failed : status ≡ statuses.IoError → why ≡ whys.Answer → HadFailure (history_up_to h (front ++ event ∷ [])) i job ⊎ NamesIoError (history_up_to h (front ++ event ∷ [])) job
 
 -- so did each that ended
 abbrev pub KeepsEnding : WorldCore → ℕ → Option Outcome → Type 0

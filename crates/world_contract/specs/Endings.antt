@@ -21,9 +21,9 @@ use Rattle.world_contract.specs.Page.{AreInForce, CameFor, Settled}
 abbrev pub Came : History → ℕ → Event → Type 0
 Came h i event = (front back : List Event) × (h.events ≡ front ++ event ∷ back) × Contains front (Connect i)
 
--- each device of the name was taken out
-abbrev pub IsUnlisted : History → List ℕ → Type 0
-IsUnlisted h name = (device : DeviceState) → Contains h.devices device → device.info.name ≡ name → Contains h.events (Unplug name)
+-- each device of the name was taken out in one of the events
+abbrev pub IsUnlisted : History → List Event → List ℕ → Type 0
+IsUnlisted h events name = (device : DeviceState) → Contains h.devices device → device.info.name ≡ name → Contains events (Unplug name)
 
 -- on no device of the name can the settings be in force
 abbrev pub IsUnforced : History → Job → Type 0
@@ -54,7 +54,7 @@ pub data IsEndingExplained (h : History) (i : ℕ) (job : Job) (starved : Bool) 
   NamesEof : (status ≡ IoError) × (why ≡ whys.Short) → Came h i (DataTurn i) → (s : Settled h job) → s.setup.told ≡ Some Eof → IsEndingExplained h i job starved status why
   NamesStatus : (status ≢ Eof) × (why ≡ whys.Answer) → Came h i (DataTurn i) → (s : Settled h job) → s.setup.told ≡ Some status → IsEndingExplained h i job starved status why
   Unforced : (status ≡ Inval) × ((why ≡ whys.Setting) ⊎ (why ≡ whys.Answer)) → IsUnforced h job → IsEndingExplained h i job starved status why
-  Unlisted : (status ≡ Inval) × (why ≡ whys.Answer) → (n : ℕ) → Came h i (ToDaemon i n) → IsUnlisted h job.device → IsEndingExplained h i job starved status why
+  Unlisted : (status ≡ Inval) × (why ≡ whys.Answer) → (n : ℕ) → (came : Came h i (ToDaemon i n)) → IsUnlisted h came.0 job.device → IsEndingExplained h i job starved status why
   HadNoPicture : (status ≡ Inval) × (why ≡ whys.Answer) → (n : ℕ) → Came h i (ToDaemon i n) → MeansNoPicture h job → IsEndingExplained h i job starved status why
   WasHeld : (status ≡ DeviceBusy) × (why ≡ whys.Answer) → (n : ℕ) → Came h i (ToDaemon i n) → IsShared h i job → IsEndingExplained h i job starved status why
   Disallowed : (status ≡ AccessDenied) × (why ≡ whys.Answer) → (n : ℕ) → Came h i (ToDaemon i n) → is_guarded h.users (backend_of job.device) ≡ true → IsEndingExplained h i job starved status why

@@ -34,7 +34,6 @@ IsRest i m = ⊥
 -- the marks that an event may show of the device of that name, behind these events: a job's come behind its connection
 abbrev pub MayShow : List ℕ → List Event → Event → Mark → Type 0
 MayShow name front (ToDaemon i n) m = IsMarkOf i m × Contains front (Connect i)
-MayShow name front (Connect i) m = IsLeft i m
 MayShow name front (LoseControl i) m = IsLeft i m × Contains front (Connect i)
 MayShow name front (LoseImage i) m = IsRest i m × Contains front (Connect i)
 MayShow name front (DataTurn i) m = IsRest i m × Contains front (Connect i)

@@ -134,7 +134,8 @@ impl World {
     }
 
     /// How far job i is; none where there is no such job. One that is done was answered as it should be, and one that ended
-    /// otherwise did so in one of the events and has its cause among those up to that one.
+    /// otherwise did so in one of the events and has its cause among those up to that one. Where it was answered IO_ERROR its
+    /// device's source failed in one of these, and counted that, unless `read-return-value` says so.
     pub fn outcome(&self, i: usize) -> Option<&Outcome>
         ensures is { let w = seen_world ⟦<Box<dyn Device> as Device>⟧.state self.now.inner in
             option_map (λ o. o.now) result ≡ outcome_at w i }

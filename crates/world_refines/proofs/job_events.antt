@@ -10,4 +10,5 @@ pub mod Leasing
 pub mod Laying
 pub mod Loading
 pub mod Unplugging
+pub mod Quiet
 pub mod Followed

@@ -20,6 +20,8 @@ pub mod Closing
 pub mod Sent
 pub mod Fed
 pub mod FedSlot
+pub mod FailedRequests
 pub mod FedEvent
+pub mod Lent
 pub mod RequestDeliveries
 pub mod Silent

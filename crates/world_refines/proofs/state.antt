@@ -9,6 +9,7 @@ pub mod ListedPlaces
 pub mod Spoken
 pub mod Changing
 pub mod Taking
+pub mod Failing
 pub mod Stepping
 pub mod Infos
 pub mod Finding

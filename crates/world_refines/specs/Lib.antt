@@ -5,6 +5,7 @@ pub mod WorldPending
 pub mod WorldRefinement
 pub mod Costs
 pub mod GhostEvents
+pub mod FailedSources
 pub mod Answering
 pub mod ClientDeliveries
 pub mod DataDeliveries

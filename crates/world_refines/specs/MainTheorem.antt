@@ -31,6 +31,7 @@ use Rattle.scan_world.specs.Worlds.{AreNew, IsFitJob, Runs, WorldCore}
 use Rattle.world_refines.specs.GhostStates.{Ghost, job_state}
 use Rattle.world_refines.specs.WorldRefinement.{WorldRefines}
 use Rattle.world_refines.specs.Costs.{Pays}
+use Rattle.world_refines.specs.FailedSources.{AllAlong, FailsInSome}
 use Rattle.world_refines.specs.GhostEvents.{GhostCan, MayHaveSource, CanLoad, CanUnplug, GhostConnects, Dials, GivesUp, GhostHappens, LaysIn, LosesControl, LosesImage, TakesOut, GhostTurns}
 use Rattle.world_refines.specs.Answering.{AnswersSome}
 use Rattle.world_refines.specs.ClientDeliveries.{GhostHears}
@@ -86,6 +87,8 @@ pub record RunRefines (source : Source → SourceState) (events : List Event) (t
   pub rules_are : ghost_then.system ≡ after_all t.system steps
   pub marks : (d : ℕ) → MarksLead (device_view (t.system.make d) (t.system.device d)) (all_marks d t.system steps) (device_view (t.system.make d) ((after_all t.system steps).device d))
   pub stands : WorldRefines ghost_then v
+  -- each source that fails by them failed in one of the events, and counted it
+  pub failures : AllAlong (FailsInSome source events t w v) t.system steps
   -- moves that sufficed suffice
   pub pays : Pays t w → Pays ghost_then v
 

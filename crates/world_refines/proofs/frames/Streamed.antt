@@ -24,7 +24,10 @@ use Rattle.system_model.specs.Transitions.{IsActionEnabled}
 use Rattle.daemon_refines.specs.Cores.{SessionRefines}
 use Rattle.daemon_refines.specs.CoreCalls.{CoreTurned}
 use Rattle.daemon_refines.specs.OtherSessions.{LeavesOthers}
+use Rattle.daemon_refines.specs.ContextRefinement.{TransferRefines}
+use Rattle.daemon_refines.specs.Failures.{FailedAt, IsCountedAt}
 use Rattle.daemon_refines.specs.Streams.{SendsAs}
+use Rattle.system_model.specs.Daemon.{TransferState, FailureCounts, Quiet, Waiting, Streaming, Ending}
 use Rattle.daemon_refines.proofs.CoreCalls.{core_turns, core_turns_off}
 use Rattle.daemon_refines.proofs.Cores.{own_seat}
 use Rattle.daemon_refines.proofs.Leaves.{IsKept, changed, kept, leaves_kept, put_one}
@@ -45,10 +48,21 @@ use Rattle.world_refines.proofs.frames.Turned.{IsShortRecord, Turn, Failed, Give
 abbrev pub devices_after : Turn → (ℕ → AbstractDevice) → ℕ → ℕ → AbstractDevice
 devices_after turn table wants = with_entry table wants (dev_after turn (table wants))
 
+-- where its source fails, the device that the session holds is so stopped, and the frame is over
+pub record IsFailedTurn (d e : Core) (n : ℕ) (fault : FailureCounts) : Type 0 where
+  pub old : DeskSession DeviceState
+  pub new : DeskSession DeviceState
+  pub stood : session_in (session_slot_of d.slots n) ≡ Some old
+  pub stands : session_in (session_slot_of e.slots n) ≡ Some new
+  pub over : new.transfer ≡ word.Quiet
+  pub device_word : ℕ
+  pub failed : FailedAt old.held new.held device_word fault
+
 pub record Streamed (i : ℕ) (make : ℕ → Make) (d e : Core) (id : SessionId) (table : ℕ → AbstractDevice) (p : JobState) (step : DataStep) (buf : List ℕ) : Type 0 where
   pub turn : Turn
   pub may : IsActionEnabled i (make p.session.job.wants) p (table p.session.job.wants) (deed_of turn)
   pub short : IsShortRecord turn
+  pub fails : (fault : FailureCounts) → turn ≡ Failed fault → IsFailedTurn d e id.number fault
   pub sends : (n : ℕ) (b : Core) (old : Endpoint) (c : Core) (new : Endpoint) → world.SendsStep n step buf b old c new → world.SendsRecord n (text_of turn) (is_end turn) b old c new
   pub leaves : Leaves i make (Some id) d e table (devices_after turn table p.session.job.wants)
   pub shows : SessionRefines i make e id.number (devices_after turn table p.session.job.wants) (session_by i (devices_after turn table p.session.job.wants) (job_after turn p))
@@ -125,6 +139,26 @@ shows_by i make listed d e n table p action turn is h =
     ap (λ (x : AbstractDevice). one_word_session (is_held_by i x.holder) wants (carriage_after turn p.session.transfer) p.session.awaited) (put_there table wants (dev_after turn dev)) in
     subst (λ (x : AbstractSession). SessionRefines i make e n device x) (sym ruled) by_party
 
+quiet_word : (wc : WordCarriage) (c : TransferState) (framed : ℕ) → TransferRefines wc c framed → c ≡ Quiet → wc ≡ word.Quiet
+quiet_word word.Quiet c framed h e = refl
+quiet_word (word.Waiting w) c framed h e = absurd (let clash : Quiet ≡ Waiting = sym e ∙ h.0 in cc)
+quiet_word (word.Streaming w) c framed h e = absurd (let clash : Quiet ≡ Streaming = sym e ∙ h.0 in cc)
+quiet_word word.Ending c framed h e = absurd (let clash : Quiet ≡ Ending = sym e ∙ h in cc)
+
+failed_turn : (i : ℕ) (make : ℕ → Make) (d e : Core) (id : SessionId) (table device : ℕ → AbstractDevice) (p : JobState) (place : ℕ) (turn : Turn) (fault : FailureCounts) → (h : SessionRefines i make d id.number table (session_by i table p)) → (shows : SessionRefines i make e id.number device (session_by i device (job_after turn p))) →
+    ((a b : DeskSession DeviceState) → session_in (session_slot_of d.slots id.number) ≡ Some a → session_in (session_slot_of e.slots id.number) ≡ Some b → IsCountedAt a.held b.held (session_by i table p).words place (deed_of turn)) → turn ≡ Failed fault → IsFailedTurn d e id.number fault
+failed_turn i make d e id table device p place turn fault h shows counted is =
+    let c : IsCountedAt h.session.held shows.session.held (session_by i table p).words place (deed_of (Failed fault)) = subst (λ (x : Turn). IsCountedAt h.session.held shows.session.held (session_by i table p).words place (deed_of x)) is (counted h.session shows.session h.stands shows.stands) in
+    record {
+      old = h.session;
+      new = shows.session;
+      stood = h.stands;
+      stands = shows.stands;
+      over = quiet_word shows.session.transfer (carriage_after turn p.session.transfer) 0 shows.shows.transfer (ap (λ (x : Turn). carriage_after x p.session.transfer) is);
+      device_word = c.0;
+      failed = c.2;
+    }
+
 streamed_by : (i : ℕ) (make : ℕ → Make) (listed : List ℕ) (d e : Core) (id : SessionId) (table : ℕ → AbstractDevice) (p : JobState) (step : DataStep) (buf : List ℕ) → AllByRecursion (IsBelow d.opened) d.slots → AreFaithful d → SessionRefines i make d id.number table (session_by i table p) → daemon.Turns id.number d step e buf →
     CoreTurned i make id.number d e table (session_by i table p) listed p p.session.job.wants step buf → Streamed i make d e id table p step buf
 streamed_by i make listed d e id table p step buf below faithful h g c =
@@ -144,6 +178,7 @@ streamed_by i make listed d e id table p step buf below faithful h g c =
       turn = turn;
       may = may;
       short = short_turn turn h.session.transfer h.session now step buf run.1 sent;
+      fails = λ fault is. failed_turn i make d e id table device p wants turn fault h shows (λ a b stood stands. subst (λ (x : Action). IsCountedAt a.held b.held (session_by i table p).words wants x) t.deed_is (c.counted a b stood stands)) is;
       sends = t.sends;
       leaves = leaves_by i make d e id table device now (session_by i device (job_after turn p)) below faithful g.others run.2 (stream_true h.session.transfer h.session now step buf run.1 (session_is_true i make d n table (session_by i table p) h faithful)) shows
           (leaves_kept i d.registry table device (put_one i table wants (dev_after turn (table wants)) (turn_kept turn i (make wants) p (table wants) may)));

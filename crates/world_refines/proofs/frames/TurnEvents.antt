@@ -12,20 +12,25 @@ use Rattle.saned_core.specs.declared.session_slot.DataStep.{DataStep}
 use Rattle.saned_core.specs.declared.session_slot.FrameState.{FrameState}
 use Rattle.saned_core.specs.declared.session_slot.FrameState.TheVariants as frames
 use Rattle.saned_core.specs.declared.session_slot.SessionId.{SessionId}
-use Rattle.saned_core.specs.DaemonStates.{Core, after_lost, frame_in, frame_state_of, replies_in, session_slot_of, session_in}
-use Rattle.saned_core.specs.Feeding.{input_in}
+use Rattle.saned_core.specs.declared.session_slot.SessionSlot.{SessionSlot}
+use Rattle.saned_core.specs.DaemonStates.{Core, after_lost, frame_in, frame_state_of, lost_from, on_session, on_session_slot, replies_in, session_slot_of, session_in}
+use Rattle.saned_core.specs.Feeding.{core_context, input_in}
+use Rattle.device_api.specs.State.{DeviceState}
+use Rattle.saned_requests.specs.declared.session.Session.{Session as DeskSession}
+use Rattle.saned_requests.specs.Holding.{held_by}
+use Rattle.daemon_refines.proofs.Cores.{own_seat}
 use Rattle.scan_job.specs.declared.job.Job.{Job}
 use Rattle.client_replies.specs.declared.progress.Progress.{Progress}
 use Rattle.system_model.specs.AbstractMessages.{Status}
 use Rattle.system_model.specs.Causes.{Cause, IsCauseAmong, Names, NamesEof, SourceFailed, LinkOutOfMemory}
 use Rattle.system_model.specs.Client as rules
 use Rattle.system_model.specs.Client.{Idle, JobStage}
-use Rattle.system_model.specs.Daemon.{TransferState, Quiet, Waiting, Streaming, Ending}
+use Rattle.system_model.specs.Daemon.{TransferState, FailureCounts, Quiet, Waiting, Streaming, Ending}
 use Rattle.system_model.specs.Actions as actions
 use Rattle.system_model.specs.Actions.{device_after, job_after_action}
 use Rattle.system_model.specs.Devices.{Make}
 use Rattle.system_model.specs.AbstractDevices.{AbstractDevice}
-use Rattle.system_model.specs.SystemStates.{JobState, listed_devices, make_for, with_entry, device_for}
+use Rattle.system_model.specs.SystemStates.{JobState, SystemState, listed_devices, make_for, with_entry, device_for}
 use Rattle.system_model.specs.Transitions.{By, IsActionEnabled, Transition}
 use Rattle.system_model.proofs.JobPromises.{sound_after_all}
 use Rattle.daemon_refines.specs.Cores.{SessionRefines}
@@ -48,12 +53,15 @@ use Rattle.world_refines.proofs.frames.CutOff.{cut_stands, put_again, set_again,
 use Rattle.world_refines.proofs.state.ListEntries.{set_there}
 use Rattle.world_refines.proofs.frames.RecordLaws.{carries_end, carries_more}
 use Rattle.world_refines.proofs.state.Sees.{Leaves}
-use Rattle.world_refines.proofs.frames.Streamed.{Streamed, streamed}
+use Rattle.world_refines.proofs.frames.Streamed.{IsFailedTurn, Streamed, streamed}
+use Rattle.world_refines.proofs.requests.FailedRequests.{lease_named}
+use Rattle.world_refines.specs.FailedSources.{FailedIn, FailsIn}
 use Rattle.world_refines.specs.Speaks.{Speaks}
 use Rattle.world_refines.proofs.state.Held.{held_after_all}
 use Rattle.world_refines.proofs.state.ListedPlaces.{shown_after}
 use Rattle.world_refines.proofs.state.Spoken.{speaks_still}
-use Rattle.world_refines.proofs.state.Taking.{DecidesAt, done, one_change, one_party, sits_there}
+use Rattle.world_refines.proofs.state.Failing.{Counting, plain_decides}
+use Rattle.world_refines.proofs.state.Taking.{DecidesAt, DecidesIn, done, one_change, one_party, sits_there}
 use Rattle.world_refines.proofs.frames.Turned.{IsShortRecord, Turn, Failed, Gives, Named, Off, Short, Whole, carriage_after, deed_of, device_is, ending_after, flight_after, is_end, job_after, met_after, party_is, record_of, text_of}
 use Rattle.world_refines.proofs.frames.Unimaged.{both_or, by_imaging, bytes_some, none_some, some_bytes, some_or}
 use Rattle.world_refines.proofs.state.WorldPending.{pends_same}
@@ -346,8 +354,49 @@ the_image : (o : Option Image) → IsSome o → (im : Image) × (o ≡ Some im)
 the_image None h = absurd (let clash : false ≡ true = h in cc)
 the_image (Some im) h = (im, refl)
 
+-- ---- a source that fails in it
+
+-- a session that reads nothing is left as it is by the loss of its data connection
+lost_stands : (slots : List (Option (SessionSlot DeviceState))) (n : ℕ) (session : DeskSession DeviceState) (o : Option (SessionSlot DeviceState)) → session_slot_of slots n ≡ o → session_in o ≡ Some session → session.transfer ≡ word.Quiet → session_in (session_slot_of (on_session_slot (on_session after_lost) n slots) n) ≡ Some session
+lost_stands slots n session None e is quiet = absurd (let clash : None ≡ Some session = is in cc)
+lost_stands slots n session (Some slot) e is quiet =
+    ap session_in (own_seat (on_session after_lost) n slots slot (record slot { session = option_map after_lost slot.session }) e refl refl)
+    ∙ (ap (option_map after_lost) is ∙ ap (λ (c : WordCarriage). Some (lost_from c session)) quiet)
+
+turn_failed : (t : Ghost) (w : WorldCore) (i : ℕ) (p : Endpoint) (id : SessionId) (mid : Core) (fault : FailureCounts) → WorldRefines t w → slice_get w.endpoints i ≡ Some p → p.link ≡ Some id → SessionRefines i t.system.make w.daemon id.number t.system.device (session_by i t.system.device (t.system.job i)) →
+    IsFailedTurn w.daemon mid id.number fault → FailedIn w mid i (t.jobs i).device × FailedIn w (world.image_lost id.number mid) i (t.jobs i).device
+turn_failed t w i p id mid fault h at link shows f =
+    (by_core mid f.stands, by_core (world.image_lost id.number mid) (lost_stands mid.slots id.number f.new (session_slot_of mid.slots id.number) refl f.stands f.over))
+  where
+    by_core : (core : Core) → session_in (session_slot_of core.slots id.number) ≡ Some f.new → FailedIn w core i (t.jobs i).device
+    by_core core stands =
+        let l = f.failed.lease in
+        let same : f.old ≡ shows.session = unsome f.old shows.session (sym f.stood ∙ shows.stands) in
+        let held : held_by shows.session.held f.device_word ≡ Some l = subst (λ (x : DeskSession DeviceState). held_by x.held f.device_word ≡ Some l) same f.failed.stood in
+        record {
+          endpoint = p;
+          is_there = at;
+          id = id;
+          linked = link;
+          word = f.device_word;
+          lease = l;
+          held = record { session = f.old; stands = f.stood; held = f.failed.stood };
+          named = lease_named i t.system.make t.users t.infos (t.jobs i) (core_context w.daemon shows.session) t.system.device (t.system.job i) f.device_word l (h.endpoints i p at).job_is h.is_of.infos shows.shows held;
+          after = f.failed.after;
+          stopped = f.failed.failed.stopped;
+          left = inl (record { session = f.new; stands = stands; held = f.failed.stands });
+        }
+
+turn_fails : (t : Ghost) (w : WorldCore) (i : ℕ) (core : Core) (s : SystemState) (turn : Turn) → ((fault : FailureCounts) → turn ≡ Failed fault → FailedIn w core i (t.jobs i).device) → FailsIn t w core s (By i (deed_of turn))
+turn_fails t w i core s (Gives bytes) h = tt
+turn_fails t w i core s Whole h = tt
+turn_fails t w i core s (Named code) h = tt
+turn_fails t w i core s Short h = tt
+turn_fails t w i core s (Failed fault) h = h fault refl
+turn_fails t w i core s Off h = tt
+
 turn_leads : (t : Ghost) (w : WorldCore) (i : ℕ) (p : Endpoint) (id : SessionId) → WorldRefines t w → slice_get w.endpoints i ≡ Some p → i < t.count → p.link ≡ Some id → IsSome p.image → world.IsFlowing (world.frame_state_at w.daemon id.number) → (e : Core) (q : Endpoint) → world.TakesTurn id.number w.daemon p e q →
-    GhostLeads events.DataTurn GhostTurns t i (record { daemon = e; endpoints = slice_set w.endpoints i q })
+    GhostLeads events.DataTurn (Counting GhostTurns w e) t i (record { daemon = e; endpoints = slice_set w.endpoints i q })
 turn_leads t w i p id h at low link some flows e q d =
     let s = h.endpoints i p at in
     let me = t.system.job i in
@@ -357,27 +406,27 @@ turn_leads t w i p id h at low link some flows e q d =
     let turned = streamed i t.system.make (listed_devices t.system) w.daemon d.mid id t.system.device me d.step d.buf h.slots h.faithful is.shows flows d.turns in
     let stands : (im : Image) → p.image ≡ Some im → WorldRefines (told_turn t i turned.turn) (record { daemon = d.mid; endpoints = slice_set w.endpoints i (gained turned.turn im p) }) = λ im image.
     turned_stands t w i p id im d.mid d.step d.buf h at low link image is.served is.started has turned in
-    by_sent t w i p id d.mid turned.turn at low link some has is.started (λ im image. stands im image) turned.may (s.means.image has) e q (turned.sends id.number d.mid p e q d.sends)
+    by_sent t w i p id d.mid turned.turn at low link some has is.started (λ im image. stands im image) turned.may (s.means.image has) (λ fault f. turn_failed t w i p id d.mid fault h at link is.shows (turned.fails fault f)) e q (turned.sends id.number d.mid p e q d.sends)
   where
     by_sent : (t : Ghost) (w : WorldCore) (i : ℕ) (p : Endpoint) (id : SessionId) (mid : Core) (turn : Turn) → slice_get w.endpoints i ≡ Some p → i < t.count → p.link ≡ Some id → IsSome p.image → IsSome (t.wires i).image → Started (t.system.job i).session.transfer →
-        ((im : Image) → p.image ≡ Some im → WorldRefines (told_turn t i turn) (record { daemon = mid; endpoints = slice_set w.endpoints i (gained turn im p) })) → IsActionEnabled i (make_for t.system i) (t.system.job i) (device_for t.system i) (deed_of turn) → (t.system.job i).image ≡ true →
-        (e : Core) (q : Endpoint) → world.SendsRecord id.number (text_of turn) (is_end turn) mid p e q → GhostLeads events.DataTurn GhostTurns t i (record { daemon = e; endpoints = slice_set w.endpoints i q })
-    by_sent t w i p id mid turn at low link some has started stands may dialled e q (inl sent) =
-        subst (λ (x : Core). GhostLeads events.DataTurn GhostTurns t i (record { daemon = x; endpoints = slice_set w.endpoints i q })) (sym sent.2)
-        (subst (λ (x : Endpoint). GhostLeads events.DataTurn GhostTurns t i (record { daemon = mid; endpoints = slice_set w.endpoints i x })) (sym sent.3)
-        (done events.DataTurn GhostTurns t i _ (turn_steps i turn) (told_turn t i turn) (has, started)
-        (record { action = deed_of turn; text = text_of turn; is = record_of turn; sends = inl (refl, record { legal = (may, tt); then_is = refl }) }) (stands sent.0 sent.1)))
-    by_sent t w i p id mid turn at low link some has started stands may dialled e q (inr lost) =
+        ((im : Image) → p.image ≡ Some im → WorldRefines (told_turn t i turn) (record { daemon = mid; endpoints = slice_set w.endpoints i (gained turn im p) })) → IsActionEnabled i (make_for t.system i) (t.system.job i) (device_for t.system i) (deed_of turn) → (t.system.job i).image ≡ true → ((fault : FailureCounts) → turn ≡ Failed fault → FailedIn w mid i (t.jobs i).device × FailedIn w (world.image_lost id.number mid) i (t.jobs i).device) →
+        (e : Core) (q : Endpoint) → world.SendsRecord id.number (text_of turn) (is_end turn) mid p e q → GhostLeads events.DataTurn (Counting GhostTurns w e) t i (record { daemon = e; endpoints = slice_set w.endpoints i q })
+    by_sent t w i p id mid turn at low link some has started stands may dialled fails e q (inl sent) =
+        subst (λ (x : Core). GhostLeads events.DataTurn (Counting GhostTurns w x) t i (record { daemon = x; endpoints = slice_set w.endpoints i q })) (sym sent.2)
+        (subst (λ (x : Endpoint). GhostLeads events.DataTurn (Counting GhostTurns w mid) t i (record { daemon = mid; endpoints = slice_set w.endpoints i x })) (sym sent.3)
+        (done events.DataTurn (Counting GhostTurns w mid) t i _ (turn_steps i turn) (told_turn t i turn) (has, started)
+        (record { action = deed_of turn; text = text_of turn; is = record_of turn; sends = inl (refl, record { legal = (may, tt); then_is = refl }) }, (turn_fails t w i mid t.system turn (λ fault is. (fails fault is).0), tt)) (stands sent.0 sent.1)))
+    by_sent t w i p id mid turn at low link some has started stands may dialled fails e q (inr lost) =
         let im = the_image p.image some in
         let image : (told_turn t i turn).system.job i ≡ job_after turn (t.system.job i) = turned_party t i turn in
         let may_lose = ap (λ (x : JobState). x.image) image ∙ dialled in
-        subst (λ (x : Core). GhostLeads events.DataTurn GhostTurns t i (record { daemon = x; endpoints = slice_set w.endpoints i q })) (sym lost.0)
-        (subst (λ (x : Endpoint). GhostLeads events.DataTurn GhostTurns t i (record { daemon = world.image_lost id.number mid; endpoints = slice_set w.endpoints i x })) (sym lost.1)
-        (done events.DataTurn GhostTurns t i _ (cut_steps i turn) (told_cut t i turn) (has, started)
-        (record { action = deed_of turn; text = text_of turn; is = record_of turn; sends = inr (refl, record { legal = (may, (may_lose, tt)); then_is = refl }) }) (cut_turned t w i p id im.0 mid turn at low link has (stands im.0 im.1))))
+        subst (λ (x : Core). GhostLeads events.DataTurn (Counting GhostTurns w x) t i (record { daemon = x; endpoints = slice_set w.endpoints i q })) (sym lost.0)
+        (subst (λ (x : Endpoint). GhostLeads events.DataTurn (Counting GhostTurns w (world.image_lost id.number mid)) t i (record { daemon = world.image_lost id.number mid; endpoints = slice_set w.endpoints i x })) (sym lost.1)
+        (done events.DataTurn (Counting GhostTurns w (world.image_lost id.number mid)) t i _ (cut_steps i turn) (told_cut t i turn) (has, started)
+        (record { action = deed_of turn; text = text_of turn; is = record_of turn; sends = inr (refl, record { legal = (may, (may_lose, tt)); then_is = refl }) }, (turn_fails t w i (world.image_lost id.number mid) t.system turn (λ fault is. (fails fault is).1), (tt, tt))) (cut_turned t w i p id im.0 mid turn at low link has (stands im.0 im.1))))
 
-pub turn_decides : DecidesAt events.DataTurn GhostTurns
-turn_decides t w i p h at low =
+pub turn_counts : DecidesIn events.DataTurn (Counting GhostTurns)
+turn_counts t w i p h at low =
     record {
       can = λ can. may_turn t w i p h at can;
       back = λ can. (subst IsSome (h.endpoints i p at).carries.image (some_bytes p.image can.0), started_back p.link refl can.1);
@@ -393,7 +442,10 @@ turn_decides t w i p h at low =
         (started_by i t.system.make w.daemon id me.served t.system.device me refl served flows).started
 
     by_link : (t : Ghost) (w : WorldCore) (i : ℕ) (p : Endpoint) (link : Option SessionId) → WorldRefines t w → slice_get w.endpoints i ≡ Some p → i < t.count → p.link ≡ link → IsSome p.image → world.IfLinked p.link (λ k. world.IsFlowing (world.frame_state_at w.daemon k)) →
-        (e : Core) (q : Endpoint) → world.IfLinked p.link (λ k. world.TakesTurn k w.daemon p e q) → GhostLeads events.DataTurn GhostTurns t i (record { daemon = e; endpoints = slice_set w.endpoints i q })
+        (e : Core) (q : Endpoint) → world.IfLinked p.link (λ k. world.TakesTurn k w.daemon p e q) → GhostLeads events.DataTurn (Counting GhostTurns w e) t i (record { daemon = e; endpoints = slice_set w.endpoints i q })
     by_link t w i p None h at low link some flows e q d = absurd (subst (λ (x : Option SessionId). world.IfLinked x (λ k. world.IsFlowing (world.frame_state_at w.daemon k))) link flows)
     by_link t w i p (Some id) h at low link some flows e q d =
         turn_leads t w i p id h at low link some (subst (λ (x : Option SessionId). world.IfLinked x (λ k. world.IsFlowing (world.frame_state_at w.daemon k))) link flows) e q (subst (λ (x : Option SessionId). world.IfLinked x (λ k. world.TakesTurn k w.daemon p e q)) link d)
+
+pub turn_decides : DecidesAt events.DataTurn GhostTurns
+turn_decides = plain_decides events.DataTurn GhostTurns turn_counts

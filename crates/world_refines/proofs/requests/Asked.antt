@@ -55,7 +55,7 @@ use Rattle.world_refines.proofs.requests.SentValues.{asked_again}
 
 -- ---- the place of a name
 
-past_end : {X : Type 0} (xs : List X) → slice_get xs (length xs) ≡ None
+pub past_end : {X : Type 0} (xs : List X) → slice_get xs (length xs) ≡ None
 past_end [] = refl
 past_end (x ∷ xs) = past_end xs
 
@@ -102,7 +102,7 @@ names_place i make held registry device infos name same apart h =
 -- ---- what the session holds
 
 -- a place of what it holds is the job's
-holds_wanted : (i : ℕ) (make : ℕ → Make) (d : RequestContext) (device : ℕ → AbstractDevice) (p : JobState) (k : ℕ) → ContextRefines i make d device (session_by i device p) → HoldsPlace d.session.held k → k ≡ p.session.job.wants
+pub holds_wanted : (i : ℕ) (make : ℕ → Make) (d : RequestContext) (device : ℕ → AbstractDevice) (p : JobState) (k : ℕ) → ContextRefines i make d device (session_by i device p) → HoldsPlace d.session.held k → k ≡ p.session.job.wants
 holds_wanted i make d device p k h holds =
     let at : only_word (is_held_by i (device p.session.job.wants).holder) p.session.job.wants holds.word ≡ Some k =
     h.words holds.word ∙ (ap (option_map (λ (l : Lease DeviceState). l.place)) holds.stands ∙ ap (λ (x : ℕ). Some x) holds.place) in

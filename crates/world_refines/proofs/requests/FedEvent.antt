@@ -3,9 +3,11 @@ use Rattle.std.specs.Prelude.{is_some, length, map, not, IsSome}
 use Rattle.std.specs.List.{AllByRecursion}
 use Rattle.std.proofs.Common.{◌≡◌, ◌≢◌, ◌⊎◌, inl, inr, ◌∙◌, ℕ, zero, suc, ◌<◌, List, [], ◌∷◌, ◌++◌, Option, Some, None, Bool, true, false, refl, sym, ap, subst, slice_get, slice_set, append_assoc, append-nil, arith}
 use Rattle.frame_join.specs.FrameHistory.{JoinHistory}
-use Rattle.device_api.specs.State.{DeviceState}
+use Rattle.device_api.specs.State.{DeviceState, after_cancel}
 use Rattle.saned_requests.specs.declared.session.Session.{Session as DeskSession}
 use Rattle.md5_auth.specs.declared.users.Entry.{Entry}
+use Rattle.dispatch.specs.declared.table.place.Lease.{Lease}
+use Rattle.saned_requests.specs.Holding.{held_by}
 use Rattle.saned_requests.specs.RequestAnswers.{RequestContext}
 use Rattle.saned_core.specs.declared.session_slot.Fed.{Fed}
 use Rattle.saned_core.specs.declared.session_slot.Fed.TheVariants.{Standing, Over, Starved}
@@ -32,13 +34,14 @@ use Rattle.system_model.specs.Devices.{Make}
 use Rattle.system_model.specs.Causes.{IsCauseAmong, LinkOutOfMemory}
 use Rattle.system_model.specs.Client as rules
 use Rattle.system_model.specs.Client.{Idle, ClientView, Running, Done, Ended, JobStage, request_awaited}
-use Rattle.system_model.specs.Daemon.{TransferState}
+use Rattle.system_model.specs.Daemon.{TransferState, FailureCounts}
 use Rattle.system_model.specs.AbstractDevices.{AbstractDevice}
 use Rattle.system_model.specs.Deliveries.{Chance, answers}
 use Rattle.system_model.specs.Invariants.{StageInvariant as SoundTalks}
 use Rattle.system_model.specs.SystemStates.{JobState, make_for, device_for}
 use Rattle.system_model.specs.Transitions.{IsHistory, IsImaging, IsUnderWay, MayBreak, Transition, after_all}
 use Rattle.daemon_refines.specs.ContextRefinement.{ContextRefines, TableRefines}
+use Rattle.daemon_refines.specs.Failures.{FailedAt}
 use Rattle.daemon_refines.specs.Feeds.{IsSessionBegun}
 use Rattle.daemon_refines.specs.Cores.{SessionRefines}
 use Rattle.system_model.specs.AbstractSessions.{AbstractSession as RuledSession}
@@ -52,6 +55,10 @@ use Rattle.world_refines.specs.Wires.{FlightMatches, FlowsBy, SpellsAsked, Spell
 use Rattle.world_refines.specs.WorldRefinement.{HasNoEnd, IsFaithfulLease, IsFaithfulSessionSlot, IsFaithfulSession, IsServed, WorldRefines, slot_of_link, session_by, AreStartedViews}
 use Rattle.world_refines.specs.Speaks.{Speaks}
 use Rattle.world_refines.specs.GhostEvents.{GhostCan, GhostLeads}
+use Rattle.world_refines.specs.FailedSources.{AllAlong, FailedIn, FailsIn, HoldsLease}
+use Rattle.saned_requests.specs.LeaseLaws.{HoldsWell, IsIn}
+use Rattle.saned_requests.proofs.Returning.{all_return}
+use Rattle.world_refines.proofs.requests.Lent.{holds_well}
 use Rattle.world_refines.specs.Answering.{AnswersSome, Completes, IsCutShort}
 use Rattle.world_refines.specs.Answering.AnswersSome.{BreaksOff, GoesOn, IsOver, WasOver}
 use Rattle.world_refines.proofs.requests.AnswersKeep.{stays}
@@ -59,12 +66,15 @@ use Rattle.world_refines.proofs.requests.Closing.{Closed, broken, keeps_stayed}
 use Rattle.world_refines.proofs.requests.FedSlot.{HeldTrue, IsNotOn, leaves_fed, left_down, reseats_fed, seat_on, seat_over}
 use Rattle.world_refines.proofs.state.Faithful.{Seats, seat_all}
 use Rattle.world_refines.proofs.requests.Fed.{FedSo, fed_stands, fed_wires}
-use Rattle.world_refines.proofs.requests.RequestDeliveries.{cut_piece, is_over, is_starved, same_count}
+use Rattle.world_refines.proofs.requests.RequestDeliveries.{IsCountedAlone, counted_alone, cut_piece, is_over, is_starved, same_count}
+use Rattle.world_refines.proofs.requests.FailedRequests.{counted_fails, fails_alone, lease_named}
+use Rattle.world_refines.proofs.replies.Offered.{is_asking}
 use Rattle.world_refines.proofs.requests.Folding.{Desked, IsReadAs, OneRequest, due_none, run_all, spells_none}
 use Rattle.world_refines.proofs.requests.Sent.{IsSent}
 use Rattle.world_refines.proofs.state.EndpointSlots.{reseats_same}
 use Rattle.world_refines.proofs.state.Sees.{Leaves}
-use Rattle.world_refines.proofs.state.Taking.{DecidesAt, done, leaves_core}
+use Rattle.world_refines.proofs.state.Failing.{Counting, along_then, plain_decides}
+use Rattle.world_refines.proofs.state.Taking.{DecidesAt, DecidesIn, done, leaves_core}
 use Rattle.world_refines.specs.Speaks.{WaitsQuietly}
 use Rattle.world_refines.proofs.state.Waiting.{waits_behind, waits_ended, way_or}
 use Rattle.client_replies.specs.declared.progress.Progress.TheVariants as stages
@@ -174,6 +184,48 @@ own_waits t w i p id session r =
     let s = r.stands.endpoints i p r.at in
     s.means.over (s.means.linked ∙ ap is_some r.link) ∙ ap not r.desked.served
 
+-- ---- a source that fails in it
+
+-- what the session holds behind it, or gave back
+abbrev IsLeft : Core → ℕ → RequestContext → Type 0
+IsLeft e n context = (session_in (session_slot_of e.slots n) ≡ Some context.session) ⊎ (e.registry ≡ daemon.table_let_go context)
+
+left_by : (e : Core) (n word : ℕ) (context : RequestContext) (lease : Lease DeviceState) → IsLeft e n context → HoldsWell context.registry context.session.held → held_by context.session.held word ≡ Some lease → HoldsLease e n word lease ⊎ IsIn (after_cancel lease.device) lease.place e.registry
+left_by e n word context lease (inl stands) well held = inl (record { session = context.session; stands = stands; held = held })
+left_by e n word context lease (inr back) well held =
+    inr (subst (IsIn (after_cancel lease.device) lease.place) (sym back) (all_return context.registry context.session.held word lease well held))
+
+failed_by : (t : Ghost) (w : WorldCore) (i : ℕ) (p : Endpoint) (id : SessionId) (session : DeskSession DeviceState) (e : Core) (context : RequestContext) (fault : FailureCounts) → Ready t w i p id session → IsLeft e id.number context → FailedAt session.held context.session.held 0 fault → HoldsWell context.registry context.session.held → FailedIn w e i (t.jobs i).device
+failed_by t w i p id session e context fault r left f well = record {
+  endpoint = p;
+  is_there = r.at;
+  id = id;
+  linked = r.link;
+  word = 0;
+  lease = f.lease;
+  held = record { session = session; stands = ap session_in r.seat_is ∙ r.going; held = f.stood };
+  named = lease_named i t.system.make t.users t.infos (t.jobs i) (core_context w.daemon session) t.system.device (t.system.job i) 0 f.lease r.desked.job_is r.desked.infos r.desked.shows f.stood;
+  after = f.after;
+  stopped = f.failed.stopped;
+  left = left_by e id.number 0 context (record f.lease { device = f.after }) left well f.stands;
+}
+
+fails_here : (t : Ghost) (w : WorldCore) (i : ℕ) (p : Endpoint) (id : SessionId) (session : DeskSession DeviceState) (e : Core) (context : RequestContext) (chances : List Chance) (asked later : List AbstractRequest) → Ready t w i p id session → length chances ≡ length asked → (t.system.job i).todo ≡ asked ++ later →
+    ((q : AbstractRequest) → (t.system.job i).todo ≡ q ∷ [] → IsCountedAlone (core_context w.daemon session) chances context) → IsLeft e id.number context → AllAlong (FailsIn t w e) t.system (answers i chances)
+fails_here t w i p id session e context chances asked later r count are counted left =
+    fails_alone (λ (j : ℕ). FailedIn w e j (t.jobs j).device) i t.system chances (λ under.
+    let a = is_asking i t.system r.next r.others r.desked.sound under r.desked.served r.todo in
+    let only : (t.system.job i).todo ≡ r.next ∷ [] = r.todo ∙ ap (λ (x : List AbstractRequest). r.next ∷ x) a.none in
+    counted_fails (FailedIn w e i (t.jobs i).device) (core_context w.daemon session) context chances asked later r.next count (sym only ∙ are) (λ fault f well. failed_by t w i p id session e context fault r left f well) (counted r.next only))
+
+-- and of a session that is over behind it
+fails_off : (t : Ghost) (w : WorldCore) (i : ℕ) (p : Endpoint) (id : SessionId) (session : DeskSession DeviceState) (e : Core) (context : RequestContext) (chances : List Chance) (steps : List Transition) (memory : Bool) (asked later : List AbstractRequest) → Ready t w i p id session → length chances ≡ length asked → (t.system.job i).todo ≡ asked ++ later →
+    ((q : AbstractRequest) → (t.system.job i).todo ≡ q ∷ [] → IsCountedAlone (core_context w.daemon session) chances context) → e.registry ≡ daemon.table_let_go context → ((memory ≡ false) × (steps ≡ answers i chances)) ⊎ (IsCutShort memory t.users t.infos (t.jobs i) × (steps ≡ answers i chances ++ broken i memory ∷ [])) → AllAlong (FailsIn t w e) t.system steps
+fails_off t w i p id session e context chances steps memory asked later r count are counted back (inl is) =
+    subst (AllAlong (FailsIn t w e) t.system) (sym is.1) (fails_here t w i p id session e context chances asked later r count are counted (inr back))
+fails_off t w i p id session e context chances steps memory asked later r count are counted back (inr is) =
+    subst (AllAlong (FailsIn t w e) t.system) (sym is.1) (along_then (FailsIn t w e) t.system (answers i chances) (broken i memory ∷ []) (fails_here t w i p id session e context chances asked later r count are counted (inr back)) (tt, tt))
+
 -- ---- the session goes on
 
 -- what the daemon's contract says of it
@@ -194,7 +246,7 @@ session_on e context i make n device s stands registry stream shows begun =
     }
 
 goes_on : (t : Ghost) (w : WorldCore) (i n : ℕ) (p : Endpoint) (id : SessionId) (session : DeskSession DeviceState) (e : Core) (context : RequestContext) (rest text : List ℕ) → Ready t w i p id session → GhostCan t i (events.ToDaemon n) → IsFedOn t w n i id session e context rest text →
-    GhostLeads (events.ToDaemon n) (AnswersSome n) t i (record { daemon = e; endpoints = slice_set w.endpoints i (world.without_sent n p) })
+    GhostLeads (events.ToDaemon n) (Counting (AnswersSome n) w e) t i (record { daemon = e; endpoints = slice_set w.endpoints i (world.without_sent n p) })
 goes_on t w i n p id session e context rest text r can f =
     let h = r.stands in
     let sits = h.endpoints i p r.at in
@@ -215,9 +267,13 @@ goes_on t w i n p id session e context rest text r can f =
     let there = ap (λ (ss : Seats). session_slot_of ss id.number) f.slots ∙ seat_on context rest text id.number w.daemon.slots r.slot r.seat_is in
     let session_there : session_in (session_slot_of e.slots id.number) ≡ Some context.session = ap session_in there in
     let shows = subst (λ (m : ℕ → Make). ContextRefines i m context s.device (session_by i s.device now)) stay.make ran.desked.shows in
-    done (events.ToDaemon n) (AnswersSome n) t i _ steps u can
-    (GoesOn c.first rest text (record { text = so.reads.text; whole = so.reads.whole; spelled = c.spelled; later = c.others; first = c.are }) g.wants
-    (record { chances = ran.chances; count = ran.count ∙ same_count (t.jobs i) me.client so.requests c.first c.of_first; steps_are = refl }) (record { legal = ran.legal; then_is = refl }) ran.desked.served)
+    let count : length ran.chances ≡ length c.first = ran.count ∙ same_count (t.jobs i) me.client so.requests c.first c.of_first in
+    let fails = fails_here t w i p id session e context ran.chances c.first c.others r count c.are (λ q only. counted_alone (core_context w.daemon session) context ran.chances (holds_well i s.make context.session.held context.registry s.device ran.desked.shows.devices) ran.counted) (inl session_there) in
+    done (events.ToDaemon n) (Counting (AnswersSome n) w e) t i _ steps u can (
+      GoesOn c.first rest text (record { text = so.reads.text; whole = so.reads.whole; spelled = c.spelled; later = c.others; first = c.are }) g.wants
+          (record { chances = ran.chances; count = count; steps_are = refl }) (record { legal = ran.legal; then_is = refl }) ran.desked.served,
+      fails,
+    )
     (fed_stands t w i p (world.without_sent n p) id e steps up rest down out h r.at r.low r.link (record {
       legal = ran.legal;
       keeps = keeps_stayed i t.system s stay;
@@ -333,7 +389,7 @@ assoc_down : (a b c : List ℕ) → (a ++ b) ++ c ≡ [] → a ++ (b ++ c) ≡ [
 assoc_down a b c e = sym (append_assoc a b c) ∙ e
 
 goes_off : (t : Ghost) (w : WorldCore) (i n : ℕ) (p : Endpoint) (id : SessionId) (session : DeskSession DeviceState) (e : Core) (context : RequestContext) (rest text : List ℕ) → Ready t w i p id session → GhostCan t i (events.ToDaemon n) → IsFedOff t w id e Over context rest text →
-    daemon.FeedsOver (record { users = t.users; context = core_context w.daemon session; before = (t.wires i).asking; piece = delivered_bytes n (t.wires i).up }) context text → GhostLeads (events.ToDaemon n) (AnswersSome n) t i (record { daemon = e; endpoints = slice_set w.endpoints i (after_fed Over (world.without_sent n p)) })
+    daemon.FeedsOver (record { users = t.users; context = core_context w.daemon session; before = (t.wires i).asking; piece = delivered_bytes n (t.wires i).up }) context text → GhostLeads (events.ToDaemon n) (Counting (AnswersSome n) w e) t i (record { daemon = e; endpoints = slice_set w.endpoints i (after_fed Over (world.without_sent n p)) })
 goes_off t w i n p id session e context rest text r can f g =
     let x = t.wires i in
     let o = is_over t i (core_context w.daemon session) context x.asking x.up n text r.one r.desked r.may r.spells g in
@@ -346,7 +402,8 @@ goes_off t w i n p id session e context rest text r can f g =
     let silent : IsUnderWay (t.system.job i).client.stage → x.telling ++ down ≡ [] =
     λ under. assoc_down x.telling x.down text (o.silent under (map (λ (y : JoinHistory). y.ended) (t.pages i)) (protocol_of p.client (t.history i)) r.reads (r.stands.endpoints i p r.at).waits (x.telling ++ x.down) (due_is t w i p id session r under)) in
     let completes : Completes t i n a.asked a.rest = record { text = a.text; whole = a.whole; spelled = a.spelled; later = a.later; first = a.are } in
-    done (events.ToDaemon n) (AnswersSome n) t i _ a.steps u can (by_steps t i n a.asked a.rest a.steps a.chances text completes a.count a.closed.legal r.desked.served a.closed.served a.steps_are)
+    let fails = fails_off t w i p id session e context a.chances a.steps false a.asked a.later r a.count a.are a.counted f.registry a.steps_are in
+    done (events.ToDaemon n) (Counting (AnswersSome n) w e) t i _ a.steps u can (by_steps t i n a.asked a.rest a.steps a.chances text completes a.count a.closed.legal r.desked.served a.closed.served a.steps_are, fails)
     (fed_stands t w i p q id e a.steps up [] down (bytes_not_delivered n p.client.out) r.stands r.at r.low r.link (off_so t w i n p q id session e Over context rest text down a.steps false r f endpoint a.closed refl silent))
   where
     by_steps : (t : Ghost) (i n : ℕ) (request_awaited : List AbstractRequest) (rest : List ℕ) (steps : List Transition) (chances : List Chance) (text : List ℕ) → Completes t i n request_awaited rest → length chances ≡ length request_awaited → IsHistory t.system steps → (t.system.job i).served ≡ true → ((after_all t.system steps).job i).served ≡ false →
@@ -355,7 +412,7 @@ goes_off t w i n p id session e context rest text r can f g =
     by_steps t i n request_awaited rest steps chances text completes count legal on off (inr is) = BreaksOff false request_awaited rest text (answers i chances) completes (record { chances = chances; count = count; steps_are = refl }) is.0 is.1 (record { legal = legal; then_is = refl })
 
 goes_without : (t : Ghost) (w : WorldCore) (i n : ℕ) (p : Endpoint) (id : SessionId) (session : DeskSession DeviceState) (e : Core) (context : RequestContext) (rest text : List ℕ) → Ready t w i p id session → GhostCan t i (events.ToDaemon n) → IsFedOff t w id e Starved context rest text →
-    daemon.FeedOutOfMemory (record { users = t.users; context = core_context w.daemon session; before = (t.wires i).asking; piece = delivered_bytes n (t.wires i).up }) context → GhostLeads (events.ToDaemon n) (AnswersSome n) t i (record { daemon = e; endpoints = slice_set w.endpoints i (after_fed Starved (world.without_sent n p)) })
+    daemon.FeedOutOfMemory (record { users = t.users; context = core_context w.daemon session; before = (t.wires i).asking; piece = delivered_bytes n (t.wires i).up }) context → GhostLeads (events.ToDaemon n) (Counting (AnswersSome n) w e) t i (record { daemon = e; endpoints = slice_set w.endpoints i (after_fed Starved (world.without_sent n p)) })
 goes_without t w i n p id session e context rest text r can f g =
     let x = t.wires i in
     let a = is_starved t i (core_context w.daemon session) context x.asking x.up n r.one r.desked r.may r.spells g in
@@ -365,7 +422,8 @@ goes_without t w i n p id session e context rest text r can f g =
     let u = wired_then t i a.steps (fed_wires up [] [] x) in
     let silent : IsUnderWay (t.system.job i).client.stage → x.telling ++ [] ≡ [] = λ under. append-nil x.telling ∙ front_none x.telling x.down (nothing_waits t w i p id session r under) in
     let completes : Completes t i n a.asked a.rest = record { text = a.text; whole = a.whole; spelled = a.spelled; later = a.later; first = a.are } in
-    done (events.ToDaemon n) (AnswersSome n) t i _ a.steps u can (by_steps t i n a.asked a.rest a.steps a.chances completes a.count a.closed.legal a.steps_are)
+    let fails = fails_off t w i p id session e context a.chances a.steps true a.asked a.later r a.count a.are a.counted f.registry a.steps_are in
+    done (events.ToDaemon n) (Counting (AnswersSome n) w e) t i _ a.steps u can (by_steps t i n a.asked a.rest a.steps a.chances completes a.count a.closed.legal a.steps_are, fails)
     (fed_stands t w i p q id e a.steps up [] [] (bytes_not_delivered n p.client.out) r.stands r.at r.low r.link (off_so t w i n p q id session e Starved context rest text [] a.steps true r f endpoint a.closed refl silent))
   where
     by_steps : (t : Ghost) (i n : ℕ) (request_awaited : List AbstractRequest) (rest : List ℕ) (steps : List Transition) (chances : List Chance) → Completes t i n request_awaited rest → length chances ≡ length request_awaited → IsHistory t.system steps →
@@ -391,9 +449,9 @@ held_of slot session is h = subst IsFaithfulSession is h
 -- ---- it was over before
 
 was_over : (t : Ghost) (w : WorldCore) (i n : ℕ) (p : Endpoint) (id : SessionId) (e : Core) → WorldRefines t w → slice_get w.endpoints i ≡ Some p → i < t.count → p.link ≡ Some id → GhostCan t i (events.ToDaemon n) → (t.system.job i).served ≡ false → e ≡ w.daemon →
-    GhostLeads (events.ToDaemon n) (AnswersSome n) t i (record { daemon = e; endpoints = slice_set w.endpoints i (after_fed Over (world.without_sent n p)) })
+    GhostLeads (events.ToDaemon n) (Counting (AnswersSome n) w e) t i (record { daemon = e; endpoints = slice_set w.endpoints i (after_fed Over (world.without_sent n p)) })
 was_over t w i n p id e h at low link can off same =
-    subst (λ (d : Core). GhostLeads (events.ToDaemon n) (AnswersSome n) t i (record { daemon = d; endpoints = slice_set w.endpoints i (after_fed Over (world.without_sent n p)) })) (sym same)
+    subst (λ (d : Core). GhostLeads (events.ToDaemon n) (Counting (AnswersSome n) w d) t i (record { daemon = d; endpoints = slice_set w.endpoints i (after_fed Over (world.without_sent n p)) })) (sym same)
     (let s = h.endpoints i p at in
     let me = t.system.job i in
     let x = t.wires i in
@@ -401,8 +459,8 @@ was_over t w i n p id e h at low link can off same =
     let up = bytes_not_delivered n x.up in
     let served = subst (λ (o : Option SessionId). IsServed i t.system.make w.daemon o me.served t.system.device (session_by i t.system.device me)) link s.served in
     let linked : me.linked ≡ true = s.means.linked ∙ ap is_some link in
-    done (events.ToDaemon n) (AnswersSome n) t i _ [] (wired_then t i [] (fed_wires up x.asking x.down x)) can
-    (WasOver off refl (record { legal = tt; then_is = refl }))
+    done (events.ToDaemon n) (Counting (AnswersSome n) w w.daemon) t i _ [] (wired_then t i [] (fed_wires up x.asking x.down x)) can
+    (WasOver off refl (record { legal = tt; then_is = refl }), tt)
     (fed_stands t w i p q id w.daemon [] up x.asking x.down (bytes_not_delivered n p.client.out) h at low link (record {
       legal = tt;
       keeps = record { make = refl; places = refl; others = λ j nay. refl; client = refl; linked = refl; image = refl; job = refl; flight = refl; ending = refl };
@@ -483,13 +541,13 @@ ready t w i n p id h at low link one can on =
     )
 
 by_fed : (t : Ghost) (w : WorldCore) (i n : ℕ) (p : Endpoint) (id : SessionId) (session : DeskSession DeviceState) (fed : Fed) (e : Core) → Ready t w i p id session → GhostCan t i (events.ToDaemon n) → e ≡ record w.daemon { slots = e.slots; registry = e.registry; stream = e.stream } →
-    FeedsIn session t.users id.number (t.wires i).asking w.daemon.slots w.daemon.registry w.daemon.stream (delivered_bytes n (t.wires i).up) fed e.slots e.registry e.stream → GhostLeads (events.ToDaemon n) (AnswersSome n) t i (record { daemon = e; endpoints = slice_set w.endpoints i (after_fed fed (world.without_sent n p)) })
+    FeedsIn session t.users id.number (t.wires i).asking w.daemon.slots w.daemon.registry w.daemon.stream (delivered_bytes n (t.wires i).up) fed e.slots e.registry e.stream → GhostLeads (events.ToDaemon n) (Counting (AnswersSome n) w e) t i (record { daemon = e; endpoints = slice_set w.endpoints i (after_fed fed (world.without_sent n p)) })
 by_fed t w i n p id session Standing e r can others g = goes_on t w i n p id session e g.context g.rest g.text r can (record { others = others; slots = g.slots_is; registry = g.registry_is; stream = g.stream_is; feeds = g.feeds })
 by_fed t w i n p id session Over e r can others g = goes_off t w i n p id session e g.context g.rest g.text r can (record { off = tt; others = others; slots = g.slots_is; registry = g.registry_is }) g.feeds
 by_fed t w i n p id session Starved e r can others g = goes_without t w i n p id session e g.context g.rest g.text r can (record { off = tt; others = others; slots = g.slots_is; registry = g.registry_is }) g.feeds
 
 pub piece_leads : (t : Ghost) (w : WorldCore) (i n : ℕ) (p : Endpoint) (id : SessionId) (fed : Fed) (e : Core) (served : Bool) → (t.system.job i).served ≡ served → WorldRefines t w → slice_get w.endpoints i ≡ Some p → i < t.count → p.link ≡ Some id → OneRequest t i → GhostCan t i (events.ToDaemon n) → Feeds id.number w.daemon (delivered_bytes n p.client.out) fed e →
-    GhostLeads (events.ToDaemon n) (AnswersSome n) t i (record { daemon = e; endpoints = slice_set w.endpoints i (after_fed fed (world.without_sent n p)) })
+    GhostLeads (events.ToDaemon n) (Counting (AnswersSome n) w e) t i (record { daemon = e; endpoints = slice_set w.endpoints i (after_fed fed (world.without_sent n p)) })
 piece_leads t w i n p id fed e true on h at low link one can g =
     let r = ready t w i n p id h at low link one can on in
     let s = h.endpoints i p at in
@@ -505,7 +563,7 @@ piece_leads t w i n p id fed e false off h at low link one can g =
     let served = subst (λ (o : Option SessionId). IsServed i t.system.make w.daemon o (t.system.job i).served t.system.device (session_by i t.system.device (t.system.job i))) link s.served in
     let none : session_in (session_slot_of w.daemon.slots id.number) ≡ None = (subst (λ (b : Bool). IsServed i t.system.make w.daemon (Some id) b t.system.device (session_by i t.system.device (t.system.job i))) off served).0 in
     let still = g.idle none in
-    subst (λ (x : Fed). GhostLeads (events.ToDaemon n) (AnswersSome n) t i (record { daemon = e; endpoints = slice_set w.endpoints i (after_fed x (world.without_sent n p)) })) (sym still.0) (was_over t w i n p id e h at low link can off still.1)
+    subst (λ (x : Fed). GhostLeads (events.ToDaemon n) (Counting (AnswersSome n) w e) t i (record { daemon = e; endpoints = slice_set w.endpoints i (after_fed x (world.without_sent n p)) })) (sym still.0) (was_over t w i n p id e h at low link can off still.1)
 
 -- ---- when it can be
 
@@ -536,14 +594,14 @@ linked_by None e = absurd (let clash : false ≡ true = e in cc)
 linked_by (Some id) e = refl
 
 by_link : (t : Ghost) (w : WorldCore) (i n : ℕ) (p : Endpoint) (link : Option SessionId) → WorldRefines t w → slice_get w.endpoints i ≡ Some p → i < t.count → OneRequest t i → p.link ≡ link → GhostCan t i (events.ToDaemon n) → (e : Core) (q : Endpoint) → world.IfLinked p.link (λ k. world.FeedsPiece k n w.daemon p e q) →
-    GhostLeads (events.ToDaemon n) (AnswersSome n) t i (record { daemon = e; endpoints = slice_set w.endpoints i q })
+    GhostLeads (events.ToDaemon n) (Counting (AnswersSome n) w e) t i (record { daemon = e; endpoints = slice_set w.endpoints i q })
 by_link t w i n p None h at low one link can e q d = absurd (subst (λ (x : Option SessionId). world.IfLinked x (λ k. world.FeedsPiece k n w.daemon p e q)) link d)
 by_link t w i n p (Some id) h at low one link can e q d =
     let f : world.FeedsPiece id.number n w.daemon p e q = subst (λ (x : Option SessionId). world.IfLinked x (λ k. world.FeedsPiece k n w.daemon p e q)) link d in
-    subst (λ (x : Endpoint). GhostLeads (events.ToDaemon n) (AnswersSome n) t i (record { daemon = e; endpoints = slice_set w.endpoints i x })) (sym f.2) (piece_leads t w i n p id f.0 e (t.system.job i).served refl h at low link one can f.1)
+    subst (λ (x : Endpoint). GhostLeads (events.ToDaemon n) (Counting (AnswersSome n) w e) t i (record { daemon = e; endpoints = slice_set w.endpoints i x })) (sym f.2) (piece_leads t w i n p id f.0 e (t.system.job i).served refl h at low link one can f.1)
 
-pub delivery_decides : ((t : Ghost) (w : WorldCore) (i : ℕ) → WorldRefines t w → i < t.count → OneRequest t i) → (n : ℕ) → DecidesAt (events.ToDaemon n) (AnswersSome n)
-delivery_decides all n t w i p h at low =
+pub delivery_counts : ((t : Ghost) (w : WorldCore) (i : ℕ) → WorldRefines t w → i < t.count → OneRequest t i) → (n : ℕ) → DecidesIn (events.ToDaemon n) (Counting (AnswersSome n))
+delivery_counts all n t w i p h at low =
     let s = h.endpoints i p at in
     record {
       can = λ can. (some_link p.link (sym s.means.linked ∙ can.0), (λ e. can.1 (sym s.carries.up ∙ e)), can.2);
@@ -551,3 +609,6 @@ delivery_decides all n t w i p h at low =
       either = or_all (IsSome p.link) (p.client.out ≢ []) (0 < n) (or_link p.link) (or_empty p.client.out) (or_zero n);
       does = λ can e q d. by_link t w i n p p.link h at low (all t w i h low) refl (s.means.linked ∙ linked_by p.link can.0, (λ e. can.1 (s.carries.up ∙ e)), can.2) e q d;
     }
+
+pub delivery_decides : ((t : Ghost) (w : WorldCore) (i : ℕ) → WorldRefines t w → i < t.count → OneRequest t i) → (n : ℕ) → DecidesAt (events.ToDaemon n) (AnswersSome n)
+delivery_decides all n = plain_decides (events.ToDaemon n) (AnswersSome n) (delivery_counts all n)

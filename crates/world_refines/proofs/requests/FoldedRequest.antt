@@ -113,6 +113,7 @@ one_by t i s d new q r rest said challenge fault h e is g a more =
       challenge = challenge;
       fault = fault;
       may = a.may;
+      counted = a.counted;
       on = λ on. record {
         shows = subst (λ (x : ℕ → AbstractDevice). ContextRefines i s.make new x (session_by i x (next.job i))) (sym device) (subst (λ (x : JobState). ContextRefines i s.make new (devices_by s.device p v) (session_by i (devices_by s.device p v) x)) (sym job_state) (a.behind.shows (a.behind.same_end ∙ on)));
         begun = a.begun;

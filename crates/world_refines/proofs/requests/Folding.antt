@@ -26,6 +26,7 @@ use Rattle.option_desc.specs.declared.descriptor.Descriptor.{Descriptor}
 use Rattle.client_refines.specs.ClientRefinement.{ClientRefines}
 use Rattle.client_refines.specs.RequestRefinement.{AreRequests, IsRequest, asks_of}
 use Rattle.daemon_refines.specs.ContextRefinement.{ContextRefines}
+use Rattle.daemon_refines.specs.Failures.{IsCounted}
 use Rattle.daemon_refines.specs.Feeds.{IsSessionBegun}
 use Rattle.daemon_refines.specs.OtherSessions.{LeavesOthers}
 use Rattle.daemon_refines.proofs.Moved.{put_there}
@@ -71,6 +72,7 @@ pub record AnswersOne (t : Ghost) (i : ℕ) (s : SystemState) (d : RequestContex
   pub challenge : Challenge
   pub fault : Option FailureCounts
   pub may : MayFail (make_for s i) fault
+  pub counted : IsCounted d.session.held new.session.held 0 fault
   pub on : session_goes_on said ≡ true → Desked t i (after_transition s (answers_to i challenge fault)) new
   pub others : session_goes_on said ≡ true → LeavesOthers i d.registry new.registry s.device (after_transition s (answers_to i challenge fault)).device
   pub some_due : session_goes_on said ≡ true → ((after_transition s (answers_to i challenge fault)).job i).due ≢ []
@@ -132,10 +134,16 @@ legal_answer t i s d challenge fault r rest h e may = (h.served, λ none. absurd
 
 -- ---- all of them
 
+-- each source that fails in an answer has counted that between the request contexts in front of it and behind it
+abbrev pub AreCounted : RequestContext → List Chance → RequestContext → Type 0
+AreCounted d [] new = new ≡ d
+AreCounted d (chance ∷ chances) new = (mid : RequestContext) × IsCounted d.session.held mid.session.held 0 chance.1 × AreCounted mid chances new
+
 pub record Ran (t : Ghost) (i : ℕ) (s : SystemState) (d : RequestContext) (qs : List Asked) (later : List AbstractRequest) (told : List Reply) (new : RequestContext) : Type 0 where
   pub chances : List Chance
   pub count : length chances ≡ length qs
   pub legal : IsHistory s (answers i chances)
+  pub counted : AreCounted d chances new
   pub desked : Desked t i (after_all s (answers i chances)) new
   pub others : LeavesOthers i d.registry new.registry s.device (after_all s (answers i chances)).device
   pub todo : ((after_all s (answers i chances)).job i).todo ≡ later
@@ -148,6 +156,7 @@ ran_none t i s d new later told h e g =
       chances = [];
       count = refl;
       legal = tt;
+      counted = g.1;
       desked = subst (Desked t i s) (sym g.1) h;
       others = subst (λ (x : RequestContext). LeavesOthers i d.registry x.registry s.device s.device) (sym g.1) (leaves_all i d.registry s.device);
       todo = e;
@@ -172,6 +181,7 @@ ran_more t i s d mid new q qs r rest later said more h e on one ran =
       chances = chance ∷ ran.chances;
       count = ap suc ran.count;
       legal = (legal_answer t i s d one.challenge one.fault r rest h e one.may, ran.legal);
+      counted = (mid, one.counted, ran.counted);
       desked = ran.desked;
       others = leaves_then i d.registry mid.registry new.registry s.device next.device (after_all next (answers i ran.chances)).device (one.others on) ran.others;
       todo = ran.todo;

@@ -34,6 +34,7 @@ use Rattle.system_model.specs.AbstractSessions.{least_free_word as free_of, one_
 use Rattle.system_model.specs.Transitions.{MayFail}
 use Rattle.client_refines.specs.RequestRefinement.{IsRequest}
 use Rattle.daemon_refines.specs.Agreeing.{manner}
+use Rattle.daemon_refines.specs.Failures.{IsCounted}
 use Rattle.daemon_refines.specs.Feeds.{IsSessionBegun}
 use Rattle.daemon_refines.specs.ContextRefinement.{IsAwaited, NamesPlace, ContextRefines}
 use Rattle.daemon_refines.specs.Spelling.{Manner, SpellsSaid}
@@ -61,6 +62,7 @@ IsSaid m q told said = (SpellsSaid m q told said × IsPlain told) ⊎ Demands to
 pub record IsAnswered (i : ℕ) (make : ℕ → Make) (listed : List ℕ) (name : List ℕ) (device : ℕ → AbstractDevice) (p : JobState) (d : RequestContext) (q : Asked) (r : AbstractRequest) (said : RequestAnswer) (new : RequestContext) (challenge : Challenge) (fault : Option FailureCounts) : Type 0 where
   pub may : MayFail (make p.session.job.wants) fault
   pub behind : Behind i make device p d said new (serving i make listed device p r challenge fault)
+  pub counted : IsCounted d.session.held new.session.held 0 fault
   pub begun : IsSessionBegun new
   pub speaks : session_goes_on said ≡ true → SpeaksAs name (job_after_answer p (serving i make listed device p r challenge fault)) new.session
   pub says : ((n : ℕ) (value : Value) → r ≡ Set n value → is_resting (device p.session.job.wants).phase ≡ true) → IsSaid (manner d 0) q (serving i make listed device p r challenge fault).told said
@@ -85,6 +87,7 @@ plain_answered i make listed name device p d q r said new challenge fault a plai
     record {
       may = a.may;
       behind = a.behind;
+      counted = a.counted;
       begun = inl a.greeted;
       speaks = λ on.
           let shows = a.behind.shows (a.behind.same_end ∙ on) in
@@ -161,6 +164,7 @@ asked_answered i make users listed name device p d q said new challenge fault a 
       record {
         may = a.may;
         behind = asked_behind i make device p d said new challenge resource (serving i make listed device p Open challenge fault) (serving i make listed device p Open resource fault) v_is u_is a.behind;
+        counted = a.counted;
         begun = inl a.greeted;
         speaks = λ on. record {
           greeted = subst (λ (b : Bool). IsGreeted b (job_after_answer p (serving i make listed device p Open resource fault)).todo) (sym a.greeted) tt;

@@ -26,18 +26,23 @@ use Rattle.system_model.specs.Devices.{Make}
 use Rattle.system_model.specs.Client.{ClientView}
 use Rattle.system_model.specs.Deliveries.{Chance, answers}
 use Rattle.system_model.specs.SystemStates.{SystemState as Rules}
-use Rattle.system_model.specs.Transitions.{IsUnderWay, MayBreak, Transition, after_all}
+use Rattle.system_model.specs.Transitions.{IsUnderWay, MayBreak, Transition, after_all, after_transition}
 use Rattle.client_refines.specs.RequestRefinement.{AreRequests, IsRequest, asks_of}
 use Rattle.daemon_refines.specs.ContextRefinement.{ContextRefines, PlaceRefines, SlotRefines}
+use Rattle.daemon_refines.specs.Failures.{IsCounted}
 use Rattle.daemon_refines.proofs.FeedRefines.{Back, back_same, faltered}
-use Rattle.daemon_refines.proofs.Greeted.{answers_end, same_words}
+use Rattle.daemon_refines.proofs.Greeted.{SameWords, answers_end, same_words}
+use Rattle.daemon_refines.proofs.Changes.{Held}
+use Rattle.dispatch.specs.Table.{Table}
+use Rattle.saned_requests.specs.LeaseLaws.{HoldsWell}
+use Rattle.world_refines.proofs.requests.Lent.{holds_well}
 use Rattle.scan_world.specs.JobEvents.{bytes_not_delivered, delivered_bytes}
 use Rattle.world_refines.specs.GhostStates.{Ghost, place_of_info}
 use Rattle.world_refines.specs.Wires.{SpellsAsked, SpellsReplies}
 use Rattle.world_refines.proofs.requests.Closing.{Closed, answers_then, breaks, breaks_behind_one, broken, closed_behind, ends_by_request}
 use Rattle.world_refines.proofs.requests.Cut.{asked_first, cut_at, not_garbled, taken_next}
 use Rattle.world_refines.specs.WorldRefinement.{session_by}
-use Rattle.world_refines.proofs.requests.Folding.{AnswersOne, Desked, IsReadAs, OneRequest, Ran, due_none, run_all, spells_none}
+use Rattle.world_refines.proofs.requests.Folding.{AnswersOne, AreCounted, Desked, IsReadAs, OneRequest, Ran, answers_to, due_none, run_all, spells_none}
 use Rattle.world_refines.proofs.requests.AnswersKeep.{stays}
 use Rattle.world_refines.proofs.requests.Spelling.{spell_behind}
 use Rattle.world_refines.specs.Speaks.{WaitsQuietly}
@@ -100,6 +105,31 @@ same_count job m (q ∷ qs) (r ∷ first) a = ap suc (same_count job m qs first 
 
 -- ---- the session is over in it
 
+-- a source that fails in the only answer has counted that, and what is held behind it are leases of the table
+abbrev pub IsCountedAlone : RequestContext → List Chance → RequestContext → Type 0
+IsCountedAlone d [] new = Unit {0}
+IsCountedAlone d (chance ∷ []) new = IsCounted d.session.held new.session.held 0 chance.1 × HoldsWell new.registry new.session.held
+IsCountedAlone d (chance ∷ other ∷ chances) new = Unit {0}
+
+pub counted_alone : (d new : RequestContext) (chances : List Chance) → HoldsWell new.registry new.session.held → AreCounted d chances new → IsCountedAlone d chances new
+counted_alone d new [] well c = tt
+counted_alone d new (chance ∷ []) well (mid, counted, is) = (subst (λ (x : RequestContext). IsCounted d.session.held x.session.held 0 chance.1) (sym is) counted, well)
+counted_alone d new (chance ∷ other ∷ chances) well c = tt
+
+-- behind others it is not the only one
+counted_behind : (d mid new : RequestContext) (chances : List Chance) (chance : Chance) → AreCounted d chances mid → IsCounted mid.session.held new.session.held 0 chance.1 → HoldsWell new.registry new.session.held → IsCountedAlone d (chances ++ chance ∷ []) new
+counted_behind d mid new [] chance is counted well = (subst (λ (x : RequestContext). IsCounted x.session.held new.session.held 0 chance.1) is counted, well)
+counted_behind d mid new (first ∷ []) chance c counted well = tt
+counted_behind d mid new (first ∷ other ∷ chances) chance c counted well = tt
+
+-- where another request was to come none was answered
+none_counted : (d new : RequestContext) (todo first later : List AbstractRequest) (next r : AbstractRequest) (chances : List Chance) → todo ≡ first ++ next ∷ later → todo ≡ r ∷ [] → length chances ≡ length first → IsCountedAlone d chances new
+none_counted d new todo first later next r [] are only count = tt
+none_counted d new todo first later next r (chance ∷ []) are only count =
+    let all : 1 ≡ length (first ++ next ∷ later) = ap length (sym only ∙ are) in
+    let both = length-append first (next ∷ later) in absurd (omega (arith, all, both, count))
+none_counted d new todo first later next r (chance ∷ other ∷ chances) are only count = tt
+
 -- the requests that were answered, what is left behind them, and what became of the session
 pub record Parts (t : Ghost) (i : ℕ) (d : RequestContext) (todo : List AbstractRequest) (came : List ℕ) (memory : Bool) (new : RequestContext) : Type 0 where
   pub asked : List AbstractRequest
@@ -112,6 +142,7 @@ pub record Parts (t : Ghost) (i : ℕ) (d : RequestContext) (todo : List Abstrac
   pub chances : List Chance
   pub count : length chances ≡ length asked
   pub steps : List Transition
+  pub counted : (r : AbstractRequest) → todo ≡ r ∷ [] → IsCountedAlone d chances new
   pub steps_are : ((memory ≡ false) × (steps ≡ answers i chances)) ⊎ (IsCutShort memory t.users t.infos (t.jobs i) × (steps ≡ answers i chances ++ broken i memory ∷ []))
   pub closed : Closed t i t.system d steps memory new
 
@@ -143,6 +174,13 @@ record OneMore (t : Ghost) (i : ℕ) (d mid : RequestContext) (todo : List Abstr
   ran : Ran t i t.system d qs (next ∷ later) told mid
   count : length ran.chances ≡ length first
 
+-- what is held by a request context that is shown
+well_of : (t : Ghost) (i : ℕ) (s : Rules) (d : RequestContext) → Desked t i s d → HoldsWell d.registry d.session.held
+well_of t i s d h = holds_well i s.make d.session.held d.registry s.device h.shows.devices
+
+same_well : (mid new : RequestContext) → SameWords mid new → HoldsWell mid.registry mid.session.held → HoldsWell new.registry new.session.held
+same_well mid new same h = subst (λ (t : Table). HoldsWell t new.session.held) (sym same.registry) (subst (λ (x : Held). HoldsWell mid.registry x) (sym same.held) h)
+
 -- behind it the session is over
 by_request : (t : Ghost) (i : ℕ) (d mid new : RequestContext) (todo : List AbstractRequest) (came : List ℕ) (q : Asked) (said : RequestAnswer) → OneRequest t i → (o : OneMore t i d mid todo came q) → Answers t.users mid q said new → daemon.session_goes_on said ≡ false → Parts t i d todo came false new
 by_request t i d mid new todo came q said one o g off =
@@ -163,6 +201,7 @@ by_request t i d mid new todo came q said one o g off =
       chances = r.chances ++ chance ∷ [];
       count = more_count r.chances o.first chance o.next o.count;
       steps = answers i (r.chances ++ chance ∷ []);
+      counted = λ only todo_is. counted_behind d mid new r.chances chance r.counted a.counted (same_well mid new (answers_end t.users mid q said new g off) (well_of t i far mid r.desked));
       steps_are = inl (refl, refl);
       closed = subst (λ (xs : List Transition). Closed t i t.system d xs false new) (sym (answers_then i r.chances (chance ∷ []))) c;
     }
@@ -190,6 +229,7 @@ by_break t i d mid new todo came q said memory one may o g on cut =
       chances = r.chances ++ chance ∷ [];
       count = more_count r.chances o.first chance o.next o.count;
       steps = answers i (r.chances ++ chance ∷ []) ++ broken i memory ∷ [];
+      counted = λ only todo_is. counted_behind d mid new r.chances chance r.counted a.counted (well_of t i (after_transition far (answers_to i a.challenge a.fault)) new (a.on on));
       steps_are = inr (cut, refl);
       closed = subst (λ (xs : List Transition). Closed t i t.system d xs memory new) is c;
     }
@@ -330,8 +370,8 @@ is_over t i d new asking up n text one h may spells g =
 -- ---- it runs out of memory
 
 at_once : (t : Ghost) (i : ℕ) (d mid new : RequestContext) (todo : List AbstractRequest) (came rest behind : List ℕ) (told : List Reply) → MayBreak (t.system.job i).client.stage → (f : SoFar t i d mid todo came rest behind told) →
-    Back i (after_all t.system (answers i f.ran.chances)).make mid (after_all t.system (answers i f.ran.chances)).device new → Parts t i d todo came true new
-at_once t i d mid new todo came rest behind told may f back =
+    ((r : AbstractRequest) → todo ≡ r ∷ [] → IsCountedAlone d f.ran.chances new) → Back i (after_all t.system (answers i f.ran.chances)).make mid (after_all t.system (answers i f.ran.chances)).device new → Parts t i d todo came true new
+at_once t i d mid new todo came rest behind told may f counted back =
     let r = f.ran in
     let far = after_all t.system (answers i r.chances) in
     let still : MayBreak (far.job i).client.stage = may_far t i d mid f.qs f.others told r may in
@@ -346,25 +386,33 @@ at_once t i d mid new todo came rest behind told may f back =
       chances = r.chances;
       count = r.count ∙ f.lengths;
       steps = answers i r.chances ++ broken i true ∷ [];
+      counted = counted;
       steps_are = inr (tt, refl);
       closed = closed_behind t i t.system d mid new r.chances (broken i true ∷ []) true r.legal r.others (breaks t i far mid new true r.desked still (λ nay. absurd (let clash : true ≡ false = nay in cc)) back);
     }
 
+-- another request is whole behind them
+none_so_far : (t : Ghost) (i : ℕ) (d mid new : RequestContext) (todo : List AbstractRequest) (came rest behind left_over : List ℕ) (told : List Reply) (q : Asked) → (f : SoFar t i d mid todo came rest behind told) → SpellsFront (limited_format message_limit request_format) rest left_over q →
+    (r : AbstractRequest) → todo ≡ r ∷ [] → IsCountedAlone d f.ran.chances new
+none_so_far t i d mid new todo came rest behind left_over told q f k r only =
+    let n = cut_next (t.jobs i) (t.system.job i).client f.others rest behind left_over q f.still k in
+    none_counted d new todo f.first n.later n.next r f.ran.chances (f.are ∙ ap (λ (x : List AbstractRequest). f.first ++ x) n.are) only (f.ran.count ∙ f.lengths)
+
 starved_by : (t : Ghost) (i : ℕ) (d mid new : RequestContext) (todo : List AbstractRequest) (came rest behind left_over : List ℕ) (told : List Reply) (q : Asked) → OneRequest t i → MayBreak (t.system.job i).client.stage → (f : SoFar t i d mid todo came rest behind told) → SpellsFront (limited_format message_limit request_format) rest left_over q →
     Back i (after_all t.system (answers i f.ran.chances)).make mid (after_all t.system (answers i f.ran.chances)).device new ⊎ ((said : RequestAnswer) × Answers t.users mid q said new) → Parts t i d todo came true new
-starved_by t i d mid new todo came rest behind left_over told q one may f k (inl back) = at_once t i d mid new todo came rest behind told may f back
+starved_by t i d mid new todo came rest behind left_over told q one may f k (inl back) = at_once t i d mid new todo came rest behind told may f (none_so_far t i d mid new todo came rest behind left_over told q f k) back
 starved_by t i d mid new todo came rest behind left_over told q one may f k (inr g) = by_end (daemon.session_goes_on g.0) refl
   where
     by_end : (b : Bool) → daemon.session_goes_on g.0 ≡ b → Parts t i d todo came true new
     by_end true e = by_break t i d mid new todo came q g.0 true one may (one_more t i d mid todo came rest behind left_over told q f k) g.1 e tt
     by_end false e =
         let far = after_all t.system (answers i f.ran.chances) in
-        at_once t i d mid new todo came rest behind told may f (back_same i far.make mid far.device (session_by i far.device (far.job i)) new f.ran.desked.shows (answers_end t.users mid q g.0 new g.1 e))
+        at_once t i d mid new todo came rest behind told may f (none_so_far t i d mid new todo came rest behind left_over told q f k) (back_same i far.make mid far.device (session_by i far.device (far.job i)) new f.ran.desked.shows (answers_end t.users mid q g.0 new g.1 e))
 
 starved_so : (t : Ghost) (i : ℕ) (d mid new : RequestContext) (todo : List AbstractRequest) (came rest behind : List ℕ) (told : List Reply) → OneRequest t i → MayBreak (t.system.job i).client.stage → SoFar t i d mid todo came rest behind told → (new ≡ mid) ⊎ daemon.OutOfMemoryNext t.users mid rest new → Parts t i d todo came true new
 starved_so t i d mid new todo came rest behind told one may f (inl is) =
     let far = after_all t.system (answers i f.ran.chances) in
-    at_once t i d mid new todo came rest behind told may f (back_same i far.make mid far.device (session_by i far.device (far.job i)) new f.ran.desked.shows (same_words mid mid new is refl refl))
+    at_once t i d mid new todo came rest behind told may f (λ r only. subst (IsCountedAlone d f.ran.chances) (sym is) (counted_alone d mid f.ran.chances (well_of t i far mid f.ran.desked) f.ran.counted)) (back_same i far.make mid far.device (session_by i far.device (far.job i)) new f.ran.desked.shows (same_words mid mid new is refl refl))
 starved_so t i d mid new todo came rest behind told one may f (inr g) =
     let far = after_all t.system (answers i f.ran.chances) in
     starved_by t i d mid new todo came rest behind g.left told g.request one may f g.takes (faltered i far.make t.users mid far.device (session_by i far.device (far.job i)) g.request new f.ran.desked.shows g.out_of_memory)

@@ -28,6 +28,7 @@ use Rattle.system_model.specs.SystemStates.{JobState, with_entry}
 use Rattle.system_model.specs.AbstractSessions.{FullEffect, FollowsOneWord, IsLike, AbstractSession, answer_call, call_to, one_word_session}
 use Rattle.system_model.specs.Transitions.{MayFail}
 use Rattle.daemon_refines.specs.DeviceWords.{MayFailAt}
+use Rattle.daemon_refines.specs.Failures.{IsCounted}
 use Rattle.system_model.proofs.OneWord.{one_word_enough}
 use Rattle.client_refines.specs.RequestRefinement.{IsRequest}
 use Rattle.daemon_refines.specs.Agreeing.{Agrees, manner}
@@ -131,6 +132,7 @@ behind_by i make users device p d q m comes said new v h g a f others ended =
 pub record Raw (i : ℕ) (make : ℕ → Make) (listed : List ℕ) (device : ℕ → AbstractDevice) (p : JobState) (d : RequestContext) (q : Asked) (r : AbstractRequest) (said : RequestAnswer) (new : RequestContext) (challenge : Challenge) (fault : Option FailureCounts) : Type 0 where
   pub may : MayFail (make p.session.job.wants) fault
   pub behind : Behind i make device p d said new (serving i make listed device p r challenge fault)
+  pub counted : IsCounted d.session.held new.session.held 0 fault
   pub greeted : new.session.greeted ≡ true
   pub says : ((n : ℕ) (value : Value) → r ≡ Set n value → is_resting (device p.session.job.wants).phase ≡ true) → SpellsSaid (manner d 0) q (serving i make listed device p r challenge fault).told said
 
@@ -162,6 +164,7 @@ raw_call i make users infos job d device p listed q r said new h greeted word ca
       record {
         may = fails_by (is_held_by i (device wants).holder) make wants served.fault served.may;
         behind = behind;
+        counted = served.counted;
         greeted = stays_greeted users d d.session.awaited q said new (subst (λ (b : Bool). AnswersBy b users d q said new) greeted g) greeted;
         says = λ _. subst (λ (told : List AbstractReply). SpellsSaid (manner d 0) q told said) f.told (subst (λ (w : ℕ). SpellsSaid (manner d w) q comes.told said) word served.agrees.says);
       },
@@ -187,6 +190,7 @@ raw_init i make users infos job d device p listed version user said new h none m
       record {
         may = tt;
         behind = behind_by i make users device p d q (manner d 0) comes said new v h.shows g agrees f others (answer_ends i (make wants) (device wants) p.session.transfer p.session.awaited (environment_of p.session listed [] None) Init);
+        counted = tt;
         greeted = ap (λ (t : RequestContext). t.session.greeted) gives.1;
         says = λ _. subst (λ (told : List AbstractReply). SpellsSaid (manner d 0) q told said) f.told agrees.says;
       },
@@ -250,6 +254,7 @@ raw_odd i make users infos job d device p listed q r said new h greeted none sen
           others = subst (λ (t : RequestContext). LeavesOthers i d.registry t.registry device (devices_by device p v)) (sym new_is) (leaves_same i d.registry d.registry device device (devices_by device p v) same (leaves_all i d.registry device));
           others_end = λ off. absurd (let clash : true ≡ false = sym is.goes_on ∙ off in cc);
         };
+        counted = tt;
         greeted = ap (λ (t : RequestContext). t.session.greeted) new_is ∙ greeted;
         says = λ rests.
             subst (λ (s : RequestAnswer). SpellsSaid (manner d 0) q v.told s) (sym said_is)

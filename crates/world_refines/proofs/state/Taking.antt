@@ -149,36 +149,43 @@ done action Does t i v steps u can does stands =
     record { steps = steps; ghost_then = u; happens = record { either = inl can; does = λ _. does; cannot = λ n. absurd (n can) }; stands = stands }
 
 -- what there is to show of a job that is there: it is done, or it cannot be
-pub record Decides (action : Event) (Does : Ghost → ℕ → List Transition → Ghost → Type 0) (t : Ghost) (w : WorldCore) (i : ℕ) (p : Endpoint) : Type 0 where
+pub record Decides (action : Event) (Does : Core → Ghost → ℕ → List Transition → Ghost → Type 0) (t : Ghost) (w : WorldCore) (i : ℕ) (p : Endpoint) : Type 0 where
   pub can : GhostCan t i action → world.Can w.daemon p action
   pub back : world.Can w.daemon p action → GhostCan t i action
   pub either : world.Can w.daemon p action ⊎ (world.Can w.daemon p action → ⊥)
-  pub does : world.Can w.daemon p action → (e : Core) (q : Endpoint) → world.Does w.daemon p action e q → GhostLeads action Does t i (record { daemon = e; endpoints = slice_set w.endpoints i q })
+  pub does : world.Can w.daemon p action → (e : Core) (q : Endpoint) → world.Does w.daemon p action e q → GhostLeads action (Does e) t i (record { daemon = e; endpoints = slice_set w.endpoints i q })
+
+-- what it does may be told of the world in front of it and of the daemon behind it
+abbrev pub DecidesIn : Event → (WorldCore → Core → Ghost → ℕ → List Transition → Ghost → Type 0) → Type 0
+DecidesIn action Does = (t : Ghost) (w : WorldCore) (i : ℕ) (p : Endpoint) → WorldRefines t w → slice_get w.endpoints i ≡ Some p → i < t.count → Decides action (Does w) t w i p
 
 abbrev pub DecidesAt : Event → (Ghost → ℕ → List Transition → Ghost → Type 0) → Type 0
-DecidesAt action Does = (t : Ghost) (w : WorldCore) (i : ℕ) (p : Endpoint) → WorldRefines t w → slice_get w.endpoints i ≡ Some p → i < t.count → Decides action Does t w i p
+DecidesAt action Does = DecidesIn action (λ w e. Does)
 
 same_scene : (w v : WorldCore) (i : ℕ) (p q : Endpoint) → slice_get w.endpoints i ≡ Some p → v.daemon ≡ w.daemon → v.endpoints ≡ slice_set w.endpoints i q → q ≡ p → v ≡ w
 same_scene w v i p q at e endpoints is =
     let posts_are : v.endpoints ≡ w.endpoints = endpoints ∙ (ap (slice_set w.endpoints i) is ∙ set_same w.endpoints i p at) in
     ap (λ (x : Core). record { daemon = x; endpoints = v.endpoints }) e ∙ ap (λ (x : List Endpoint). record { daemon = w.daemon; endpoints = x }) posts_are
 
-leads_at : (action : Event) (Does : Ghost → ℕ → List Transition → Ghost → Type 0) (t : Ghost) (i : ℕ) (w v : WorldCore) (p : Endpoint) → WorldRefines t w → slice_get w.endpoints i ≡ Some p → Decides action Does t w i p → (q : Endpoint) → world.Happens w.daemon p action v.daemon q → v.endpoints ≡ slice_set w.endpoints i q →
-    world.Can w.daemon p action ⊎ (world.Can w.daemon p action → ⊥) → GhostLeads action Does t i v
+leads_at : (action : Event) (Does : Core → Ghost → ℕ → List Transition → Ghost → Type 0) (t : Ghost) (i : ℕ) (w v : WorldCore) (p : Endpoint) → WorldRefines t w → slice_get w.endpoints i ≡ Some p → Decides action Does t w i p → (q : Endpoint) → world.Happens w.daemon p action v.daemon q → v.endpoints ≡ slice_set w.endpoints i q →
+    world.Can w.daemon p action ⊎ (world.Can w.daemon p action → ⊥) → GhostLeads action (Does v.daemon) t i v
 leads_at action Does t i w v p h at d q happens endpoints (inl can) =
-    subst (λ (x : List Endpoint). GhostLeads action Does t i (record { daemon = v.daemon; endpoints = x })) (sym endpoints) (d.does can v.daemon q (happens.does can))
+    subst (λ (x : List Endpoint). GhostLeads action (Does v.daemon) t i (record { daemon = v.daemon; endpoints = x })) (sym endpoints) (d.does can v.daemon q (happens.does can))
 leads_at action Does t i w v p h at d q happens endpoints (inr never) =
     let same = happens.cannot never in
-    not_done action Does t i w v h (same_scene w v i p q at same.0 endpoints same.1) (λ can. never (d.can can))
+    not_done action (Does v.daemon) t i w v h (same_scene w v i p q at same.0 endpoints same.1) (λ can. never (d.can can))
 
-leads_by : (action : Event) (Does : Ghost → ℕ → List Transition → Ghost → Type 0) (t : Ghost) (i : ℕ) (w v : WorldCore) → DecidesAt action Does → WorldRefines t w → AtEndpoint w i action v → ((p : Endpoint) × (slice_get w.endpoints i ≡ Some p)) ⊎ (length w.endpoints ≤ i) → GhostLeads action Does t i v
+leads_by : (action : Event) (Does : WorldCore → Core → Ghost → ℕ → List Transition → Ghost → Type 0) (t : Ghost) (i : ℕ) (w v : WorldCore) → DecidesIn action Does → WorldRefines t w → AtEndpoint w i action v → ((p : Endpoint) × (slice_get w.endpoints i ≡ Some p)) ⊎ (length w.endpoints ≤ i) → GhostLeads action (Does w v.daemon) t i v
 leads_by action Does t i w v all h at (inl is) =
     let low : i < t.count = subst (λ (n : ℕ). i < n) (sym h.is_of.count) (within w.endpoints i is.0 is.1) in
     let d = all t w i is.0 h is.1 low in
     let happens = at.happens is.0 is.1 in
-    leads_at action Does t i w v is.0 h is.1 d happens.0 happens.1 happens.2 d.either
+    leads_at action (Does w) t i w v is.0 h is.1 d happens.0 happens.1 happens.2 d.either
 leads_by action Does t i w v all h at (inr high) =
-    not_done action Does t i w v h (at.beyond high) (λ can. nobody_can t w i action (h.beyond i high) (subst (λ (n : ℕ). n ≤ i) (sym h.is_of.count) high) can)
+    not_done action (Does w v.daemon) t i w v h (at.beyond high) (λ can. nobody_can t w i action (h.beyond i high) (subst (λ (n : ℕ). n ≤ i) (sym h.is_of.count) high) can)
+
+pub follows_in : (action : Event) (Does : WorldCore → Core → Ghost → ℕ → List Transition → Ghost → Type 0) → DecidesIn action Does → (t : Ghost) (i : ℕ) (w v : WorldCore) → WorldRefines t w → AtEndpoint w i action v → GhostLeads action (Does w v.daemon) t i v
+follows_in action Does all t i w v h at = leads_by action Does t i w v all h at (there w.endpoints i)
 
 pub follows_by : (action : Event) (Does : Ghost → ℕ → List Transition → Ghost → Type 0) → DecidesAt action Does → EventRefines action Does
-follows_by action Does all t i w v h at = leads_by action Does t i w v all h at (there w.endpoints i)
+follows_by action Does all = follows_in action (λ w e. Does) all
