@@ -229,8 +229,8 @@ at_end below h w i job endpoint status why j e =
 abbrev IsFailed : History → ℕ → Job → Type 0
 IsFailed h i job = HadFailure h i job ⊎ NamesIoError h job
 
-not_answered : (w : Why) → why_of whys.Answer ≡ Some w → w ≡ words.Answer
-not_answered w is = let same : Some words.Answer ≡ Some w = is in cc
+answer_is : (w : Why) → why_of whys.Answer ≡ Some w → w ≡ words.Answer
+answer_is w is = let same : Some words.Answer ≡ Some w = is in cc
 
 failed_row : (h : History) (i : ℕ) (job : Job) (w : Why) (c : Cause) → w ≡ words.Answer → Evid h i job c → Explains c words.IoError w → IsFailed h i job
 failed_row h i job w GaveUp is e x = absurd (let clash : words.IoError ≡ words.GivenUp = x.0 in cc)
@@ -256,7 +256,7 @@ failed_by_table h i job met w is (inr n) = absurd (let clash : words.IoError ≡
 pub failed_at_end : Below → (h : History) (w : WorldCore) (i : ℕ) (job : Job) (endpoint : Endpoint) → IsJob h w i job endpoint → endpoint.client.outcome ≡ outcomes.Ended codes.IoError whys.Answer → IsFailed h i job
 failed_at_end below h w i job endpoint j e =
     let s = ended_there below h w i job endpoint codes.IoError whys.Answer j e in
-    failed_by_table h i job (job_state (kept_by below.kept h w job j.led).run.ghost_then i).session.met s.0 (not_answered s.0 s.1) s.2
+    failed_by_table h i job (job_state (kept_by below.kept h w job j.led).run.ghost_then i).session.met s.0 (answer_is s.0 s.1) s.2
 
 -- ---- a reply that could not be said
 
