@@ -1,6 +1,6 @@
 -- In the end each job that stands is lost in the world: so one whose loop lost a connection ends as its loop did.
 use Rattle.std.specs.Prelude.{◌<◌, ◌≤◌, ◌+◌, IsSome}
-use Rattle.std.proofs.Common.{◌≡◌, ◌≢◌, ◌∙◌, ◌⊎◌, inl, inr, ℕ, zero, suc, Bool, true, false, Some, List, length, slice_get, refl, sym, ap, subst, arith}
+use Rattle.std.proofs.Common.{◌≡◌, ◌≢◌, ◌∙◌, ◌⊎◌, inl, inr, ℕ, zero, suc, Bool, true, false, Some, List, [], ◌∷◌, ◌++◌, length, slice_get, refl, sym, ap, subst, arith}
 use Rattle.std.proofs.lemmas.Bool.Decides.{nat_tests}
 use Rattle.page_picture.specs.Source.{SourceState}
 use Rattle.page_picture.specs.declared.sources.kinds.Source.{Source}
@@ -13,18 +13,19 @@ use Rattle.saned_core.specs.DaemonStates.{Core, after_end_session, after_open_se
 use Rattle.in_flight.proofs.Slots.{decide}
 use Rattle.interleaving.specs.HandingOn.{Owner}
 use Rattle.scan_world.specs.declared.event.Event.{Event}
+use Rattle.scan_world.specs.declared.event.Event.TheVariants.{Connect, LoseControl}
 use Rattle.scan_world.specs.declared.event.JobEvent.TheVariants as events
 use Rattle.scan_world.specs.declared.endpoint.Endpoint.{Endpoint}
 use Rattle.scan_world.specs.Endpoints.{after_move, shut_out, with_link, without_link}
 use Rattle.scan_world.specs.JobEvents.{Connects, Does}
 use Rattle.scan_world.specs.Worlds.{WorldCore}
-use Rattle.programs_refine.specs.WorldHistory.{LeadsBy}
+use Rattle.programs_refine.specs.WorldHistory.{AreLosses, IsLoss, LeadsBy}
 use Rattle.programs_refine.proofs.Delivered.{if_linked}
 use Rattle.programs_refine.proofs.Lists.{there}
 use Rattle.programs_refine.proofs.Passed.{Passed, Traffics}
 use Rattle.programs_refine.proofs.Replied.{ends_as}
 use Rattle.programs_refine.proofs.Serving.{comes}
-use Rattle.programs_refine.proofs.Tracks.{FilesTrack, Follows, IsUnlinked, JobTracks, Moved, Tracks, files_kept, new_files_track, not_moved, over_behind_loss}
+use Rattle.programs_refine.proofs.Tracks.{FilesTrack, Follows, IsUnlinked, JobTracks, Moved, Tracks, files_kept, moved, new_files_track, not_moved, over_behind_loss}
 use Rattle.programs_refine.proofs.Tracks.JobTracks.{Unlinked, Linked, Left}
 
 -- an event behind another of the same job
@@ -36,12 +37,18 @@ record Ends (source : Source → SourceState) (first w : WorldCore) (i : ℕ) (x
   q : Endpoint
   e : Core
   m : Moved source first w i q e
+  losses : AreLosses m.events
   ended : is_running c.outcome ≡ false → q.client.outcome ≡ c.outcome
   files : FilesTrack x.turned x.given q
 
 -- a job whose session stands loses its control connection
-lost_now : (source : Source → SourceState) (before : List Event) (first w : WorldCore) (i : ℕ) (x : Traffics) (c : ClientState) (p : Endpoint) (id : SessionId) (pending dropped : Bool) → LeadsBy source first before w → slice_get w.endpoints i ≡ Some p → p.link ≡ Some id → Follows pending dropped c p.client → FilesTrack x.turned x.given p → Ends source first w i x c
-lost_now source before first w i x c p id pending dropped l at link follows files =
+losses_more : (events : List Event) (event : Event) → AreLosses events → IsLoss event → AreLosses (events ++ event ∷ [])
+losses_more [] event are is = (is, tt)
+losses_more (other ∷ events) event are is = (are.0, losses_more events event are.1 is)
+
+lost_now : (source : Source → SourceState) (before : List Event) (first w : WorldCore) (i : ℕ) (x : Traffics) (c : ClientState) (p : Endpoint) (id : SessionId) (pending dropped : Bool) → LeadsBy source first before w → AreLosses before → slice_get w.endpoints i ≡ Some p → p.link ≡ Some id → Follows pending dropped c p.client → FilesTrack x.turned x.given p → Ends source first w i x c
+unfolding comes moved
+lost_now source before first w i x c p id pending dropped l are at link follows files =
     let q : Endpoint = without_link (after_move p) in
     let e : Core = after_end_session w.daemon id.number in
     let does : Does w.daemon p events.LoseControl e q = if_linked p.link id id.number (λ j. (e ≡ after_end_session w.daemon j) × (q ≡ without_link (after_move p))) link refl (refl, refl) in
@@ -49,13 +56,15 @@ lost_now source before first w i x c p id pending dropped l at link follows file
       q = q;
       e = e;
       m = comes source before first w i p q events.LoseControl e l at tt (subst IsSome (sym link) refl) does;
+      losses = losses_more before (LoseControl i) are tt;
       ended = λ over. ends_as pending dropped (is_running p.client.outcome) c p.client refl follows over;
       files = files_kept x.turned x.given p q (record { file = refl; pages = refl; finished = refl; task = refl; over = over_behind_loss links.Control p.client }) files;
     }
 
 -- one that was not connected is connected first, or finds no place
-connects_late : (source : Source → SourceState) (before : List Event) (first w : WorldCore) (owner : Owner) (opened : ℕ) (passed : ℕ → Passed) (i : ℕ) (x : Traffics) (job : Job) (c : ClientState) (p : Endpoint) → LeadsBy source first before w → slice_get w.endpoints i ≡ Some p → IsUnlinked owner opened passed x i job c p → Ends source first w i x c
-connects_late source before first w owner opened passed i x job c p l at u = by (is_closed w.daemon) refl
+connects_late : (source : Source → SourceState) (before : List Event) (first w : WorldCore) (owner : Owner) (opened : ℕ) (passed : ℕ → Passed) (i : ℕ) (x : Traffics) (job : Job) (c : ClientState) (p : Endpoint) → LeadsBy source first before w → AreLosses before → slice_get w.endpoints i ≡ Some p → IsUnlinked owner opened passed x i job c p → Ends source first w i x c
+unfolding comes moved twice
+connects_late source before first w owner opened passed i x job c p l are at u = by (is_closed w.daemon) refl
   where
     runs : is_running p.client.outcome ≡ true
     runs = ap (λ (z : ClientState). is_running z.outcome) u.new.client.value
@@ -74,6 +83,7 @@ connects_late source before first w owner opened passed i x job c p l at u = by 
           q = q;
           e = w.daemon;
           m = comes source before first w i p q events.Connect w.daemon l at tt (runs, waits) does;
+          losses = losses_more before (Connect i) are tt;
           ended = λ over. ends_as false false (is_running p.client.outcome) c p.client refl u.follows over;
           files = files_kept x.turned x.given p q (record { file = refl; pages = refl; finished = refl; task = refl; over = over_behind_loss links.Control p.client }) files;
         }
@@ -84,14 +94,15 @@ connects_late source before first w owner opened passed i x job c p l at u = by 
         let does : Does w.daemon p events.Connect e q = (1, subst (λ (b : Bool). Connects 1 b w.daemon p e q) (sym room) (id, refl, refl, refl)) in
         let m = comes source before first w i p q events.Connect e l at tt (runs, waits) does in
         let linked = files_kept x.turned x.given p q (record { file = refl; pages = refl; finished = refl; task = refl; over = λ over. over }) files in
-        let lost = lost_now source m.events first m.v i x c q id false false m.leads m.own refl u.follows linked in
-        record { q = lost.q; e = lost.e; m = twice source first w i q lost.q e lost.e m lost.m; ended = lost.ended; files = lost.files }
+        let lost = lost_now source m.events first m.v i x c q id false false m.leads (losses_more before (Connect i) are tt) m.own refl u.follows linked in
+        record { q = lost.q; e = lost.e; m = twice source first w i q lost.q e lost.e m lost.m; losses = lost.losses; ended = lost.ended; files = lost.files }
 
-finish_one : (source : Source → SourceState) (before : List Event) (first w : WorldCore) (owner : Owner) (opened : ℕ) (flying : ℕ → List ℕ) (passed : ℕ → Passed) (i : ℕ) (x : Traffics) (job : Job) (c : ClientState) (p : Endpoint) → LeadsBy source first before w → slice_get w.endpoints i ≡ Some p → JobTracks owner opened flying passed x i job c p
+finish_one : (source : Source → SourceState) (before : List Event) (first w : WorldCore) (owner : Owner) (opened : ℕ) (flying : ℕ → List ℕ) (passed : ℕ → Passed) (i : ℕ) (x : Traffics) (job : Job) (c : ClientState) (p : Endpoint) → LeadsBy source first before w → AreLosses before → slice_get w.endpoints i ≡ Some p → JobTracks owner opened flying passed x i job c p
     → Ends source first w i x c
-finish_one source before first w owner opened flying passed i x job c p l at (Unlinked u) = connects_late source before first w owner opened passed i x job c p l at u
-finish_one source before first w owner opened flying passed i x job c p l at (Linked k own low k_linked) = lost_now source before first w i x c p k_linked.id k_linked.pending (passed k).dropped l at k_linked.link k_linked.follows k_linked.files
-finish_one source before first w owner opened flying passed i x job c p l at (Left k own low shut h) = record { q = p; e = w.daemon; m = not_moved source before first w i p l at; ended = h.ended; files = h.files }
+unfolding not_moved
+finish_one source before first w owner opened flying passed i x job c p l are at (Unlinked u) = connects_late source before first w owner opened passed i x job c p l are at u
+finish_one source before first w owner opened flying passed i x job c p l are at (Linked k own low k_linked) = lost_now source before first w i x c p k_linked.id k_linked.pending (passed k).dropped l are at k_linked.link k_linked.follows k_linked.files
+finish_one source before first w owner opened flying passed i x job c p l are at (Left k own low shut h) = record { q = p; e = w.daemon; m = not_moved source before first w i p l at; losses = are; ended = h.ended; files = h.files }
 
 -- ---- all jobs in turn
 
@@ -107,6 +118,7 @@ pub record FinishedTo (source : Source → SourceState) (first w : WorldCore) (j
   pub events : List Event
   pub v : WorldCore
   pub leads : LeadsBy source first events v
+  pub losses : AreLosses events
   pub ended : (i : ℕ) → i < n → i < length jobs → IsAsEnded v i (done i) (c i)
   pub kept : (i : ℕ) → n ≤ i → slice_get v.endpoints i ≡ slice_get w.endpoints i
 
@@ -117,20 +129,20 @@ less_than a b low off = by (decide a b)
     by (inl same) = absurd (off same)
     by (inr other) = grind (arith, nat_tests)
 
-one_more : (source : Source → SourceState) (first : WorldCore) (owner : Owner) (jobs : List Job) (passed : ℕ → Passed) (done : ℕ → Traffics) (d : Core) (c : ℕ → ClientState) (t : Tracks source first owner jobs passed done d c) (n : ℕ) → n < length jobs → FinishedTo source first t.w jobs done c n → FinishedTo source first t.w jobs done c (n + 1)
+one_more : (source : Source → SourceState) (first : WorldCore) (owner : Owner) (jobs : List Job) (passed : ℕ → Passed) (done : ℕ → Traffics) (d : Core) (c : ℕ → ClientState) (t : Tracks source first owner jobs passed done d c) (n : ℕ) → n < length jobs → FinishedTo source t.w t.w jobs done c n → FinishedTo source t.w t.w jobs done c (n + 1)
 one_more source first owner jobs passed done d c t n low f =
     let j = there jobs n low in
     let e = t.each n j.0 j.1 in
-    let x = finish_one source f.events first f.v owner d.opened t.flying passed n (done n) j.0 (c n) e.0 f.leads (f.kept n (omega arith) ∙ e.1) e.2 in
-    record { events = x.m.events; v = x.m.v; leads = x.m.leads; ended = λ i less within. by x i within (decide i n) less; kept = λ i high. x.m.others i (λ same. absurd (omega (arith, same, high))) ∙ f.kept i (omega (arith, high)) }
+    let x = finish_one source f.events t.w f.v owner d.opened t.flying passed n (done n) j.0 (c n) e.0 f.leads f.losses (f.kept n (omega arith) ∙ e.1) e.2 in
+    record { events = x.m.events; v = x.m.v; leads = x.m.leads; losses = x.losses; ended = λ i less within. by x i within (decide i n) less; kept = λ i high. x.m.others i (λ same. absurd (omega (arith, same, high))) ∙ f.kept i (omega (arith, high)) }
   where
-    by : (x : Ends source first f.v n (done n) (c n)) → (i : ℕ) → i < length jobs → (i ≡ n) ⊎ (i ≢ n) → i < n + 1 → IsAsEnded x.m.v i (done i) (c i)
+    by : (x : Ends source t.w f.v n (done n) (c n)) → (i : ℕ) → i < length jobs → (i ≡ n) ⊎ (i ≢ n) → i < n + 1 → IsAsEnded x.m.v i (done i) (c i)
     by x i within (inl same) less = subst (λ (k : ℕ). IsAsEnded x.m.v k (done k) (c k)) (sym same) (record { q = x.q; at = x.m.own; ended = x.ended; files = x.files })
     by x i within (inr off) less =
         let was = f.ended i (less_than i n less off) within in
         record { q = was.q; at = x.m.others i off ∙ was.at; ended = was.ended; files = was.files }
 
-pub finish_all : (source : Source → SourceState) (first : WorldCore) (owner : Owner) (jobs : List Job) (passed : ℕ → Passed) (done : ℕ → Traffics) (d : Core) (c : ℕ → ClientState) (t : Tracks source first owner jobs passed done d c) (n : ℕ) → n ≤ length jobs → FinishedTo source first t.w jobs done c n
-finish_all source first owner jobs passed done d c t zero low = record { events = t.events; v = t.w; leads = t.leads; ended = λ i less within. absurd (omega (arith, less)); kept = λ i high. refl }
+pub finish_all : (source : Source → SourceState) (first : WorldCore) (owner : Owner) (jobs : List Job) (passed : ℕ → Passed) (done : ℕ → Traffics) (d : Core) (c : ℕ → ClientState) (t : Tracks source first owner jobs passed done d c) (n : ℕ) → n ≤ length jobs → FinishedTo source t.w t.w jobs done c n
+finish_all source first owner jobs passed done d c t zero low = record { events = []; v = t.w; leads = record { are = tt; runs = refl }; losses = tt; ended = λ i less within. absurd (omega (arith, less)); kept = λ i high. refl }
 finish_all source first owner jobs passed done d c t (suc n) low =
-    subst (λ (k : ℕ). FinishedTo source first t.w jobs done c k) (let e : n + 1 ≡ suc n = omega arith in e) (one_more source first owner jobs passed done d c t n (omega (arith, low)) (finish_all source first owner jobs passed done d c t n (omega (arith, low))))
+    subst (λ (k : ℕ). FinishedTo source t.w t.w jobs done c k) (let e : n + 1 ≡ suc n = omega arith in e) (one_more source first owner jobs passed done d c t n (omega (arith, low)) (finish_all source first owner jobs passed done d c t n (omega (arith, low))))

@@ -1,6 +1,6 @@
 -- The promise of a world, of the programs.
 use Rattle.std.specs.Prelude.{◌<◌, ◌≤◌, ◌+◌, ◌-◌, ◌==◌, ◌||◌, nat_lt, if◌then◌else◌, slice_index_or, IsSome, min}
-use Rattle.std.proofs.Common.{◌≡◌, ◌∙◌, inl, inr, ℕ, zero, suc, Bool, true, false, Option, Some, None, option_map, option_and_then, List, [], ◌∷◌, length, slice_get, refl, sym, ap, subst, arith}
+use Rattle.std.proofs.Common.{◌≡◌, ◌∙◌, inl, inr, ℕ, zero, suc, Bool, true, false, Option, Some, None, option_map, option_and_then, List, [], ◌∷◌, ◌++◌, length, slice_get, refl, sym, ap, subst, arith}
 use Rattle.std.proofs.Math.Nat.{min-eq_left}
 use Rattle.std.proofs.lemmas.Bool.Decides.{nat_tests}
 use Rattle.std.proofs.lemmas.Option.{get_or_from_slice_get, slice_get_within}
@@ -24,7 +24,7 @@ use Rattle.scan_world.specs.declared.event.Event.TheVariants.{Connect, ToDaemon,
 use Rattle.scan_world.specs.declared.endpoint.Endpoint.{Endpoint}
 use Rattle.scan_world.specs.Endpoints.{finished_page}
 use Rattle.scan_world.specs.JobMoves.{IsNextMove, moves_left_of}
-use Rattle.scan_world.specs.Worlds.{WorldCore}
+use Rattle.scan_world.specs.Worlds.{Runs, WorldCore}
 use Rattle.world_refines.specs.GhostStates.{Ghost, place_of_info}
 use Rattle.world_refines.specs.MainTheorem.{AreFittingLoads, AreTrueLoads, EventsFollow}
 use Rattle.world_refines.specs.NewWorlds.{HaveSourcesAt, IsNewDaemon, NewWorldsRefine, PageSources, initial_ghost, make_of}
@@ -38,7 +38,7 @@ use Rattle.world_contract.specs.Laws.{AllIsRight}
 use Rattle.world_contract.specs.Promise.{CountIsKept, FileIsKept, JobAnswers, OutcomeIsKept, PageIsKept}
 use Rattle.programs_refine.specs.Keeping.{history_of, AllLoopsAreKept, AreFit, LoopIsKept, ProgramsKeepAll, WorldsHearInTurn, WorldsWantBeforeItFlows}
 use Rattle.programs_refine.specs.Programs.{Acts, ComeToAWorld, EndsAlike, HasFilesOf, IsWorldOf}
-use Rattle.programs_refine.specs.WorldHistory.{LeadsBy, AreOfConnections, WantsBeforeItFlows}
+use Rattle.programs_refine.specs.WorldHistory.{AreLosses, AreOfConnections, IsLoss, IsOfConnections, LeadsBy, WantsBeforeItFlows}
 use Rattle.programs_refine.proofs.Lists.{there}
 use Rattle.programs_refine.proofs.Outgoing.{never_both}
 use Rattle.programs_refine.proofs.Programs.{programs_are}
@@ -183,16 +183,35 @@ led_by devices jobs d first v events fit is l = record {
   runs = l.runs;
 }
 
+loss_of_connections : (event : Event) → IsLoss event → IsOfConnections event
+loss_of_connections (Connect i) is = tt
+loss_of_connections (LoseControl i) is = tt
+loss_of_connections event is = absurd is
+
+losses_of_connections : (losses : List Event) → AreLosses losses → AreOfConnections losses
+losses_of_connections [] are = tt
+losses_of_connections (event ∷ losses) are = (loss_of_connections event are.0, losses_of_connections losses are.1)
+
+more_of_connections : (events losses : List Event) → AreOfConnections events → AreLosses losses → AreOfConnections (events ++ losses)
+more_of_connections [] losses are lost = losses_of_connections losses lost
+more_of_connections (event ∷ events) losses are lost = (are.0, more_of_connections events losses are.1 lost)
+
+runs_then : (events more : List Event) (u v w : WorldCore) → Runs source_state events u v → Runs source_state more v w → Runs source_state (events ++ more) u w
+runs_then [] more u v w same r = subst (λ (x : WorldCore). Runs source_state more x w) same r
+runs_then (event ∷ events) more u v w l r = (l.0, l.1, runs_then events more l.0 v w l.2 r)
+
 keeps : (right : AllIsRight) (devices : List DeviceState) (jobs : List Job) (d : Core) (acts : Acts) (end : Core) (last : ℕ → ClientState) → AreFit devices jobs d → ComeToAWorld source_state jobs d acts end last → AllLoopsAreKept devices jobs d acts last
 keeps right devices jobs d acts end last fit a =
     let l = a.leads_on in
-    let led = led_by devices jobs d a.w l.v l.events fit a.is_of l.leads in
+    let events = l.serves.events ++ l.losses in
+    let leads : LeadsBy source_state a.w events l.v = record { are = more_of_connections l.serves.events l.losses l.serves.leads.are l.are; runs = runs_then l.serves.events l.losses a.w l.serves.v l.v l.serves.leads.runs l.leads_on } in
+    let led = led_by devices jobs d a.w l.v events fit a.is_of leads in
     record {
-      events = l.events;
-      are = l.leads.are;
+      events = events;
+      are = leads.are;
       v = l.v;
       led = led;
-      each = λ i job at over. kept_by right (history_of devices jobs d l.events) l.v acts i job (last i) led at over (l.jobs_are i job at over);
+      each = λ i job at over. kept_by right (history_of devices jobs d events) l.v acts i job (last i) led at over (l.jobs_are i job at over);
     }
 
 -- of no job

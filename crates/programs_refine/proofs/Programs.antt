@@ -49,9 +49,10 @@ programs_are source jobs owner d acts last r wants =
       is_of = record { daemon = refl; endpoints = new };
       leads_on = record {
         serves = record { events = t.events; v = t.w; leads = t.leads; on_their_way = t.flying; daemon = t.differs };
-        events = f.events;
+        losses = f.events;
+        are = f.losses;
         v = f.v;
-        leads = f.leads;
+        leads_on = f.leads.runs;
         jobs_are = λ i job at over.
             let low = slice_get_within jobs i job at in
             let x = f.ended i low low in

@@ -175,7 +175,7 @@ IsNoCancel (events.DataToClient n) = Unit {0}
 IsNoCancel events.LoseControl = Unit {0}
 IsNoCancel events.LoseImage = Unit {0}
 
-of_connections : (event : JobEvent) (i : ℕ) → IsNoCancel event → IsOfConnections (of_job event i)
+pub of_connections : (event : JobEvent) (i : ℕ) → IsNoCancel event → IsOfConnections (of_job event i)
 of_connections events.Cancel i is = is
 of_connections events.Connect i is = tt
 of_connections (events.ToDaemon n) i is = tt
@@ -186,7 +186,7 @@ of_connections (events.DataToClient n) i is = tt
 of_connections events.LoseControl i is = tt
 of_connections events.LoseImage i is = tt
 
-leads_as : (source : Source → SourceState) (event : JobEvent) (i : ℕ) (w v : WorldCore) → AtEndpoint w i event v → Leads source (of_job event i) w v
+pub leads_as : (source : Source → SourceState) (event : JobEvent) (i : ℕ) (w v : WorldCore) → AtEndpoint w i event v → Leads source (of_job event i) w v
 leads_as source events.Cancel i w v a = a
 leads_as source events.Connect i w v a = a
 leads_as source (events.ToDaemon n) i w v a = a
@@ -197,7 +197,7 @@ leads_as source (events.DataToClient n) i w v a = a
 leads_as source events.LoseControl i w v a = a
 leads_as source events.LoseImage i w v a = a
 
-pub comes : (source : Source → SourceState) (before : List Event) (first w : WorldCore) (i : ℕ) (p q : Endpoint) (event : JobEvent) (e : Core) → LeadsBy source first before w → slice_get w.endpoints i ≡ Some p → IsNoCancel event → Can w.daemon p event → Does w.daemon p event e q → Moved source first w i q e
+unfoldable pub comes : (source : Source → SourceState) (before : List Event) (first w : WorldCore) (i : ℕ) (p q : Endpoint) (event : JobEvent) (e : Core) → LeadsBy source first before w → slice_get w.endpoints i ≡ Some p → IsNoCancel event → Can w.daemon p event → Does w.daemon p event e q → Moved source first w i q e
 comes source before first w i p q event e l at is can does = moved source before (of_job event i) first w i p q e l at (of_connections event i is) (leads_as source event i w (world_with w i e q) (at_endpoint w i p event e q at can does))
 
 -- the same bytes are on their way

@@ -215,10 +215,10 @@ pub record Moved (source : Source → SourceState) (first w : WorldCore) (i : �
   pub own : slice_get v.endpoints i ≡ Some q
   pub others : (j : ℕ) → j ≢ i → slice_get v.endpoints j ≡ slice_get w.endpoints j
 
-pub not_moved : (source : Source → SourceState) (events : List Event) (first w : WorldCore) (i : ℕ) (p : Endpoint) → LeadsBy source first events w → slice_get w.endpoints i ≡ Some p → Moved source first w i p w.daemon
+unfoldable pub not_moved : (source : Source → SourceState) (events : List Event) (first w : WorldCore) (i : ℕ) (p : Endpoint) → LeadsBy source first events w → slice_get w.endpoints i ≡ Some p → Moved source first w i p w.daemon
 not_moved source events first w i p l at = record { events = events; v = w; leads = l; daemon = refl; own = at; others = λ j off. refl }
 
-pub moved : (source : Source → SourceState) (events : List Event) (event : Event) (first w : WorldCore) (i : ℕ) (p q : Endpoint) (e : Core) → LeadsBy source first events w → slice_get w.endpoints i ≡ Some p → IsOfConnections event → Leads source event w (world_with w i e q)
+unfoldable pub moved : (source : Source → SourceState) (events : List Event) (event : Event) (first w : WorldCore) (i : ℕ) (p q : Endpoint) (e : Core) → LeadsBy source first events w → slice_get w.endpoints i ≡ Some p → IsOfConnections event → Leads source event w (world_with w i e q)
     → Moved source first w i q e
 moved source events event first w i p q e l at is leads = record {
   events = events ++ event ∷ [];

@@ -18,9 +18,9 @@ use Rattle.interleaving.specs.Interleavings.Traffic.{Takes}
 use Rattle.interleaving.specs.HandingOn.{HandsOn, HaveOneSession, Owner}
 use Rattle.scan_world.specs.declared.event.Event.{Event}
 use Rattle.scan_world.specs.declared.endpoint.Endpoint.{Endpoint}
-use Rattle.scan_world.specs.Worlds.{AreNew, WorldCore}
+use Rattle.scan_world.specs.Worlds.{AreNew, Runs, WorldCore}
 use Rattle.programs_refine.specs.StepTraffic.{traffic_of}
-use Rattle.programs_refine.specs.WorldHistory.{AlwaysHearsInTurn, AlwaysWantsBeforeItFlows, LeadsBy}
+use Rattle.programs_refine.specs.WorldHistory.{AlwaysHearsInTurn, AlwaysWantsBeforeItFlows, AreLosses, LeadsBy}
 
 -- all that the server and the jobs did, the newest first
 abbrev pub Acts : Type 0
@@ -85,12 +85,13 @@ pub record HasDaemonOf (source : Source → SourceState) (w : WorldCore) (end : 
   pub on_their_way : ℕ → List ℕ
   pub daemon : DiffersInFlight on_their_way end v.daemon
 
--- and some to where each job that is over is as its loop has it
+-- from there losses alone lead on to where each job that is over is as its loop has it, so also one that lost what the daemon still has
 pub record AreAWorld (source : Source → SourceState) (jobs : List Job) (w : WorldCore) (acts : Acts) (end : Core) (last : ℕ → ClientState) : Type 0 where
   pub serves : HasDaemonOf source w end
-  pub events : List Event
+  pub losses : List Event
+  pub are : AreLosses losses
   pub v : WorldCore
-  pub leads : LeadsBy source w events v
+  pub leads_on : Runs source losses serves.v v
   pub jobs_are : (i : ℕ) (job : Job) → slice_get jobs i ≡ Some job → is_running (last i).outcome ≡ false → EndsAlike v i acts (last i)
 
 -- ---- the law

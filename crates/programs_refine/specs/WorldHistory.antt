@@ -29,6 +29,17 @@ abbrev pub AreOfConnections : List Event → Type 0
 AreOfConnections [] = Unit {0}
 AreOfConnections (event ∷ events) = IsOfConnections event × AreOfConnections events
 
+-- a control connection is made, or lost
+abbrev pub IsLoss : Event → Type 0
+IsLoss (Connect i) = Unit {0}
+IsLoss (LoseControl i) = Unit {0}
+IsLoss event = ⊥
+
+-- of jobs that are lost, connected for that where they were not
+abbrev pub AreLosses : List Event → Type 0
+AreLosses [] = Unit {0}
+AreLosses (event ∷ events) = IsLoss event × AreLosses events
+
 -- such events lead from one world to the other
 pub record LeadsBy (source : Source → SourceState) (w : WorldCore) (events : List Event) (v : WorldCore) : Type 0 where
   pub are : AreOfConnections events
