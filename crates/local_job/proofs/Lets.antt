@@ -14,7 +14,7 @@ use Rattle.device_api.specs.ScannerLimits.{HasLimits, IsHeldPage}
 use Rattle.device_api.specs.State.{DeviceState, HeldPage, HasStopped, Phase, after_cancel, cancelled_in, with_failure_count, feeds, first_page, goes_to, is_at_rest, left_behind, page_of, params_in, state_at_rest, steady_of, after_stop, stopped_in, with_failures, with_phase}
 use Rattle.device_api.specs.State.Phase.{AtRest, Between, Reading}
 use Rattle.scan_laws.specs.Stays.{AreSamePages, IsSameScan, LetsGo}
-use Rattle.local_job.specs.ScanCauses.{ScannerAnswers, ScanHasCause, HasFailed, IsCause}
+use Rattle.local_job.specs.ScanCauses.{ScannerAnswers, ScanHasCause, HasFailedSource, IsCause}
 use Rattle.scan_job.specs.declared.stop.Stop.{Stop}
 use Rattle.local_job.specs.FrameReading.{KeepsDevice}
 
@@ -119,8 +119,8 @@ stopped_rests (AtRest c) s = refl
 stopped_rests (Between k) s = refl
 stopped_rests (Reading k m) s = refl
 
-pub failed : (old new : DeviceState) → HasStopped old new → HasFailed old new
-failed old new h = subst (λ (s : DeviceState). HasFailed old s) (sym h.after) (record {
+pub failed : (old new : DeviceState) → HasStopped old new → HasFailedSource old new
+failed old new h = subst (λ (s : DeviceState). HasFailedSource old s) (sym h.after) (record {
   can_fail = h.can_fail;
   failures = h.failures;
   counts = h.counted;
@@ -166,7 +166,7 @@ cancel_keeps s = cancel_by s.phase s
 
 answer_after : (old new : DeviceState) (status : Status) → ScannerAnswers old new status → ScannerAnswers old (after_cancel new) status
 answer_after old new status (inl told) = inl told
-answer_after old new status (inr (io, h)) = inr (io, subst (λ (s : DeviceState). HasFailed old s) (sym (cancel_rests new h.rests)) h)
+answer_after old new status (inr (io, h)) = inr (io, subst (λ (s : DeviceState). HasFailedSource old s) (sym (cancel_rests new h.rests)) h)
 
 pub cause_after : (why : Why) (status : Status) (old new : DeviceState) → IsCause why status old new → IsCause why status old (after_cancel new)
 cause_after Answer status old new is = answer_after old new status is

@@ -10,7 +10,7 @@ use Rattle.scan_job.specs.declared.stop.Stop.{Stop}
 
 -- the source of the page that is scanned, one that can fail, did so, and that was counted; a feeder may have let go of
 -- the page then
-pub record HasFailed (old new : DeviceState) : Type 0 where
+pub record HasFailedSource (old new : DeviceState) : Type 0 where
   pub can_fail : is_infallible old ≡ false
   pub failures : ℕ
   pub counts : CountsFailure (failures_of old) failures
@@ -19,7 +19,7 @@ pub record HasFailed (old new : DeviceState) : Type 0 where
 
 -- the scanner answered what `read-return-value` names, or its page's source failed, which was counted
 abbrev pub ScannerAnswers : DeviceState → DeviceState → Status → Type 0
-ScannerAnswers old new status = ((old.setup.told ≡ Some status) × (status ≢ Eof)) ⊎ ((status ≡ IoError) × HasFailed old new)
+ScannerAnswers old new status = ((old.setup.told ≡ Some status) × (status ≢ Eof)) ⊎ ((status ≡ IoError) × HasFailedSource old new)
 
 -- Out of memory; an output that did not take what it was given; a frame that ended before its first byte, as
 -- `read-return-value` says; or what the scanner answered. Nothing else ends such a scan.
