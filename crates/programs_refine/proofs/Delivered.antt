@@ -95,7 +95,7 @@ hears_alike w flying d k own x old c p piece rest step differs holds l off ok th
     let went = filed_as step.turned mid (with_unheard up c) (given_by step.gives) in
     let runs : is_running p.client.outcome ≡ true = ap (λ (z : ClientState). is_running z.outcome) there ∙ h.hears.running in
     let room : step.turned ≡ true → p.finished < 16 = λ on. holds.room (ap is_batch task ∙ h.batch on) in
-    let had = running_files x.turned x.given p mid (record { file = refl; pages = refl; finished = refl; task = refl; over = λ over. over }) runs l.files in
+    let had = running_files x.turned x.given p mid (record { file = refl; pages = refl; finished = refl; task = refl; done = λ done. done }) runs l.files in
     let e : Core = record w { slots = on_session_slot (after_taken n) k w.slots } in
     let wait = replies_wait flying d w k piece rest differs flies in
     let just = delivers piece (rest ++ replies_of d k) (replies_of w k) h.is_piece.1 wait in
@@ -224,7 +224,7 @@ takes_alike w flying k own x old c p piece rest step holds l off ok standing the
     let went = last_as (with_unheard up c) mid filed_there first in
     let runs : is_running p.client.outcome ≡ true = ap (λ (z : ClientState). is_running z.outcome) there ∙ (receiving_at old.outcome old.progress h.takes.receiving).runs in
     let room : step.turned ≡ true → p.finished < 16 = λ on. holds.room (ap is_batch task ∙ h.batch on) in
-    let had = running_files x.turned x.given p mid (record { file = refl; pages = refl; finished = refl; task = refl; over = λ over. over }) runs l.files in
+    let had = running_files x.turned x.given p mid (record { file = refl; pages = refl; finished = refl; task = refl; done = λ done. done }) runs l.files in
     let low : is_done filed_there.client.outcome ≡ true → is_batch filed_there.task ≡ true → filed_there.finished < 16 = λ done batch.
     low_by step.turned mid (with_unheard up c) (given_by step.gives) (never_turned (scans old.target.task) step.turned h.taken step.gives c h.gives_out (sym (ap (λ (z : ClientState). is_done z.outcome) first.client) ∙ done)) (holds.room (sym (ap is_batch first.task) ∙ batch)) in
     let q : Endpoint = without_ended_image r in
@@ -247,7 +247,7 @@ takes_alike w flying k own x old c p piece rest step holds l off ok standing the
         said = l.said;
         image = subst (λ (z : Option Image). ImageTracks false own (x.taken ++ piece) z) (sym still)
             (image_taken own x.taken piece rest p.image image (subst (λ (b : Bool). ImageTracks b own x.taken p.image) off l.image) has.at has.bytes standing);
-        files = files_kept (with_given step (record x { taken = x.taken ++ piece })).turned (with_given step (record x { taken = x.taken ++ piece })).given r q (record { file = refl; pages = refl; finished = refl; task = refl; over = λ over. over })
+        files = files_kept (with_given step (record x { taken = x.taken ++ piece })).turned (with_given step (record x { taken = x.taken ++ piece })).given r q (record { file = refl; pages = refl; finished = refl; task = refl; done = λ done. done })
             (last_files (with_given step (record x { taken = x.taken ++ piece })).turned (with_given step (record x { taken = x.taken ++ piece })).given filed_there low (files_filed step.turned x.turned x.given (given_by step.gives) mid (with_unheard up c) room had));
       };
     }

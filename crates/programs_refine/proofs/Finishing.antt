@@ -25,7 +25,7 @@ use Rattle.programs_refine.proofs.Lists.{there}
 use Rattle.programs_refine.proofs.Passed.{Passed, Traffics}
 use Rattle.programs_refine.proofs.Replied.{ends_as}
 use Rattle.programs_refine.proofs.Serving.{comes}
-use Rattle.programs_refine.proofs.Tracks.{FilesTrack, Follows, IsUnlinked, JobTracks, Moved, Tracks, files_kept, moved, new_files_track, not_moved, over_behind_loss}
+use Rattle.programs_refine.proofs.Tracks.{FilesTrack, Follows, IsUnlinked, JobTracks, Moved, Tracks, files_kept, moved, new_files_track, not_moved, done_behind_loss}
 use Rattle.programs_refine.proofs.Tracks.JobTracks.{Unlinked, Linked, Left}
 
 -- an event behind another of the same job
@@ -58,7 +58,7 @@ lost_now source before first w i x c p id pending dropped l are at link follows 
       m = comes source before first w i p q events.LoseControl e l at tt (subst IsSome (sym link) refl) does;
       losses = losses_more before (LoseControl i) are tt;
       ended = λ over. ends_as pending dropped (is_running p.client.outcome) c p.client refl follows over;
-      files = files_kept x.turned x.given p q (record { file = refl; pages = refl; finished = refl; task = refl; over = over_behind_loss links.Control p.client }) files;
+      files = files_kept x.turned x.given p q (record { file = refl; pages = refl; finished = refl; task = refl; done = done_behind_loss links.Control p.client }) files;
     }
 
 -- one that was not connected is connected first, or finds no place
@@ -85,7 +85,7 @@ connects_late source before first w owner opened passed i x job c p l are at u =
           m = comes source before first w i p q events.Connect w.daemon l at tt (runs, waits) does;
           losses = losses_more before (Connect i) are tt;
           ended = λ over. ends_as false false (is_running p.client.outcome) c p.client refl u.follows over;
-          files = files_kept x.turned x.given p q (record { file = refl; pages = refl; finished = refl; task = refl; over = over_behind_loss links.Control p.client }) files;
+          files = files_kept x.turned x.given p q (record { file = refl; pages = refl; finished = refl; task = refl; done = done_behind_loss links.Control p.client }) files;
         }
     by false room =
         let id : SessionId = record { number = w.daemon.opened } in
@@ -93,7 +93,7 @@ connects_late source before first w owner opened passed i x job c p l are at u =
         let e : Core = after_open_session w.daemon 1 in
         let does : Does w.daemon p events.Connect e q = (1, subst (λ (b : Bool). Connects 1 b w.daemon p e q) (sym room) (id, refl, refl, refl)) in
         let m = comes source before first w i p q events.Connect e l at tt (runs, waits) does in
-        let linked = files_kept x.turned x.given p q (record { file = refl; pages = refl; finished = refl; task = refl; over = λ over. over }) files in
+        let linked = files_kept x.turned x.given p q (record { file = refl; pages = refl; finished = refl; task = refl; done = λ done. done }) files in
         let lost = lost_now source m.events first m.v i x c q id false false m.leads (losses_more before (Connect i) are tt) m.own refl u.follows linked in
         record { q = lost.q; e = lost.e; m = twice source first w i q lost.q e lost.e m lost.m; losses = lost.losses; ended = lost.ended; files = lost.files }
 

@@ -27,7 +27,7 @@ use Rattle.scan_world.specs.Endpoints.{laid_by}
 use Rattle.scan_world.specs.JobEvents.{is_done, with_last_page}
 use Rattle.scan_world.proofs.Pulls.{laid_always, laid_as, laid_starved, laid_then, page_turns, set_beyond, set_here}
 use Rattle.programs_refine.specs.Programs.{HasFilesOf}
-use Rattle.programs_refine.proofs.Tracks.{FilesTrack, KeepsFiles, has_files}
+use Rattle.programs_refine.proofs.Tracks.{FilesTrack, KeepsFiles, done_is_over, has_files}
 use Rattle.programs_refine.proofs.Tracks.FilesTrack.{UnderWay, AllFinished}
 
 abbrev pub more_of : List ℕ → Option (List ℕ) → Option (List ℕ)
@@ -275,11 +275,6 @@ turned_runs old gives new e = ap is_running e.last.outcome ∙ turning_runs e.mi
     turning_runs (Done reports) progress on = absurd (let wrong : false ≡ true = on in cc)
     turning_runs (Ended status why) progress on = absurd (let wrong : false ≡ true = on in cc)
 
-done_is_over : (outcome : Outcome) → is_done outcome ≡ true → is_running outcome ≡ true → ⊥
-done_is_over Running done runs = let wrong : false ≡ true = done in cc
-done_is_over (Done reports) done runs = let wrong : false ≡ true = runs in cc
-done_is_over (Ended status why) done runs = let wrong : false ≡ true = done in cc
-
 pub never_turned : (b turned : Bool) (mid : ClientState) (gives : List JobMove) (c : ClientState) → GivesOut b turned mid gives c → is_done c.outcome ≡ true → turned ≡ true → ⊥
 never_turned true true mid gives c g done on = done_is_over c.outcome done (turned_runs mid gives c g)
 never_turned true false mid gives c g done on = let wrong : false ≡ true = on in cc
@@ -351,17 +346,12 @@ and_true : (a b : Bool) → (a && b) ≡ true → (a ≡ true) × (b ≡ true)
 and_true true b e = (refl, e)
 and_true false b e = absurd (let wrong : false ≡ true = e in cc)
 
-done_over : (outcome : Outcome) → is_done outcome ≡ true → is_running outcome ≡ false
-done_over Running done = absurd (let wrong : false ≡ true = done in cc)
-done_over (Done reports) done = refl
-done_over (Ended status why) done = refl
-
 last_by : (b : Bool) (texts : List (List ℕ)) (text : List ℕ) (p : Endpoint) → (is_done p.client.outcome && is_batch p.task) ≡ b → (is_done p.client.outcome ≡ true → is_batch p.task ≡ true → p.finished < 16) → HasFilesOf texts text p → FilesTrack texts text (if b then laid_by p else p)
 last_by false texts text p e low h = UnderWay h
 last_by true texts text p e low h =
     let both = and_true (is_done p.client.outcome) (is_batch p.task) e in
     let kept = laid_as_filed (nat_lt p.finished 16) p in
-    AllFinished (ap is_batch kept.task ∙ both.1) (ap (λ (v : ClientState). is_running v.outcome) kept.client ∙ done_over p.client.outcome both.0) (laid_files texts text p (low both.0 both.1) h)
+    AllFinished (ap is_batch kept.task ∙ both.1) (ap (λ (v : ClientState). is_done v.outcome) kept.client ∙ both.0) (laid_files texts text p (low both.0 both.1) h)
 
 pub last_files : (texts : List (List ℕ)) (text : List ℕ) (p : Endpoint) → (is_done p.client.outcome ≡ true → is_batch p.task ≡ true → p.finished < 16) → HasFilesOf texts text p → FilesTrack texts text (with_last_page p)
 last_files texts text p low h = last_by (is_done p.client.outcome && is_batch p.task) texts text p refl low h
@@ -369,4 +359,4 @@ last_files texts text p low h = last_by (is_done p.client.outcome && is_batch p.
 -- a job that runs has its file under way
 pub running_files : (texts : List (List ℕ)) (text : List ℕ) (p q : Endpoint) → KeepsFiles p q → is_running p.client.outcome ≡ true → FilesTrack texts text p → HasFilesOf texts text q
 running_files texts text p q k runs (UnderWay h) = has_files texts text p q k h
-running_files texts text p q k runs (AllFinished batch over h) = absurd (let wrong : true ≡ false = sym runs ∙ over in cc)
+running_files texts text p q k runs (AllFinished batch done h) = absurd (done_is_over p.client.outcome done runs)

@@ -1,5 +1,5 @@
 -- The programs are a world.
-use Rattle.std.proofs.Common.{◌≡◌, inl, inr, ℕ, Some, List, [], ◌∷◌, ◌++◌, length, slice_get, refl, sym, subst, arith}
+use Rattle.std.proofs.Common.{◌≡◌, inl, inr, ℕ, Some, List, [], ◌∷◌, ◌++◌, length, slice_get, refl, sym, subst, arith, ap, ◌∙◌}
 use Rattle.std.proofs.lemmas.List.Elements.{All-get_or}
 use Rattle.std.proofs.lemmas.Option.{get_or_from_slice_get, slice_get_within}
 use Rattle.scan_job.specs.declared.job.Job.{Job}
@@ -8,6 +8,7 @@ use Rattle.net_client.specs.ClientStates.{ClientState}
 use Rattle.net_jobs.specs.JobSteps.{JobStep, StepsLead, files_by_steps, given_by_steps}
 use Rattle.saned_serve.specs.Journal.{DaemonRuns, IsJournal, LoopAction}
 use Rattle.interleaving.specs.Interleavings.{job_journal}
+use Rattle.scan_world.specs.JobEvents.{is_done}
 use Rattle.scan_world.specs.Worlds.{WorldCore}
 use Rattle.scan_world.specs.declared.endpoint.Endpoint.{Endpoint}
 use Rattle.programs_refine.specs.Programs.{Acts, EndsAlike, ProgramsAreAWorld}
@@ -23,8 +24,8 @@ use Rattle.programs_refine.proofs.Tracks.FilesTrack.{UnderWay, AllFinished}
 ends_alike : (v : WorldCore) (i : ℕ) (acts : Acts) (last : ClientState) (p : Endpoint) → slice_get v.endpoints i ≡ Some p → p.client.outcome ≡ last.outcome → FilesTrack (files_by_steps (job_journal i acts)) (given_by_steps (job_journal i acts)) p → EndsAlike v i acts last
 ends_alike v i acts last p at outcome (UnderWay h) =
     record { endpoint = p; at = at; outcome = outcome; finished = files_by_steps (job_journal i acts); text = given_by_steps (job_journal i acts); files = h; went_out = inl (refl, refl) }
-ends_alike v i acts last p at outcome (AllFinished batch over h) =
-    record { endpoint = p; at = at; outcome = outcome; finished = files_by_steps (job_journal i acts) ++ given_by_steps (job_journal i acts) ∷ []; text = []; files = h; went_out = inr (batch, refl, refl) }
+ends_alike v i acts last p at outcome (AllFinished batch done h) =
+    record { endpoint = p; at = at; outcome = outcome; finished = files_by_steps (job_journal i acts) ++ given_by_steps (job_journal i acts) ∷ []; text = []; files = h; went_out = inr ((batch, ap is_done (sym outcome) ∙ done), refl, refl) }
 
 pub programs_are : ProgramsAreAWorld
 programs_are source jobs owner d acts last r wants =

@@ -27,7 +27,7 @@ use Rattle.programs_refine.proofs.Flowing.{waits_as}
 use Rattle.programs_refine.proofs.Lists.{delivers, keeps_rest, left_of, more_behind, moves_on, some_bytes, some_wait}
 use Rattle.programs_refine.proofs.Outgoing.{never_both, not_over, receiving_at, runs_by}
 use Rattle.programs_refine.proofs.Passed.{Passed, Traffics}
-use Rattle.programs_refine.proofs.Tracks.{Follows, HasLeft, ImageTracks, IsLinked, KeepsFiles, files_kept, image_bytes, lost_outcome, over_behind_loss, with_out}
+use Rattle.programs_refine.proofs.Tracks.{Follows, HasLeft, ImageTracks, IsLinked, KeepsFiles, files_kept, image_bytes, lost_outcome, done_behind_loss, with_out}
 use Rattle.programs_refine.proofs.Tracks.Follows.{Alike, Dialled, Lost, Cut}
 
 -- ---- replies that are taken
@@ -86,9 +86,9 @@ record IsFedAs (fed : Fed) (p q : Endpoint) : Type 0 where
   keeps : KeepsFiles p q
 
 fed_as : (fed : Fed) (p : Endpoint) → IsFedAs fed p (after_fed fed p)
-fed_as feds.Standing p = record { is = refl; client = refl; link = refl; image = refl; keeps = record { file = refl; pages = refl; finished = refl; task = refl; over = λ over. over } }
-fed_as feds.Over p = record { is = refl; client = refl; link = refl; image = refl; keeps = record { file = refl; pages = refl; finished = refl; task = refl; over = λ over. over } }
-fed_as feds.Starved p = record { is = refl; client = refl; link = refl; image = refl; keeps = record { file = refl; pages = refl; finished = refl; task = refl; over = λ over. over } }
+fed_as feds.Standing p = record { is = refl; client = refl; link = refl; image = refl; keeps = record { file = refl; pages = refl; finished = refl; task = refl; done = λ done. done } }
+fed_as feds.Over p = record { is = refl; client = refl; link = refl; image = refl; keeps = record { file = refl; pages = refl; finished = refl; task = refl; done = λ done. done } }
+fed_as feds.Starved p = record { is = refl; client = refl; link = refl; image = refl; keeps = record { file = refl; pages = refl; finished = refl; task = refl; done = λ done. done } }
 
 -- the client's bytes are fewer, and else it is the same
 fed_linked : (own : Passed) (flying flying_new : List ℕ) (starved : Bool) (x : Traffics) (k : ℕ) (c : ClientState) (p q : Endpoint) (piece up rest out : List ℕ) → (l : IsLinked own flying x k c p) → l.out.up ≡ piece ++ up → out ≡ up ++ l.out.rest → q.client ≡ with_out out p.client → q.link ≡ p.link → q.image ≡ p.image → KeepsFiles p q
@@ -128,7 +128,7 @@ feeds w e k own flying flying_new starved x c p piece fed l still some short fro
       q = q;
       can = (subst IsSome (sym l.link) refl, some_wait piece (f.0 ++ l.out.rest) p.client.out some waits, some_bytes piece some);
       does = if_linked p.link l.id k (λ j. FeedsPiece j n w p e q) l.link l.number (fed, subst (λ (z : List ℕ). Feeds k w z fed e) (sym just) h, refl);
-      tracks = fed_linked own flying flying_new starved x k c p q piece f.0 l.out.rest (bytes_not_delivered n p.client.out) l f.1 kept became.client became.link became.image (record { file = became.keeps.file; pages = became.keeps.pages; finished = became.keeps.finished; task = became.keeps.task; over = became.keeps.over }) still;
+      tracks = fed_linked own flying flying_new starved x k c p q piece f.0 l.out.rest (bytes_not_delivered n p.client.out) l f.1 kept became.client became.link became.image (record { file = became.keeps.file; pages = became.keeps.pages; finished = became.keeps.finished; task = became.keeps.task; done = became.keeps.done }) still;
     }
 
 -- ---- the data connection is accepted
@@ -176,7 +176,7 @@ connects w k own flying x c p l less none waits =
         out = l.out;
         said = l.said;
         image = record { way = λ off told. sym (ap (λ (z : List ℕ). z ++ []) none); stands = λ a b d. refl; last_is = λ z at. (let same : record { bytes = []; is_last = false } ≡ z = cc in sym (ap (λ (y : Image). y.is_last) same)) };
-        files = files_kept x.turned x.given p q (record { file = refl; pages = refl; finished = refl; task = refl; over = λ over. over }) l.files;
+        files = files_kept x.turned x.given p q (record { file = refl; pages = refl; finished = refl; task = refl; done = λ done. done }) l.files;
       };
     }
 
@@ -211,10 +211,10 @@ shows Idle buf image e p at = record {
   image_is = refl;
   client = refl;
   link = refl;
-  keeps = record { file = refl; pages = refl; finished = refl; task = refl; over = λ over. over };
+  keeps = record { file = refl; pages = refl; finished = refl; task = refl; done = λ done. done };
 }
-shows (Bytes n) buf image e p at = record { bytes = refl; last = λ still. refl; sends = λ k. inl (image, at, refl, refl); image_is = refl; client = refl; link = refl; keeps = record { file = refl; pages = refl; finished = refl; task = refl; over = λ over. over } }
-shows (Last n) buf image e p at = record { bytes = refl; last = λ still. refl; sends = λ k. inl (image, at, refl, refl); image_is = refl; client = refl; link = refl; keeps = record { file = refl; pages = refl; finished = refl; task = refl; over = λ over. over } }
+shows (Bytes n) buf image e p at = record { bytes = refl; last = λ still. refl; sends = λ k. inl (image, at, refl, refl); image_is = refl; client = refl; link = refl; keeps = record { file = refl; pages = refl; finished = refl; task = refl; done = λ done. done } }
+shows (Last n) buf image e p at = record { bytes = refl; last = λ still. refl; sends = λ k. inl (image, at, refl, refl); image_is = refl; client = refl; link = refl; keeps = record { file = refl; pages = refl; finished = refl; task = refl; done = λ done. done } }
 
 image_shown : (own : Passed) (pending : Bool) (taken bytes : List ℕ) (step : DataStep) (image new : Image) (old : Option Image) → own.last ≡ false → ImageTracks pending own taken old → old ≡ Some image → new.bytes ≡ image.bytes ++ bytes → (image.is_last ≡ false → new.is_last ≡ (false || is_end_record step))
     → ImageTracks pending (record own { shown = own.shown ++ bytes; last = own.last || is_end_record step }) taken (Some new)
@@ -343,7 +343,7 @@ drops w k own flying x c p l image no_wish =
         out = record { up = l.out.up; rest = l.out.rest; sent_is = l.out.sent_is; out_is = out ∙ l.out.out_is; rest_is = l.out.rest_is };
         said = l.said;
         image = record { way = λ off told. never_both true refl told; stands = λ a d told. never_both true refl told; last_is = λ z at. absurd (let wrong : None ≡ Some z = at in cc) };
-        files = files_kept x.turned x.given p q (record { file = refl; pages = refl; finished = refl; task = refl; over = over_behind_loss links.Image p.client }) l.files;
+        files = files_kept x.turned x.given p q (record { file = refl; pages = refl; finished = refl; task = refl; done = done_behind_loss links.Image p.client }) l.files;
       };
     }
 
@@ -395,5 +395,5 @@ leaves w k own flying x c p l =
       q = q;
       can = subst IsSome (sym l.link) refl;
       does = if_linked p.link l.id k (λ j. (after_end_session w k ≡ after_end_session w j) × (q ≡ without_link (after_move p))) l.link l.number (refl, refl);
-      left = record { ended = λ over. ends_as l.pending own.dropped (is_running p.client.outcome) c p.client refl l.follows over; files = files_kept x.turned x.given p q (record { file = refl; pages = refl; finished = refl; task = refl; over = over_behind_loss links.Control p.client }) l.files };
+      left = record { ended = λ over. ends_as l.pending own.dropped (is_running p.client.outcome) c p.client refl l.follows over; files = files_kept x.turned x.given p q (record { file = refl; pages = refl; finished = refl; task = refl; done = done_behind_loss links.Control p.client }) l.files };
     }

@@ -536,7 +536,7 @@ opened_linked own flying x n port i owner opened passed job c p id number silent
     stands = λ imaging last told. never_both false imaging refl;
     last_is = λ z at. absurd (let wrong : None ≡ Some z = sym image ∙ at in cc);
   };
-  files = files_kept x.turned x.given p (with_link id (after_move p)) (record { file = refl; pages = refl; finished = refl; task = refl; over = λ over. over })
+  files = files_kept x.turned x.given p (with_link id (after_move p)) (record { file = refl; pages = refl; finished = refl; task = refl; done = λ done. done })
       (new_files_track job p x.turned x.given u.new (ap (λ (z : Traffics). z.turned) u.rest) (ap (λ (z : Traffics). z.given) u.rest));
 }
   where

@@ -1,16 +1,18 @@
 -- How a world stands behind what the programs did so far: its daemon has the replies that are on their way still, and the client of each
 -- job is that of its loop, but for what the daemon has not seen yet.
-use Rattle.std.specs.Prelude.{◌<◌, ◌≤◌, ◌||◌, IsSome, if◌then◌else◌}
+use Rattle.std.specs.Prelude.{◌<◌, ◌≤◌, ◌||◌, IsSome, if◌then◌else◌, ◌&&◌}
 use Rattle.std.proofs.Common.{◌≡◌, ◌≢◌, ◌∙◌, ◌⊎◌, inl, inr, ℕ, ◌+◌, Bool, true, false, cond, Option, Some, None, List, [], ◌∷◌, ◌++◌, slice_get, slice_set, refl, sym, ap, subst, arith, length}
 use Rattle.sane_fixed.specs.declared.status.Status.TheVariants as statuses
 use Rattle.page_picture.specs.Source.{SourceState}
 use Rattle.page_picture.specs.declared.sources.kinds.Source.{Source}
 use Rattle.scan_job.specs.declared.job.Job.{Job}
 use Rattle.scan_job.specs.declared.outcome.Outcome.{Outcome}
-use Rattle.scan_job.specs.declared.outcome.Outcome.TheVariants.{Ended}
+use Rattle.scan_job.specs.declared.outcome.Outcome.TheVariants.{Running, Done, Ended}
 use Rattle.scan_job.specs.declared.outcome.Why.TheVariants as whys
 use Rattle.client_replies.specs.declared.progress.Link.{Link}
-use Rattle.client_replies.specs.ProtocolStates.{is_batch, is_lost_by, is_receiving, is_running, wanted_port}
+use Rattle.client_replies.specs.declared.progress.Link.TheVariants as links
+use Rattle.client_replies.specs.declared.progress.Progress.{Progress}
+use Rattle.client_replies.specs.ProtocolStates.{is_batch, is_imaging, is_lost_by, is_receiving, is_running, wanted_port}
 use Rattle.net_client.specs.ClientStates.{ClientState, after_client_end}
 use Rattle.saned_core.specs.declared.session_slot.SessionId.{SessionId}
 use Rattle.saned_core.specs.DaemonStates.{Core, session_slot_of}
@@ -21,7 +23,7 @@ use Rattle.scan_world.specs.declared.event.JobEvent.{JobEvent}
 use Rattle.scan_world.specs.declared.endpoint.Endpoint.{Endpoint}
 use Rattle.scan_world.specs.declared.endpoint.Image.{Image}
 use Rattle.scan_world.specs.Endpoints.{IsNew, after_link_loss, with_data_opened}
-use Rattle.scan_world.specs.JobEvents.{Can, Does, Happens, IsFlowing, frame_state_at}
+use Rattle.scan_world.specs.JobEvents.{Can, Does, Happens, IsFlowing, frame_state_at, is_done}
 use Rattle.scan_world.specs.Worlds.{AtEndpoint, Leads, Runs, WorldCore}
 use Rattle.in_flight.proofs.Slots.{decide}
 use Rattle.programs_refine.specs.Programs.{HasFilesOf}
@@ -74,15 +76,15 @@ count_of pending = cond pending 1 0
 -- the file under way is what went out of it; or a batch is done with its last page, and that is finished too
 pub data FilesTrack (turned : List (List ℕ)) (given : List ℕ) (p : Endpoint) : Type 0 where
   UnderWay : HasFilesOf turned given p → FilesTrack turned given p
-  AllFinished : is_batch p.task ≡ true → is_running p.client.outcome ≡ false → HasFilesOf (turned ++ given ∷ []) [] p → FilesTrack turned given p
+  AllFinished : is_batch p.task ≡ true → is_done p.client.outcome ≡ true → HasFilesOf (turned ++ given ∷ []) [] p → FilesTrack turned given p
 
--- nothing of its files changes, and it does not run again
+-- nothing of its files changes, and a job that is done stays so
 pub record KeepsFiles (p q : Endpoint) : Type 0 where
   pub file : q.file ≡ p.file
   pub pages : q.pages ≡ p.pages
   pub finished : q.finished ≡ p.finished
   pub task : q.task ≡ p.task
-  pub over : is_running p.client.outcome ≡ false → is_running q.client.outcome ≡ false
+  pub done : is_done p.client.outcome ≡ true → is_done q.client.outcome ≡ true
 
 pub has_files : (finished : List (List ℕ)) (text : List ℕ) (p q : Endpoint) → KeepsFiles p q → HasFilesOf finished text p → HasFilesOf finished text q
 has_files finished text p q k h = record {
@@ -94,7 +96,7 @@ has_files finished text p q k h = record {
 
 pub files_kept : (turned : List (List ℕ)) (given : List ℕ) (p q : Endpoint) → KeepsFiles p q → FilesTrack turned given p → FilesTrack turned given q
 files_kept turned given p q k (UnderWay h) = UnderWay (has_files turned given p q k h)
-files_kept turned given p q k (AllFinished batch over h) = AllFinished (ap is_batch k.task ∙ batch) (k.over over) (has_files (turned ++ given ∷ []) [] p q k h)
+files_kept turned given p q k (AllFinished batch done h) = AllFinished (ap is_batch k.task ∙ batch) (k.done done) (has_files (turned ++ given ∷ []) [] p q k h)
 
 -- those of a job that was just begun
 pub new_files_track : (job : Job) (p : Endpoint) (turned : List (List ℕ)) (given : List ℕ) → IsNew job p → turned ≡ [] → given ≡ [] → FilesTrack turned given p
@@ -106,13 +108,26 @@ new_files_track job p turned given n no_pages no_bytes =
       each = λ k bytes at. absurd (let wrong : None ≡ Some bytes = at in cc);
     })))
 
--- a job that is over runs no more behind a loss
-pub over_behind_loss : (link : Link) (c : ClientState) → is_running c.outcome ≡ false → is_running (after_link_loss link c).outcome ≡ false
-over_behind_loss link c over = by (is_lost_by link c.outcome c.progress)
+pub done_is_over : (outcome : Outcome) → is_done outcome ≡ true → is_running outcome ≡ true → ⊥
+done_is_over Running done runs = let wrong : false ≡ true = done in cc
+done_is_over (Done reports) done runs = let wrong : false ≡ true = runs in cc
+done_is_over (Ended status why) done runs = let wrong : false ≡ true = done in cc
+
+lost_runs : (link : Link) (outcome : Outcome) (progress : Progress) → is_lost_by link outcome progress ≡ true → is_running outcome ≡ true
+lost_runs links.Control outcome progress e = e
+lost_runs links.Image outcome progress e = by (is_running outcome) e
   where
-    by : (b : Bool) → is_running (if b then after_client_end statuses.IoError whys.Lost c else c).outcome ≡ false
-    by true = refl
-    by false = over
+    by : (b : Bool) → (b && is_imaging progress) ≡ true → b ≡ true
+    by true e = refl
+    by false e = absurd (let wrong : false ≡ true = e in cc)
+
+-- a job that is done stays so behind a loss
+pub done_behind_loss : (link : Link) (c : ClientState) → is_done c.outcome ≡ true → is_done (after_link_loss link c).outcome ≡ true
+done_behind_loss link c done = by (is_lost_by link c.outcome c.progress) refl
+  where
+    by : (b : Bool) → is_lost_by link c.outcome c.progress ≡ b → is_done (if b then after_client_end statuses.IoError whys.Lost c else c).outcome ≡ true
+    by true e = absurd (done_is_over c.outcome done (lost_runs link c.outcome c.progress e))
+    by false e = done
 
 -- ---- one job
 

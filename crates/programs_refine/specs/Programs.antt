@@ -4,6 +4,8 @@ use Rattle.page_picture.specs.Source.{SourceState}
 use Rattle.page_picture.specs.declared.sources.kinds.Source.{Source}
 use Rattle.scan_job.specs.declared.job.Job.{Job}
 use Rattle.scan_job.specs.declared.job.Task.{Task}
+use Rattle.scan_job.specs.declared.outcome.Outcome.{Outcome}
+use Rattle.scan_world.specs.JobEvents.{is_done}
 use Rattle.scan_job.specs.JobSize.{HasCount}
 use Rattle.client_replies.specs.ProtocolStates.{is_batch, is_running}
 use Rattle.net_client.specs.ClientStates.{ClientState, IsNewClient}
@@ -63,9 +65,12 @@ pub record HasFilesOf (finished : List (List ℕ)) (text : List ℕ) (p : Endpoi
   pub room : length p.pages ≡ 16
   pub each : (k : ℕ) (bytes : List ℕ) → slice_get finished k ≡ Some bytes → slice_get p.pages k ≡ Some (Some bytes)
 
--- they are what went out; with its last page a batch that is done has none under way any more
-abbrev pub WentOut : Task → List (List ℕ) → List ℕ → List (List ℕ) → List ℕ → Type 0
-WentOut task turned last finished text = ((finished ≡ turned) × (text ≡ last)) ⊎ ((is_batch task ≡ true) × (finished ≡ turned ++ last ∷ []) × (text ≡ []))
+abbrev pub IsDoneBatch : Task → Outcome → Type 0
+IsDoneBatch task outcome = (is_batch task ≡ true) × (is_done outcome ≡ true)
+
+-- they are what went out; of a batch that is done with its last page none is under way any more
+abbrev pub WentOut : Type 0 → List (List ℕ) → List ℕ → List (List ℕ) → List ℕ → Type 0
+WentOut DoneBatch turned last finished text = ((finished ≡ turned) × (text ≡ last)) ⊎ (DoneBatch × (finished ≡ turned ++ last ∷ []) × (text ≡ []))
 
 -- a job that is over has that outcome in the world, and its files are what went out
 pub record EndsAlike (v : WorldCore) (i : ℕ) (acts : Acts) (last : ClientState) : Type 0 where
@@ -75,7 +80,7 @@ pub record EndsAlike (v : WorldCore) (i : ℕ) (acts : Acts) (last : ClientState
   pub finished : List (List ℕ)
   pub text : List ℕ
   pub files : HasFilesOf finished text endpoint
-  pub went_out : WentOut endpoint.task (files_by_steps (job_journal i acts)) (given_by_steps (job_journal i acts)) finished text
+  pub went_out : WentOut (IsDoneBatch endpoint.task last.outcome) (files_by_steps (job_journal i acts)) (given_by_steps (job_journal i acts)) finished text
 
 -- events of connections lead to a world whose daemon is the server's, but for replies that are on their way to their jobs
 pub record HasDaemonOf (source : Source → SourceState) (w : WorldCore) (end : Core) : Type 0 where
