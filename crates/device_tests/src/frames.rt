@@ -1,3 +1,4 @@
+ghost use Rattle.std.specs.Prelude.{◌<◌, length};
 ghost use Rattle.scan_frames.specs.Frames.{IsSetup};
 
 use crate::calls::answers_of;
@@ -67,22 +68,23 @@ fn opened<'a>(alloc: Global, file: &'a [u8], dpi: u32) -> Option<PnmPage<Cursor<
     PnmPage::open(alloc, Cursor::new(file), dpi).ok()
 }
 
-/// All bytes of the frame of a pass, by reads of at most seven bytes, how many reads gave some, and why the next gave
-/// none. None if the frame does not say which it is, and whether it was read, or never ends, or for lack of memory.
-fn frame_bytes<S: ByteRows>(
+/// All bytes of the frame of a pass, by reads into that buffer, how many reads gave some, and why the next gave none. None
+/// if the frame does not say which it is, and whether it was read, or never ends, or for lack of memory.
+fn frame_read_by<S: ByteRows>(
     alloc: Global,
     source: &mut S,
     setup: &Setup,
     pass: u32,
+    buf: &mut [u8],
 ) -> Result<Option<(Vec<u8>, u32, ReadEnd)>, BeginFault>
-    requires { IsSetup setup.now }
+    requires setup { IsSetup setup.now }
+    requires buf { 0 < length buf.old }
 {
     let mut frame = FrameRows::begin(alloc, source, setup, pass)?;
     let mut is_well = frame.is_new() && frame.pass() == pass;
     let mut out = Vec::new(alloc);
-    let mut buf = [0u8; 7];
     for reads in 0..1000u32 {
-        match frame.read(source, setup, &mut buf) {
+        match frame.read(source, setup, buf) {
             Ok(n) => {
                 is_well &= !frame.is_new() && out.extend_from_slice(&buf[..n]).is_ok();
             }
@@ -91,6 +93,18 @@ fn frame_bytes<S: ByteRows>(
         }
     }
     Ok(None)
+}
+
+/// The same by reads of at most seven bytes, so that most lines are given in pieces.
+fn frame_bytes<S: ByteRows>(
+    alloc: Global,
+    source: &mut S,
+    setup: &Setup,
+    pass: u32,
+) -> Result<Option<(Vec<u8>, u32, ReadEnd)>, BeginFault>
+    requires { IsSetup setup.now }
+{
+    frame_read_by(alloc, source, setup, pass, &mut [0u8; 7])
 }
 
 /// Whether the frame of a pass is these bytes, by so many reads if that is told, and ends so or is refused so.
@@ -131,6 +145,17 @@ pub fn shows(
     assert!(rt; is_frame(alloc, &mut source, setup, 0, want));
     let mut source = opened(alloc, file, dpi).expect(rt, "a page file");
     assert!(rt; is_frame(alloc, &mut source, setup, 0, want));
+    // Many lines are given whole now, others begin or end a read.
+    let Ok(Some((got, _, ReadEnd::End))) = frame_read_by(
+        alloc,
+        &mut source,
+        setup,
+        0,
+        &mut [0u8; 100],
+    ) else {
+        panic!(rt; "no frame")
+    };
+    assert!(rt; got.as_slice() == bytes);
 }
 
 #[test]

@@ -1,5 +1,5 @@
 -- Eight lanes of a vector, and sixteen.
-use Rattle.std.proofs.Common.{Fits, false, cond, ltb, w8, w16, map, replicate, subst, sym, ◌≡◌, ℕ, zero, suc, ◌+◌, ◌-◌, ◌*◌, ◌/◌, ◌%◌, ◌^◌, ◌<◌, ◌≤◌, List, [], ◌∷◌, ◌++◌, length, get_or, arith, refl, ap, ◌∙◌}
+use Rattle.std.proofs.Common.{Fits, false, cond, ltb, w8, w16, map, replicate, subst, sym, ◌≡◌, ℕ, ◌+◌, ◌-◌, ◌*◌, ◌/◌, ◌%◌, ◌^◌, ◌<◌, ◌≤◌, List, [], ◌∷◌, ◌++◌, length, get_or, arith, refl, ap, ◌∙◌}
 use Rattle.std.specs.Prelude.{slice_index}
 use Rattle.netpbm.specs.FileText.{binary, concat_up_to}
 use Rattle.scan_frames.specs.Line.{numbers}

@@ -122,7 +122,7 @@ first_frame s t setup pass height f after picture tall fresh =
       zeros = all_zeros (packing_of setup.scene.depth) (channels_within (format_at setup f.pass) * width_of setup) f.line fresh.zeros;
       made = let e = fresh.made in omega arith;
       left = let e = fresh.left in omega arith;
-      bytes = λ steady some. absurd (let e = fresh.made in omega arith);
+      bytes = λ steady some need. absurd (let e = fresh.made in omega arith);
     } in
     record {
       frame = subst (λ (u : SourceState). IsFrame u setup f) (sym after) frame;

@@ -1,20 +1,25 @@
 -- The bytes of a frame, given line after line.
-use Rattle.std.proofs.Common.{◌≡◌, ℕ, ◌<◌, ◌≤◌, ◌+◌, ◌-◌, ◌*◌, inl, inr, true, false, List, ◌++◌, length, take, drop, arith, refl, sym, ap, ◌∙◌, subst}
+use Rattle.std.proofs.Common.{◌≡◌, ℕ, ◌<◌, ◌≤◌, ◌+◌, ◌-◌, ◌*◌, inl, inr, true, false, List, ◌++◌, length, take, drop, length-append, arith, refl, sym, ap, ◌∙◌, subst}
 use Rattle.std.specs.Prelude.{min}
 use Rattle.std.proofs.lemmas.Bool.{cases_lt}
 use Rattle.std.proofs.lemmas.Bool.Decides.{nat_tests}
-use Rattle.std.proofs.lemmas.List.{drop-drop}
+use Rattle.std.proofs.lemmas.List.{drop-drop, get_or_past}
 use Rattle.std.proofs.lemmas.Nat.{mul-le}
-use Rattle.std.proofs.Math.Seq.{take-add}
+use Rattle.std.proofs.Math.Seq.{take-add, take-length, take-append_seam}
 use Rattle.page_picture.specs.Page.{PageView}
+use Rattle.page_picture.specs.Shows.{channels_within}
 use Rattle.page_picture.specs.Source.{SourceState, CountsFailure}
 use Rattle.scan_frames.specs.declared.setup.Setup.{Setup}
-use Rattle.scan_frames.specs.Frames.{height_of, bytes_per_line, line_bytes, payload, pass_length}
+use Rattle.scan_frames.specs.declared.setup.Packing.{Packing}
+use Rattle.scan_frames.specs.declared.setup.Packing.TheVariants.{Bytes}
+use Rattle.scan_frames.specs.Line.{packing_of, line_size}
+use Rattle.scan_frames.specs.Frames.{height_of, width_of, format_at, bytes_per_line, line_bytes, payload, pass_length}
+use Rattle.scan_frames.specs.Samples.{HasZeros}
 use Rattle.scan_frames.specs.Rows.{TakesRows, StopsFailing}
-use Rattle.scan_frames.specs.PassReading.{FrameProgress, IsFrame, GivesFrameBytes, given_in}
-use Rattle.scan_frames.specs.Inside.{IsLineCounted, HasLineBytes, GivesLine, HasGivenOfFrame, GivesOfLine, is_frame_over}
-use Rattle.scan_frames.proofs.Scans.{length-line_bytes, joined_part, mul-split, lines_and_front}
-use Rattle.scan_frames.proofs.Frames.{more_left, ready_end}
+use Rattle.scan_frames.specs.PassReading.{FrameProgress, IsFrame, GivesFrameBytes, given_in, row_of}
+use Rattle.scan_frames.specs.Inside.{IsLineCounted, MakesLine, MakesOfRow, HasLineBytes, GivesLine, HasGivenOfFrame, GivesOfLine, is_frame_over}
+use Rattle.scan_frames.proofs.Scans.{length-line_bytes, joined_part, mul-split, lines_and_front, next_frame}
+use Rattle.scan_frames.proofs.Frames.{more_left, ready_end, ready_made, some_bytes}
 
 -- ---- whether a frame is over
 
@@ -87,7 +92,7 @@ gives_of_line s t setup old mid new n buf room has gives =
       zeros = is.zeros;
       made = is.made;
       left = omega arith;
-      bytes = is.bytes;
+      bytes = λ steady some need. is.bytes steady some (inl has.some);
     } in
     let counted : IsLineCounted (record mid { left = mid.left - n }) = record {
       none = λ e. absurd (omega arith);
@@ -104,7 +109,7 @@ gives_of_line s t setup old mid new n buf room has gives =
         further = ap given_in gives.after ∙ omega arith;
         bytes = λ steady.
             let steady_too : t.steady ≡ true = ap (λ (u : SourceState). u.steady) has.source.after ∙ steady in
-            let line : mid.line ≡ line_bytes setup s.page mid.pass (mid.made - 1) = is.bytes steady_too some_made ∙ ap (λ (p : PageView). line_bytes setup p mid.pass (mid.made - 1)) page in
+            let line : mid.line ≡ line_bytes setup s.page mid.pass (mid.made - 1) = is.bytes steady_too some_made (inl has.some) ∙ ap (λ (p : PageView). line_bytes setup p mid.pass (mid.made - 1)) page in
             let last : mid.made - 1 < h = omega (arith, is.made) in
             let part = joined_part (line_bytes setup s.page mid.pass) b h (mid.made - 1) (b - mid.left) n (length-line_bytes setup s.page mid.pass) last (omega arith) in
             let place : given_in old ≡ (mid.made - 1) * b + (b - mid.left) = sym given ∙ (front ∙ ap (λ (k : ℕ). (mid.made - 1) * k + (k - mid.left)) size) in
@@ -114,6 +119,81 @@ gives_of_line s t setup old mid new n buf room has gives =
             ∙ (sym part
             ∙ (ap (λ (k : ℕ). take n (drop k (payload setup s.page mid.pass))) (sym place)
             ∙ ap (λ (p : ℕ). take n (drop (given_in old) (payload setup s.page p))) has.pass_is))));
+      };
+    }
+
+-- ---- a whole line, given where it was made
+
+-- in a line of samples of a byte each, which loses no pixel, nothing stands behind them
+pub no_filler : (setup : Setup) (pass count : ℕ) (line : List ℕ) → setup.scene.depth ≡ 8 → setup.loss ≡ 0 → count ≡ width_of setup → length line ≡ bytes_per_line setup pass → HasZeros (packing_of setup.scene.depth) (channels_within (format_at setup pass) * count) line
+no_filler setup pass count line depth loss wide size =
+    let m = channels_within (format_at setup pass) in
+    let bytes : packing_of setup.scene.depth ≡ Bytes = ap packing_of depth in
+    let all : width_of setup + setup.loss ≡ count = omega arith in
+    let long : length line ≡ m * count = size ∙ (ap (λ (p : Packing). line_size p m (width_of setup + setup.loss)) bytes ∙ ap (λ (n : ℕ). m * n) all) in
+    subst (λ (p : Packing). HasZeros p (m * count) line) (sym bytes) (λ j h. get_or_past line j 0 (omega arith))
+
+-- a frame between two lines, with another last line, where the next line shows another row
+not_needed : (s t : SourceState) (setup : Setup) (f g : FrameProgress) → IsFrame s setup f → IsFrame t setup g → t.page ≡ s.page → f.left ≡ 0 → (row_of setup s.page f.made ≡ row_of setup s.page (f.made + 1) → ⊥)
+    → g.pass ≡ f.pass → g.made ≡ f.made + 1 → length g.line ≡ length f.line → IsFrame t setup (record g { line = f.line; left = 0 })
+not_needed s t setup f g was is page none alone pass made size = record {
+  picture = is.picture;
+  columns = is.columns;
+  tables = is.tables;
+  height = is.height;
+  row = is.row;
+  taken = is.taken;
+  within = is.within;
+  untaken = is.untaken;
+  behind = is.behind;
+  line = sym size ∙ is.line;
+  zeros = subst (λ (p : ℕ). HasZeros (packing_of setup.scene.depth) (channels_within (format_at setup p) * width_of setup) f.line) (sym pass) was.zeros;
+  made = is.made;
+  left = omega arith;
+  bytes = λ steady some need. elim need [
+    | inl left ↦ absurd (omega arith)
+    | inr same ↦ absurd (alone (
+        let last : g.made - 1 ≡ f.made = omega arith in
+        let here : row_of setup s.page (g.made - 1) ≡ row_of setup s.page g.made = subst (λ (p : PageView). row_of setup p (g.made - 1) ≡ row_of setup p g.made) page same in
+        ap (row_of setup s.page) (sym last) ∙ (here ∙ ap (row_of setup s.page) made)))
+  ];
+}
+
+pub gives_whole_line : (s t : SourceState) (setup : Setup) (f : FrameProgress) (line rest : List ℕ) → IsFrame s setup f → f.left ≡ 0 → f.made < f.height → row_of setup s.page f.made ≡ f.taken → (row_of setup s.page f.made ≡ row_of setup s.page (f.made + 1) → ⊥)
+    → HasZeros (packing_of setup.scene.depth) (channels_within (format_at setup f.pass) * f.columns.count) line → length line ≡ length f.line → MakesOfRow s setup f.pass t line
+    → GivesOfLine setup (record { source = s; frame = f }) (length f.line) (record { source = t; frame = record f { taken = f.taken + 1; made = f.made + 1 } }) (line ++ rest)
+gives_whole_line s t setup f line rest is none more next alone zeros size makes =
+    let b = length f.line in
+    let buf = line ++ rest in
+    let room : length line ≤ length buf = omega (arith, length-append line rest) in
+    let n = f.taken + 1 in
+    let g : FrameProgress = record f { taken = n; line = line; made = f.made + 1; left = length line } in
+    let taken = is.taken in
+    let below = makes.more in
+    let after : t ≡ record s { given = n } = makes.after ∙ ap (λ (k : ℕ). record s { given = k + 1 }) (sym taken) in
+    let made : MakesLine s setup f t g =
+    next_frame s t setup f g n is more after (omega arith) (omega arith) is.row (omega arith) zeros size (λ steady. makes.bytes steady f.made (next ∙ taken)) refl refl refl refl refl refl refl in
+    let has : HasLineBytes s setup f t g = ready_made s t setup f g is none made in
+    let h : FrameProgress = record g { left = length line - b } in
+    let some = some_bytes s setup f is in
+    let gives : GivesLine g b h buf = record {
+      count = omega arith;
+      bytes = ap (λ (k : ℕ). take k buf) (sym size) ∙ (take-append_seam line rest ∙ (sym (take-length line) ∙ (ap (λ (k : ℕ). take k line) size ∙ ap (λ (k : ℕ). take b (drop k line)) (let e : 0 ≡ length line - length line = omega arith in e))));
+      after = refl;
+    } in
+    let whole = gives_of_line s t setup f g h b buf (omega arith) has gives in
+    let page : t.page ≡ s.page = ap (λ (u : SourceState). u.page) after in
+    let frame : IsFrame t setup (record f { taken = n; made = f.made + 1; left = 0 }) = not_needed s t setup f h is whole.given.frame page none alone refl refl size in
+    record {
+      count = whole.count;
+      some = whole.some;
+      given = record {
+        source = whole.given.source;
+        frame = subst (λ (k : ℕ). IsFrame t setup (record f { taken = n; made = f.made + 1; left = k })) (sym none) frame;
+        counted = record { none = λ e. none; begun = λ begun. omega arith };
+        pass_is = refl;
+        further = (let e : (f.made + 1) * length f.line ≡ f.made * length f.line + length f.line = omega arith in omega arith);
+        bytes = whole.given.bytes;
       };
     }
 

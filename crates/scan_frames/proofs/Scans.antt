@@ -153,7 +153,7 @@ next_frame s t setup f g n is more after further within white behind zeros same_
           (subst (λ (c : Columns). HasZeros (packing_of setup.scene.depth) (channels_within format * c.count) g.line) is.columns zeros);
       made = omega arith;
       left = omega arith;
-      bytes = λ steady first.
+      bytes = λ steady first need.
           bytes steady
           ∙ (ap (line_bytes setup s.page f.pass) (sym last)
           ∙ ap (λ (p : ℕ). line_bytes setup s.page p (g.made - 1)) (sym gp));
@@ -217,7 +217,7 @@ frame_again s setup f is more begun same =
         zeros = is.zeros;
         made = omega arith;
         left = omega arith;
-        bytes = λ steady first. is.bytes steady begun ∙ (line_again setup s.page f.pass (f.made - 1) f.made same ∙ ap (line_bytes setup s.page f.pass) last);
+        bytes = λ steady first need. is.bytes steady begun (inr same) ∙ (line_again setup s.page f.pass (f.made - 1) f.made same ∙ ap (line_bytes setup s.page f.pass) last);
       };
       pass_is = refl;
       line = refl;

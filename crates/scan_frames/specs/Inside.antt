@@ -1,5 +1,5 @@
 -- What private functions alone promise.
-use Rattle.std.specs.Prelude.{ℕ, ◌+◌, ◌*◌, ◌/◌, ◌<◌, ◌≡◌, nat_lt, if◌then◌else◌, List, length, slice_index, get_or, ◌≤◌, true, ◌-◌, ◌%◌, ◌==◌, ◌&&◌, Bool, take, drop, min, []}
+use Rattle.std.specs.Prelude.{ℕ, ◌+◌, ◌*◌, ◌/◌, ◌<◌, ◌≡◌, ◌≢◌, nat_lt, if◌then◌else◌, List, length, slice_index, get_or, ◌≤◌, true, ◌-◌, ◌%◌, ◌==◌, ◌&&◌, Bool, take, drop, min, []}
 use Rattle.netpbm.specs.FileText.{binary, bits_byte}
 use Rattle.page_picture.specs.Columns.{Columns, place_at, columns_of}
 use Rattle.page_picture.specs.Page.{PageView, page_sample_at}
@@ -175,6 +175,14 @@ pub record GivesOfLine (setup : Setup) (was : FrameAndSource) (n : ℕ) (now : F
   pub count : n ≡ min (left_of_line was.frame) (length buf)
   pub some : 0 < n
   pub given : HasGivenOfFrame was.source setup was.frame n now.source now.frame buf
+
+-- the next line may be made apart from the line that a frame keeps: its row is the next, and no further line shows it, and
+-- all its bytes are samples of a byte each
+pub record MayBeMadeApart (setup : Setup) (page : PageView) (f : FrameProgress) : Type 0 where
+  pub filler : setup.loss ≡ 0
+  pub bytes : setup.scene.depth ≡ 8
+  pub next : row_of setup page f.made ≡ f.taken
+  pub alone : row_of setup page f.made ≢ row_of setup page (f.made + 1)
 
 -- Lines that are made of rows of bytes.
 

@@ -1,5 +1,5 @@
 -- A frame that is read, line by line, from a source that gives its page row by row.
-use Rattle.std.specs.Prelude.{ℕ, ◌+◌, ◌-◌, ◌*◌, ◌<◌, ◌≤◌, ◌≡◌, true, false, List, length, take, drop, min, Result, Ok, Err}
+use Rattle.std.specs.Prelude.{ℕ, ◌+◌, ◌-◌, ◌*◌, ◌<◌, ◌≤◌, ◌≡◌, ◌⊎◌, true, false, List, length, take, drop, min, Result, Ok, Err}
 use Rattle.page_picture.specs.Page.{PageView}
 use Rattle.page_picture.specs.Seen.{row_seen}
 use Rattle.page_picture.specs.Columns.{Columns, columns_of}
@@ -27,7 +27,7 @@ pub record FrameProgress : Type 0 where
   -- room for a row, with a white place behind it, and how many rows were taken
   pub row : List ℕ
   pub taken : ℕ
-  -- the last line that was made, how many were made, and how many bytes of the last were not given
+  -- the last line that was made, as long as it is needed, how many were made, and how many bytes of the last were not given
   pub line : List ℕ
   pub made : ℕ
   pub left : ℕ
@@ -40,8 +40,12 @@ given_in f = f.made * length f.line - f.left
 abbrev pub row_of : Setup → PageView → ℕ → ℕ
 row_of setup page y = row_seen setup.scene page.dpi y
 
+-- the last line is needed: some byte of it is left, or the next line shows the same row
+abbrev pub IsLineNeeded : Setup → PageView → FrameProgress → Type 0
+IsLineNeeded setup page f = (0 < f.left) ⊎ (row_of setup page (f.made - 1) ≡ row_of setup page f.made)
+
 -- the frame of a setup, read from a source in this state: no row was taken behind the one that its last line shows, and
--- where the source is steady, that line is the page's
+-- where the source is steady, that line, as long as it is needed, is the page's
 pub record IsFrame (s : SourceState) (setup : Setup) (f : FrameProgress) : Type 0 where
   pub picture : has_picture setup s.page ≡ true
   pub columns : f.columns ≡ columns_of setup.scene s.page.width s.page.dpi
@@ -56,7 +60,7 @@ pub record IsFrame (s : SourceState) (setup : Setup) (f : FrameProgress) : Type 
   pub zeros : HasZeros (packing_of setup.scene.depth) (channels_within (format_at setup f.pass) * width_of setup) f.line
   pub made : f.made ≤ f.height
   pub left : f.left ≤ length f.line
-  pub bytes : s.steady ≡ true → 0 < f.made → f.line ≡ line_bytes setup s.page f.pass (f.made - 1)
+  pub bytes : s.steady ≡ true → 0 < f.made → IsLineNeeded setup s.page f → f.line ≡ line_bytes setup s.page f.pass (f.made - 1)
 
 -- the frame of a pass of which nothing was given yet; its source begins at the page's first row
 pub record HasBegunPass (old : SourceState) (setup : Setup) (pass : ℕ) (f : FrameProgress) (new : SourceState) : Type 0 where

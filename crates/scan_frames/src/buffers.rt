@@ -1,11 +1,11 @@
 //! The buffers of a frame, and how lines are made and given.
 
-ghost use Rattle.std.specs.Prelude.{◌≡◌, ◌==◌, ◌≤◌, ◌<◌, ◌-◌, Ok, true, false, length, OnOk, OnErr, IfOk};
+ghost use Rattle.std.specs.Prelude.{◌≡◌, ◌==◌, ◌≤◌, ◌<◌, ◌-◌, Ok, true, false, length, OnOk, OnErr, IfOk, MatchBool};
 ghost use Rattle.scan_frames.specs.Rows.{IsWhiteBehind, StopsFailing};
 ghost use Rattle.scan_frames.specs.Samples.{IsZeroFrom};
 ghost use Rattle.scan_frames.specs.Frames.{IsSetup};
 ghost use Rattle.scan_frames.specs.PassReading.{IsFrame, ReadsFrame, row_of};
-ghost use Rattle.scan_frames.specs.Inside.{IsLineCounted, IsNewFrame, MakesLine, KeepsCount, HasLineBytes, GivesLine, GivesOfLine, is_frame_over, state_of};
+ghost use Rattle.scan_frames.specs.Inside.{IsLineCounted, IsNewFrame, MakesLine, KeepsCount, HasLineBytes, GivesLine, GivesOfLine, MayBeMadeApart, is_frame_over, state_of};
 
 use crate::byte_lines::byte_line;
 use crate::faults::ReadEnd;
@@ -255,6 +255,65 @@ fn give(buffers: &mut Buffers, buf: &mut [u8]) -> usize
     n
 }
 
+/// Whether the next line may be made apart from the one that the frame keeps: its row is the next, no further line shows it,
+/// and all its bytes are samples of a byte each.
+fn may_be_made_apart<S: PageSource>(buffers: &Buffers, source: &S, setup: &Setup) -> bool
+    requires setup { IsSetup setup.now }
+    requires more { buffers.now.made < 65536 }
+    ensures { MatchBool result
+        (MayBeMadeApart setup.now (S.source source.now).page (state_of buffers.now))
+        (¬ MayBeMadeApart setup.now (S.source source.now).page (state_of buffers.now)) }
+{
+    let row = row_of(source, setup, buffers.made);
+    setup.loss == 0
+        && setup.scene.depth == 8
+        && row == u64::from(buffers.taken)
+        && row != row_of(source, setup, buffers.made + 1)
+}
+
+/// Gives the next line whole, made where it is given and not in the frame's own room; false where that cannot be, and then
+/// nothing was done.
+fn give_whole_line<S: ByteRows>(
+    buffers: &mut Buffers,
+    source: &mut S,
+    setup: &Setup,
+    buf: &mut [u8],
+) -> Result<bool, SourceFault>
+    requires setup { IsSetup setup.now }
+    requires frame { IsFrame (S.source source.old) setup.now (state_of buffers.old) }
+    requires counted { IsLineCounted (state_of buffers.old) }
+    requires none_left { buffers.old.left ≡ 0 }
+    requires more { buffers.old.made < buffers.old.height }
+    requires room { length buffers.old.line.items ≤ length buf.old }
+    ensures given { result ≡ Ok true → GivesOfLine setup.now
+        (record { source = S.source source.old; frame = state_of buffers.old })
+        (length buffers.old.line.items)
+        (record { source = S.source source.new; frame = state_of buffers.new }) buf.new }
+    ensures none { result ≡ Ok false → (S.source source.new ≡ S.source source.old)
+        × (state_of buffers.new ≡ state_of buffers.old) }
+    ensures err { OnErr result (StopsFailing (S.source source.old) (S.source source.new)) }
+    ensures counted { OnErr result (IsLineCounted (state_of buffers.new)) }
+{
+    // The limits of a page.
+    let _size = source.size();
+    if !may_be_made_apart(buffers, source, setup) {
+        return Ok(false);
+    }
+    let is_made = byte_line(
+        source,
+        setup,
+        buffers.pass,
+        &buffers.tables,
+        &buffers.columns,
+        &mut buf[..buffers.line.len()],
+    )?;
+    if is_made {
+        buffers.taken += 1;
+        buffers.made += 1;
+    }
+    Ok(is_made)
+}
+
 /// Gives what is left of a line, or the next one where nothing is, but no more bytes than the buffer holds.
 fn give_of_line<S: ByteRows>(
     buffers: &mut Buffers,
@@ -273,6 +332,10 @@ fn give_of_line<S: ByteRows>(
     ensures err { OnErr result (StopsFailing (S.source source.old) (S.source source.new)) }
     ensures counted { OnErr result (IsLineCounted (state_of buffers.new)) }
 {
+    let size = buffers.line.len();
+    if buffers.left == 0 && size <= buf.len() && give_whole_line(buffers, source, setup, buf)? {
+        return Ok(size);
+    }
     make_ready(buffers, source, setup)?;
     Ok(give(buffers, buf))
 }
