@@ -27,7 +27,7 @@ use std::io::{ErrorKind, Read, Write};
 /// More than a file has bytes.
 pub(crate) const MOST_PULLS: u64 = 1 << 40;
 
-/// The most bytes that are read or written at once: a record of 65,540 bytes, as saned writes them, comes in one read.
+/// The most bytes that are read or written at once: a record of saned, at most 65,483 bytes, comes in one read.
 const PIECE: usize = 131_072;
 
 /// The most bytes that a client is given at once.

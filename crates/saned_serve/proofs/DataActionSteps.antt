@@ -13,7 +13,7 @@ use Rattle.saned_serve.specs.ListenerTraces.{ListenerTrace, with_notice}
 use Rattle.saned_serve.specs.ListenerTraces.Notice.{Dialed as Dials, Shut, Back}
 use Rattle.saned_serve.specs.SessionActions.{ActsOn, IsTurned, written_by, is_end_record, is_idle}
 use Rattle.saned_serve.specs.SessionActions.SessionAction.{Looks, Misses, Connect, Turn, Shows, Lose, HangsUp, Leaves}
-use Rattle.saned_serve.specs.Journal.{LoopAction, SessionProjection, projection_after, projection_of, listener_trace_act, AreEnds, Closing, JournalLeads, has_stopped, MayBeLeft, MayHandBackData}
+use Rattle.saned_serve.specs.Journal.{LoopAction, SessionProjection, projection_after, projection_of, listener_trace_act, AreEnds, Closing, JournalLeads, has_stopped, most_record, MayBeLeft, MayHandBackData}
 use Rattle.saned_serve.specs.Inside.{TurnPhase, IsAt, ImageTraceMatches, ImageTraceMatchesIn, LinkMatches, HasGoneOn, JournalGoesOn, SendsTo, SendsIn, hung_up, SessionHasEnded, LeavesSession, session_turn}
 use Rattle.saned_serve.specs.Journal.LoopAction.{Of}
 use Rattle.saned_serve.specs.Inside.TurnPhase.{Spoken, Dialed, Loaded, Shown}
@@ -119,7 +119,7 @@ not_idle : (step : DataStep) (records : List ℕ) {d e : Core} {number room : �
 not_idle step records some turned = never (is_idle step) (λ idle. some (turned.front ∙ idle_none step turned.buffer idle))
 
 -- a record is taken where none waits
-goes_turns : {C : Type 0} (history : C → Option ConnectionTrace) (d : Core) (n : Option ListenerTrace) (l : SessionLink C) (e : Core) (records : List ℕ) (last : Bool) (step : DataStep) (conn : C) → l.image ≡ Some conn → l.records ≡ [] → last ≡ is_end_record step → (is_idle step ≡ false → records ≢ []) → ActsOn l.id.number d (Turn 65540 step records) e
+goes_turns : {C : Type 0} (history : C → Option ConnectionTrace) (d : Core) (n : Option ListenerTrace) (l : SessionLink C) (e : Core) (records : List ℕ) (last : Bool) (step : DataStep) (conn : C) → l.image ≡ Some conn → l.records ≡ [] → last ≡ is_end_record step → (is_idle step ≡ false → records ≢ []) → ActsOn l.id.number d (Turn most_record step records) e
     → JournalGoesOn history (session_turn Dialed d n l) false (session_turn Loaded e n (record l { records = records; is_last = last }))
 goes_turns history d n l e records last step conn was none ended some does = record {
   same = refl;
@@ -128,7 +128,7 @@ goes_turns history d n l e records last step conn was none ended some does = rec
       let had : ImageTraceMatches (history conn) l.is_last l.records projection = subst (λ i. ImageTraceMatchesIn history i l.is_last l.records projection) was tells.carries in
       let alive = sym had.last ∙ none_waits l.is_last (λ b. had.more b none) in
       let all = all_taken (trace_bytes_written projection.image) l.records projection.shown none had.shown in
-      let act = Turn 65540 step records in
+      let act = Turn most_record step records in
       let first = trail_on (trail d0 n0 past d n l.id.number leads) act e refl does (tells.is_open, had.imaging, refl, alive, all, (tells.at.0.1, tells.at.2 (ap is_some was))) in
       let after = projection_after act projection in
       let carries : ImageTraceMatches (history conn) last records after = record {
@@ -154,7 +154,7 @@ goes_turns history d n l e records last step conn was none ended some does = rec
       });
 }
 
-pub goes_records : {C : Type 0} (history : C → Option ConnectionTrace) (d : Core) (n : Option ListenerTrace) (l : SessionLink C) (e : Core) (records : List ℕ) (last : Bool) (step : DataStep) (image : Option C) → l.image ≡ image → IsSome image → l.records ≡ [] → last ≡ is_end_record step → (is_idle step ≡ false → records ≢ []) → ActsOn l.id.number d (Turn 65540 step records) e
+pub goes_records : {C : Type 0} (history : C → Option ConnectionTrace) (d : Core) (n : Option ListenerTrace) (l : SessionLink C) (e : Core) (records : List ℕ) (last : Bool) (step : DataStep) (image : Option C) → l.image ≡ image → IsSome image → l.records ≡ [] → last ≡ is_end_record step → (is_idle step ≡ false → records ≢ []) → ActsOn l.id.number d (Turn most_record step records) e
     → JournalGoesOn history (session_turn Dialed d n l) false (session_turn Loaded e n (record l { records = records; is_last = last }))
 goes_records history d n l e records last step None was some none ended more does = cc
 goes_records history d n l e records last step (Some conn) was some none ended more does = goes_turns history d n l e records last step conn was none ended more does

@@ -169,7 +169,7 @@ abbrev pub most_reply : ℕ
 most_reply = 4096
 
 abbrev pub most_record : ℕ
-most_record = 65540
+most_record = 65483
 
 -- the one text begins the other
 abbrev pub IsFront : List ℕ → List ℕ → Type 0

@@ -17,8 +17,9 @@ use std::alloc::Global;
 /// The most bytes of replies that are taken at once.
 pub const MOST_REPLY: usize = 4096;
 
-/// The most bytes of a record, its length among them.
-pub const MOST_RECORD: usize = 65_540;
+/// The most bytes of a record, its length among them. So many go over loopback as one packet, whose 65,535 bytes are these
+/// and 52 of headers; the rest of a longer one would go as a packet of its own.
+pub const MOST_RECORD: usize = 65_483;
 
 /// A session with its control connection, its data port and the data connection of its frame.
 pub struct SessionLink<C> {
