@@ -128,6 +128,23 @@ fn is_frame<S: ByteRows>(
     }
 }
 
+/// Whether the frame of pass 0 is these bytes by reads into that buffer too.
+fn is_read_as<S: ByteRows>(
+    alloc: Global,
+    source: &mut S,
+    setup: &Setup,
+    bytes: &[u8],
+    buf: &mut [u8],
+) -> bool
+    requires setup { IsSetup setup.now }
+    requires buf { 0 < length buf.old }
+{
+    match frame_read_by(alloc, source, setup, 0, buf) {
+        Ok(Some((got, _, end))) => got.as_slice() == bytes && end == ReadEnd::End,
+        _ => false,
+    }
+}
+
 /// The frame of pass 0 on a page, in memory and in a file, is these bytes, by so many reads if that is told.
 pub fn shows(
     rt: &impl Abort,
@@ -145,17 +162,11 @@ pub fn shows(
     assert!(rt; is_frame(alloc, &mut source, setup, 0, want));
     let mut source = opened(alloc, file, dpi).expect(rt, "a page file");
     assert!(rt; is_frame(alloc, &mut source, setup, 0, want));
-    // Many lines are given whole now, others begin or end a read.
-    let Ok(Some((got, _, ReadEnd::End))) = frame_read_by(
-        alloc,
-        &mut source,
-        setup,
-        0,
-        &mut [0u8; 100],
-    ) else {
-        panic!(rt; "no frame")
-    };
-    assert!(rt; got.as_slice() == bytes);
+    // Now many lines are given whole, some end a read, and some are begun or ended by one. What was in the buffer is no part
+    // of the frame.
+    assert!(rt; is_read_as(alloc, &mut source, setup, bytes, &mut [9u8; 10]));
+    assert!(rt; is_read_as(alloc, &mut source, setup, bytes, &mut [9u8; 20]));
+    assert!(rt; is_read_as(alloc, &mut source, setup, bytes, &mut [9u8; 100]));
 }
 
 #[test]
@@ -170,6 +181,21 @@ fn rows_of_the_page_are_skipped(rt: HostRuntime) {
     let setup = flatbed(Mode::Gray, Packing::Bytes, 1, 2);
     let page = (b"P5\n1 4\n255\n\x01\x02\x03\x04".as_slice(), 52);
     shows(&rt, rt.alloc(), &setup, page, &[1, 3], None);
+}
+
+/// Lines that show rows 0, 0, 1, 1, 2, 3, 3 and 4: some rows serve two lines, and some one.
+#[test]
+fn some_rows_serve_two_lines(rt: HostRuntime) {
+    let setup = flatbed(Mode::Gray, Packing::Bytes, 1, 8);
+    let page = (b"P5\n1 5\n255\n\x01\x02\x03\x04\x05".as_slice(), 17);
+    shows(
+        &rt,
+        rt.alloc(),
+        &setup,
+        page,
+        &[1, 1, 2, 2, 3, 4, 4, 5],
+        None,
+    );
 }
 
 #[test]

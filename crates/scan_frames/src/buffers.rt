@@ -30,7 +30,7 @@ pub struct Buffers {
     row: Vec<u16>,
     /// The rows that were taken.
     taken: u32,
-    /// The last line that was made.
+    /// The last line that was made, as long as it is needed.
     line: Vec<u8>,
     /// The lines that were made.
     made: u32,

@@ -11,7 +11,7 @@ use std::alloc::Global;
 use std::marker::Model;
 
 /// The frame of a pass that is read, made line by line from a page source: it holds one row of the page and one line.
-/// Contracts see a `FrameState`.
+/// Contracts see a `FrameProgress`.
 #[derive(Drop)]
 pub struct FrameRows {
     buffers: Buffers,
