@@ -7,7 +7,7 @@ MAN = $(DESTDIR)$(PREFIX)/share/man
 DEMO_INPUT := flatbed 0 26 hex:50350a3220310a3235350a0ac8
 DEMO_WORDS := --config - --resolution 26 --br-x 1 --br-y 1
 
-.PHONY: demo help build install uninstall check above layout test more-edits failing-allocations hostile peer-check sane-check \
+.PHONY: demo help build install uninstall check above layout test mutants failing-allocations hostile peer-check sane-check \
 	bench need-rt need-crate
 
 # One scan from source, before any proof: about a minute.
@@ -61,14 +61,14 @@ layout: need-rt
 	tests/gate --layout
 
 # The gate: rt ci (every proof, the must-fail edits, the tests, the stored runs; what it passed before on this machine is not
-# done again) and the built programs case by case. It refuses a text for which make more-edits is due.
+# done again), a sample of the mutants, and the built programs case by case.
 test: need-rt
 	tests/gate
 
-# Tries the edits of crates/*/more-edits, which the prover must refuse as well, on which a change since tests/edits.record
-# bears, many in one check. All of them take more than two hours on four cores.
-more-edits: need-rt
-	tests/edits --changed
+# Tries all edits of crates/*/mutants and must-fail, which the prover must refuse, and writes docs/MUTANTS.md: hours. After the
+# change of one crate: tests/mutants CRATE.
+mutants: need-rt
+	tests/mutants
 
 # Runs the proved program with each allocation refused in turn. It needs a C compiler, so the gate leaves it out.
 failing-allocations: build
