@@ -7,7 +7,7 @@ MAN = $(DESTDIR)$(PREFIX)/share/man
 DEMO_INPUT := flatbed 0 26 hex:50350a3220310a3235350a0ac8
 DEMO_WORDS := --config - --resolution 26 --br-x 1 --br-y 1
 
-.PHONY: demo help build install uninstall check above layout test mutants failing-allocations hostile peer-check sane-check \
+.PHONY: demo help build install uninstall check above layout test mutants dist deb failing-allocations hostile peer-check sane-check \
 	bench need-rt need-crate
 
 # One scan from source, before any proof: about a minute.
@@ -47,6 +47,13 @@ install:
 # Takes away what install put there, with the same PREFIX and DESTDIR.
 uninstall:
 	rm -f $(BIN)/scanimage $(BIN)/saned $(MAN)/man1/scanimage.1 $(MAN)/man8/saned.8
+
+# Packs the proved programs into dist/, with their pages, documents, examples and what they were built from, for machines that have
+# no kit: a tarball, or a Debian package that stands beside sane-utils. make build comes first; else they make nothing.
+dist:
+	@packaging/pack dist
+deb:
+	@packaging/pack deb
 
 # Proves one crate: make check CRATE=dispatch. What stands above it is not looked at.
 check: need-rt need-crate
