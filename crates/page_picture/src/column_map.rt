@@ -82,6 +82,8 @@ impl ColumnMap {
         requires some { 1 ≤ scene.now.resolution }
         requires known { scene.now.resolution ≤ 1200 }
         requires dots { dpi ≤ 1200 }
+        /// `ColumnMap` has the column that each place of a line shows, and none off the page.
+        /// Carried by: `ColumnMap::new`, `at`
         ensures { IfOk result (λ columns. columns ≡ columns_of scene.now width dpi) }
     {
         let left = scene.left();
@@ -114,6 +116,8 @@ impl ColumnMap {
     /// other, at the page's own dots per inch.
     pub fn run(&self) -> Option<u32>
         ensures first { IfSome result (λ first. first ≡ self.now.left) }
+        /// It tells the first of them just where they lie on the page one beside the other, at its own dots per inch.
+        /// Carried by: `run` of `ColumnMap`
         ensures run { IfSome result (λ _. IsRun self.now) }
         ensures none { result ≡ None → ¬ (IsRun self.now) }
         ensures each { IfSome result (λ first. (x : ℕ)
