@@ -63,8 +63,6 @@ IsCallBy users d table (Some awaited) (Some (sent, place)) q call x = IsAwaitedC
 -- **call of a request (`IsCall`)**: the request as the model has it, at its word and its place: of an INIT of the daemon's
 -- major, of a SET whose value is of its option's type, of an OPEN with whether a users line names its backend, of an
 -- AUTHORIZE with whether it is allowed.
---
--- the call is the request, by these surroundings
 abbrev pub IsCall : List Entry → RequestContext → (ℕ → AbstractDevice) → AbstractSession → Asked → AddressedRequest → (ℕ → Environment) → Type 0
 IsCall users d table s q call x = IsCallBy users d table d.session.awaited s.awaited q call x
 

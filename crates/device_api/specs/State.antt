@@ -152,8 +152,6 @@ after_reset s = with_defaults (after_cancel s)
 
 -- **what a load makes (`takes_page`, `after_load`)**: a page is taken at rest, and by a feeder while it has fewer than 16;
 -- a feeder's new page is its last, another's takes the place of the one it had.
---
--- a device takes a page at rest, and a feeder while its tray has room
 abbrev pub takes_page : DeviceState → Bool
 takes_page s = is_at_rest s.phase && (not (feeds s) || nat_lt (length s.pages) tray_room)
 

@@ -36,8 +36,6 @@ seen_unplug f (Err e) = Err e
 
 -- **table (`Table`, `Place`, `Slot`)**: a place for each device handed in, with what it is: it is in, out with a lease, or
 -- gone. A table's invariant holds where each device that is in has its place's name.
---
--- a table of device states
 abbrev pub Table : Type 0
 Table = List (Place DeviceState)
 

@@ -4,8 +4,6 @@ use Rattle.flatbed_dev.specs.declared.feeder.FeederFault.{FeederFault}
 use Rattle.flatbed_dev.specs.declared.feeder.FeederFault.TheVariants.{TooMany, NoMem}
 
 -- **fault of a feeder (`HasFeederFault`)**: there are more than 16 pages; or, where memory ran out, there are not.
---
--- so many pages are too many; where memory ran out, they are not
 abbrev pub HasFeederFault : FeederFault → ℕ → Type 0
 HasFeederFault TooMany pages = 16 < pages
 HasFeederFault NoMem pages = pages ≤ 16

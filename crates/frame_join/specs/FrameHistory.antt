@@ -44,8 +44,6 @@ is_full_at None line size = is_side (size / line) && (size == size / line * line
 
 -- **a frame that has all its bytes (`is_full`)**: as many as its lines want; where they are not told, a whole number of
 -- lines from 1 to 65,536.
---
--- the frame has all its bytes
 abbrev pub is_full : Frame → Bool
 is_full frame = is_full_at frame.params.lines frame.params.bytes_per_line (length frame.payload)
 

@@ -97,9 +97,6 @@ pub record TurnsPage (old new : ClientState) : Type 0 where
 
 -- **a page's file taken (`TakesPage`)**: bytes that are not the file's last; or the last one, with which the file denotes
 -- the picture of the page's frames, START is asked for, and a new join stands.
---
--- Bytes of the file of a batch's page: where they are not its last, the client waits on for it to be taken; with the last
--- one the file is whole, that of the picture that the page's frames show, and the client turns to the next page.
 pub data TakesPage (old : ClientState) (past : JoinHistory) (bytes : List ℕ) (new : ClientState) : Type 0 where
   Stays : (IsWhole (past.given ++ bytes) → ⊥) → new ≡ record old { join = new.join } → ClientRepresents (after_pull bytes past) new → TakesPage old past bytes new
   Turns : IsWhole (past.given ++ bytes) → ((p : Picture) → ShowsFrames past.ended p → Denotes (past.given ++ bytes) p) → TurnsPage old new → ClientRepresents empty_history new → TakesPage old past bytes new

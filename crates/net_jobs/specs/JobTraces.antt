@@ -112,9 +112,6 @@ pub record ControlBytes : Type 0 where
 
 -- **Did** (`BytesMatchTrace`, `ControlBytes`): of what was read a front spells the replies of the trace, and the rest
 -- waits; what was written, with what is left to go out, is the greeting and what the trace sent.
---
--- What a job did so far: of what it read on the control connection a front spells the replies of its trace, and the rest
--- waits; what it wrote there is a front of its greeting and what it sent for the replies, and the others are to go out.
 pub record BytesMatchTrace (job : Job) (trace : JobTrace) (bytes : ControlBytes) : Type 0 where
   pub events : List TraceEvent
   pub hello : List ℕ

@@ -16,8 +16,6 @@ IsRepresentable (Words words) = All (FitsSigned w32) words
 IsRepresentable (Text text) = IsText text
 
 -- **values that take memory (`takes_memory`)**: words in a row and texts, but no flag and no single word.
---
--- words in a row and texts take memory, one word does not
 abbrev pub takes_memory : Value → Bool
 takes_memory (Flag _) = false
 takes_memory (Int _) = false

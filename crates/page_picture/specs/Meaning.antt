@@ -33,7 +33,5 @@ picture_of page_view scene size = record {
 
 -- **meaning (`meaning_of`, `sample_of`)**: the picture of the extent whose samples are the tones of what is seen, in their
 -- channels; none where there is no extent.
---
--- none where the scene has no extent on the page
 abbrev pub meaning_of : PageView → Scene → Option Picture
 meaning_of page_view scene = option_map (picture_of page_view scene) (extent_of page_view scene)

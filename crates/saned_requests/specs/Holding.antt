@@ -16,8 +16,6 @@ seen_session f s = record { port = s.port; strings = s.strings; greeted = s.gree
 
 -- **what a session holds (`held_by`, `on_word`, `free_word`, `given_back`)**: what a word stands for, something else in its
 -- place, the least free word, and the table once all leases are back.
---
--- what a word of a session stands for
 unfoldable pub held_by : {S : Type 0} → List (Option (Lease S)) → ℕ → Option (Lease S)
 held_by [] word = None
 held_by (h ∷ held) zero = h

@@ -146,8 +146,6 @@ frame_of s page pass = record {
 -- **frames of a scan (`frames_of`, `params_at`, `payload`)**: one frame; in color on a three-pass scanner three, a color
 -- each, in the order of passes. What is told of a pass has 0 for width, lines and bytes per line where there is no picture;
 -- a hand scanner does not tell its lines. A pass's bytes are its lines one after another.
---
--- all frames of a scan, in the order of its passes
 abbrev pub frames_of : Setup → PageView → List Frame
 frames_of s page =
     if takes_colors s.scene.kind s.scene.mode

@@ -64,8 +64,6 @@ value_at scene format row columns x k = sample_in_row scene row (place_at column
 
 -- **dark dots (`dark`, `darks_from`)**: one for a sample below 32,768, and zero for any other; of eight dots a byte, the
 -- leftmost as its most significant bit.
---
--- one of a sample below half of the greatest, and zero of any other
 abbrev pub dark : ℕ → ℕ
 dark v = if nat_lt v 32768 then 1 else 0
 

@@ -20,9 +20,9 @@ pub fn do_job<W: Write>(
     job: &Job,
     output: &mut W,
 ) -> Result<Printout, Ending>
-    /// `do_job` gives what is to be printed just where the job is done: its output then took the whole file of the
-    /// picture that the settings in force mean on the scanner's page (where the page's source is steady), or nothing,
-    /// where the job is no scan.
+    /// `do_job` gives what is to be printed just where the job is done: an output that tells its bytes then took the
+    /// whole file of the picture that the settings in force mean on the scanner's page (where the page's source is
+    /// steady), or nothing, where the job is no scan.
     /// Carried by: `done` of `do_job`: `DoesJob`
     ///
     /// What is to be printed is the list or the table of the job's reports, and a line for each setting that was
@@ -31,7 +31,7 @@ pub fn do_job<W: Write>(
     ensures done { IfOk result (λ printed.
         DoesJob job.now (record { device = state device.old; output = W.contents output.old })
         (record { device = state device.new; output = W.contents output.new }) printed) }
-    /// Where it gives an ending instead, the output took no whole file.
+    /// Where it gives an ending instead, an output that tells its bytes took no whole file.
     ensures no_file { OnErr result (LeavesNoFile (W.contents output.old) (W.contents output.new)) }
     /// That ending is the status and the why with which the job stopped, neither GOOD nor EOF, for a reason that
     /// `run_local` names; and the scanner is at rest in each case.

@@ -35,15 +35,15 @@ pub fn do_net_job<C: Read + Write, D: Dial, W: Write>(
     output: &mut W,
 ) -> Result<Printout, Ending>
     /// `do_net_job` gives what is to be printed just where the job is done by the client's rules, for the replies
-    /// that it read and the frames that came: the output then took the whole file of the picture that these frames
-    /// show.
+    /// that it read and the frames that came: an output that tells its bytes then took the whole file of the picture
+    /// that these frames show.
     /// Carried by: `done` of `do_net_job`: `DoesNetJob`
     ensures done { IfOk result (DoesNetJob (views_of C.remaining C.contents D.ports)
         (record { host = host.now; job = job })
         (seen D.coming W.contents (streams control.old dial.old output.old))
         (seen D.coming W.contents (streams control.new dial.new output.new))) }
-    /// Where it gives an ending instead, the output took no whole file, and the ending is the status and the why with
-    /// which the job stopped, never GOOD, whatever the daemon says.
+    /// Where it gives an ending instead, an output that tells its bytes took no whole file, and the ending is the
+    /// status and the why with which the job stopped, never GOOD, whatever the daemon says.
     /// Carried by: `no_file`, `ended` of `do_net_job`
     ensures no_file { OnErr result (StopsShort (W.contents output.old) (W.contents output.new)) }
     ensures ended { IfErr result (EndsNetJob

@@ -9,8 +9,6 @@ use Rattle.system_model.specs.Variant.{job_variant}
 
 -- **round robin (`AreMoves`, `RunsToTheEnd`)**: moves of the first n jobs one after another, to where none of them is under
 -- way.
---
--- each step is a move of one of the first n jobs, which is under way
 abbrev pub AreMoves : ℕ → SystemState → List Transition → Type 0
 AreMoves n s [] = Unit {0}
 AreMoves n s (By i x ∷ xs) = (i < n) × IsUnderWay (s.job i).client.stage × IsMove (s.job i) x × AreMoves n (after_transition s (By i x)) xs

@@ -51,8 +51,6 @@ AllAfter Good before (line ∷ more) = Good before line × AllAfter Good (before
 
 -- **first faulty line (`IsFirstFaulty`)**: the text's lines are some good ones, each judged after those before it, then one
 -- that is not; its number is one more than how many stand before it.
---
--- the line of that number, counted from 1, is the first of the text that is not good
 pub record IsFirstFaulty (Good Bad : List (List ℕ) → List ℕ → Type 0) (text : List ℕ) (number : ℕ) : Type 0 where
   pub before : List (List ℕ)
   pub line : List ℕ

@@ -14,8 +14,6 @@ device_info_of kind name = record { name = name; vendor = codes "Virtual"; model
 
 -- **a new scanner (`new_device`, `new_scanner`)**: of a kind and a name, at rest, its options at their defaults, with the
 -- pages of sources, or with one.
---
--- a scanner with these pages at rest, its options at their defaults
 abbrev pub new_device : DeviceKind → List ℕ → List SourceState → ByteOrder → DeviceState
 new_device kind name sources order = record {
   info = device_info_of kind name;

@@ -19,8 +19,6 @@ use Rattle.wire_message.specs.Message.{message_limit, request, reply}
 
 -- **what a decoder stands for (`DecoderState`, `HasDecoded`)**: the bytes no message was taken from and the fault; the
 -- bytes fed are the spellings of the messages taken, and then these.
---
--- the bytes no message was taken from, and the fault from which on it gives none
 pub record DecoderState : Type 0 where
   pub rest : List ℕ
   pub fault : Option WireFault

@@ -24,8 +24,6 @@ on_rest behind past (Err stop) = Err (past_limit past stop)
 
 -- **limit (`limited_format`, `NeedsMore`, `IsNoStart`, `IsFirstFault`)**: the spellings of at most so many bytes; reading
 -- looks at no byte behind them; past the limit to want more is `TooLong`.
---
--- the texts of at most n bytes; reading looks at no byte behind the first n
 unfoldable pub limited_format : {A : Type 0} → ℕ → Format A → Format A
 limited_format n F = record {
   spells = λ text a. (length text ≤ n) × F.spells text a;

@@ -100,9 +100,6 @@ history_up_to h events = record h { events = events }
 -- **had a failure (`HadFailure`, `NamesIoError`)**: a source of the job's device failed in one of the events of a history:
 -- of a world to which those in front of it led, and the daemon that it led to; the settings of a job in force on its device
 -- say IO_ERROR.
---
--- A source of its device failed in one of the events: in the world that those in front of it led to its session held the device, and the
--- daemon behind it has the device stopped, with one failure more.
 pub record HadFailure (h : History) (i : ℕ) (job : Job) : Type 0 where
   pub front : List Event
   pub event : Event
@@ -214,8 +211,6 @@ LoadsNothing event = Unit {0}
 
 -- **ran out (`RunsOut`, `LoadsNothing`, `NoneRuns`, `KeepsRunning`)**: moves came, at most as many as all jobs had left,
 -- none of which lays a page in or takes a device out, and then no job runs.
---
--- `run_all`: moves came, at most as many as all jobs had left, which led to the new world; and then no job runs
 pub record RunsOut (h : History) (old new : WorldCore) : Type 0 where
   pub moves : List Event
   pub few : length moves ≤ total_left old.endpoints

@@ -96,8 +96,6 @@ OutcomesAreRight = (t : Ghost) (w : WorldCore) (i : ℕ) (endpoint : Endpoint) �
 
 -- **meant (`IsMeant`, `FileIsOfFirstStart`, `HasScannedPage`)**: the file denotes the picture that the settings in force
 -- mean on the page of a start: the first one of a scan, that of its number for a page of a batch.
---
--- the file denotes exactly the picture that the job's settings mean on the page of this start
 pub record IsMeant (make : Make) (settings : List (List ℕ × List ℕ)) (begin : Begin) (file : List ℕ) : Type 0 where
   pub picture : Picture
   pub in_force : option_map (λ r. r.0) (devices.in_force make.model make.order settings) ≡ Some begin.options
