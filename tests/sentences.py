@@ -84,12 +84,11 @@ def paragraphs(comment):
 
 def exported(root, crate):
     """The names that a crate hands on."""
-    names = set()
-    for line in "\n".join(read(f"{root}/crates/{crate}/src/lib.rt")).split(";") if os.path.exists(f"{root}/crates/{crate}/src/lib.rt") else []:
-        used = re.search(r"^pub use [\w:]+::(?:\{([^}]*)\}|(\w+))$", line.strip(), re.MULTILINE)
-        names |= {it.strip() for it in (used[1] or used[2]).split(",")} if used else set()
-        names |= set(re.findall(r"^pub fn (\w+)", line, re.MULTILINE))
-    return names
+    path = f"{root}/crates/{crate}/src/lib.rt"
+    code = "\n".join(read(path)) if os.path.exists(path) else ""
+    used = re.findall(r"^pub use [\w:]+::(?:\{([^}]*)\}|(\w+));", code, re.MULTILINE)
+    own = re.findall(r"^pub (?:fn|struct|enum|trait) (\w+)", code, re.MULTILINE)
+    return {it.strip() for many, one in used for it in (many or one).split(",")} | set(own)
 
 
 def functions(lines, names):
@@ -166,15 +165,19 @@ def all_crates(root):
     return {it: Crate(root, it) for it in crates(root) if not it.endswith("_tests") and it != "bench"}
 
 
-def untold(root, read_crates):
-    """Each public clause that has no sentence."""
-    named = {}
-    for crate in read_crates.values():
-        for promise in crate.promises:
-            for name, them in named_in(promise.cell):
-                named.setdefault(name, []).append(them)
+def untold(read_crates):
+    """Each public clause that has no sentence. What a line `Carried by:` names is of its own crate, where that has such a function."""
+    owners, named = {}, {}
     for name, crate in read_crates.items():
-        for path, clause, function in crate.untold(named):
+        for _, function in crate.functions:
+            owners.setdefault(function.name, set()).add(name)
+    for name, crate in read_crates.items():
+        for called, clauses in (it for promise in crate.promises for it in named_in(promise.cell)):
+            of = owners.get(called, set())
+            for owner in {name} if name in of else of:
+                named.setdefault(owner, {}).setdefault(called, []).append(clauses)
+    for name, crate in read_crates.items():
+        for path, clause, function in crate.untold(named.get(name, {})):
             yield f"crates/{name}/src/{path}:{clause.line + 1}: a public clause without a sentence: {clause.name or ''} of {function.full}"
 
 
@@ -240,7 +243,7 @@ def files_told(where, crate, path, sentence):
     for name in re.findall(r"`([^`]+)`", re.match(r"((?:,? ?\*\*.*?\*\*(?: \([^)]*\))?)+)", sentence)[1]):
         at = where.get(name, {})
         home = crate if crate in at else next(iter(at)) if len(at) == 1 else None
-        told += [(home, at[home])] if home and (home, at[home]) not in told and name not in ("", None) else []
+        told += [(home, at[home])] if home and (home, at[home]) not in told else []
     return told
 
 

@@ -91,6 +91,7 @@ impl Client {
 
     /// A client of a job. A job that is refused comes back.
     pub fn new(alloc: Global, job: Job) -> Result<Client, (JobFault, Job)>
+        // Nothing has happened to it yet.
         ensures fresh { IfOk result (λ c. IsNewClient job c) }
         /// A job that is too large is refused and given back.
         ensures fault { IfErr result (λ e. HasJobFault job (Some e.0)) }

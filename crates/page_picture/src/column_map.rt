@@ -115,9 +115,8 @@ impl ColumnMap {
     /// The page's column that the first column of the picture shows, where all its columns lie on the page one beside the
     /// other, at the page's own dots per inch.
     pub fn run(&self) -> Option<u32>
-        ensures first { IfSome result (λ first. first ≡ self.now.left) }
         /// It tells the first of them just where they lie on the page one beside the other, at its own dots per inch.
-        /// Carried by: `run` of `ColumnMap`
+        ensures first { IfSome result (λ first. first ≡ self.now.left) }
         ensures run { IfSome result (λ _. IsRun self.now) }
         ensures none { result ≡ None → ¬ (IsRun self.now) }
         ensures each { IfSome result (λ first. (x : ℕ)

@@ -279,7 +279,7 @@ impl World {
     /// More moves than job i may still take: 0 just where it does not run, or there is no such job.
     pub fn moves_left(&self, i: usize) -> u64
         /// What these calls answer is, exactly, what `scan_world` says.
-        /// Carried by: `is` of each
+        /// Carried by: `is` of `World::outcome`, `file`, `file_at`, `finished`, `starved`, `next_move`, `moves_left`
         ensures is { let w = seen_world ⟦<Box<dyn Device> as Device>⟧.state self.now.inner in
             result ≡ left_at w i }
         /// A job that runs has moves left, and any other has none.
