@@ -1,8 +1,8 @@
 """The sentences that stand beside what they tell of, and the two pages that are made of them.
 
 A promise: a comment `///` directly above an `ensures` clause. Each paragraph is a row of docs/PROMISES.md. It tells of that
-clause and of those that follow it up to the next comment; where other clauses, laws or definitions carry it, its last lines
-say so: `Carried by: ..`. A paragraph that ends so may stand above any item too, as above a trait. A `//` there is a remark:
+clause and of those that follow it up to the next comment; or where other clauses, laws or definitions carry it, of what its
+last lines name: `Carried by: ..`. A paragraph that ends so may stand above any item too, as above a trait. A `//` there is a remark:
 it tells of its clauses in the text alone. A public clause has a sentence where one of these comments tells of it, where a line
 `Carried by:` names it or its function, or where no clause of its function has such a comment and the function has one.
 
@@ -139,7 +139,8 @@ class Crate:
             for function in here:
                 for at, clause in enumerate(function.clauses):
                     group = function.group(at)
-                    for each in group if clause.told or clause.is_remarked else []:
+                    is_of_all = clause.is_remarked or any(not cell for _, cell in clause.told)
+                    for each in group if is_of_all else [clause] if clause.told else []:
                         each.is_covered = True
                     for sentence, cell in clause.told:
                         self.promises.append(Promise(path, clause.line, function.full, sentence, cell or function.carried(group)))

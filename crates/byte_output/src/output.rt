@@ -15,6 +15,7 @@ pub fn put<W: Write>(to: &mut W, bytes: &[u8], again: &mut u64) -> bool
     ensures whole { IsTrue result → Appends (W.contents to.old) (W.contents to.new) bytes.now }
     ensures front { result ≡ false → (n : ℕ) × (n < length bytes.now)
         × Appends (W.contents to.old) (W.contents to.new) (take n bytes.now) }
+    // No more writes may be made again than before.
     ensures again { again.new ≤ again.old }
 {
     let mut at = 0;

@@ -83,7 +83,7 @@ impl Range {
         /// Of two equally close ones it is the greater in a range, and the first listed in a list.
         ensures nearest { NearestInRange self.now word result.0 }
         /// Each is flagged exactly where it differs from what was asked.
-        /// Carried by: `differs`
+        /// Carried by: `differs` of `Range::nearest_word`, `WordList::nearest_word`, `StringList::match_string`
         ensures differs { FlagsDifference result.1 word result.0 }
         // The same as a computation, for definitions that go on from it.
         ensures value { result.0 ≡ nearest_in_range self.now word }

@@ -72,6 +72,7 @@ pub trait Device: Drop {
             → result ≡ set_answer (state self.old) n value.now }
         ensures memory { result ≡ Err Status.NoMem
             → IsOk (set_answer (state self.old) n value.now) }
+        // The option then has the value that was given.
         ensures ok { IfOk result (λ given. state self.new ≡ after_set (state self.old) n given.0) }
         /// A refused `set` changes nothing.
         ensures err { OnErr result (state self.new ≡ state self.old) };
@@ -135,6 +136,7 @@ pub trait Device: Drop {
         /// `read` takes no memory.
         /// Carried by: `ReadsOn`
         ensures reads { Reads (state self.old) result (state self.new) buf.new }
+        // At most as many bytes were given as the buffer holds.
         ensures room { IfOk result (λ n. n ≤ length buf.new) };
 
     /// Ends the scan, if one is under way; a feeder then lets go of the page that was scanned.

@@ -124,6 +124,7 @@ pub fn run_local_batch<S: Shelf>(
         IsBatchEndedBy job.now (record { device = state device.old; stock = S.stock shelf.old })
         (record { device = state device.new; stock = S.stock shelf.new })
         (record { status = status; why = why })) }
+    // The scanner is at rest.
     ensures rest { is_at_rest (state device.new).phase ≡ true }
 {
     match run_local_batch_with(alloc, device, job, shelf, |_| Ok(())) {

@@ -568,6 +568,7 @@ impl Client {
         /// Carried by: `lost` of `Client::link_lost`
         ensures lost { self.new ≡ (if is_lost_by link self.old.outcome self.old.progress
             then after_client_end Status.IoError Why.Lost self.old else self.old) }
+        // It stands for the same histories.
         ensures serves { (past : JoinHistory)
             → ClientRepresents past self.old → ClientRepresents past self.new }
     {

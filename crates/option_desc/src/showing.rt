@@ -18,6 +18,7 @@ pub fn show_text(alloc: Global, desc: &Descriptor, value: &Value) -> Result<Text
     /// Carried by: `reads` of `show_text`
     ensures reads { Fits desc.now value.now
         → IfOk result (λ text. read_value desc.now text ≡ Some value.now) }
+    // The same as a computation, for definitions that go on from it.
     ensures value { IfOk result (λ text. text ≡ shown_text desc.now value.now) }
 {
     match value {

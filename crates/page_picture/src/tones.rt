@@ -111,6 +111,7 @@ pub fn sample(page: &Page, scene: &Scene, x: u32, y: u32, k: u32) -> u16
     /// `sample` is the definition of seen and tone, gray and color, depths 1, 8 and 16.
     /// Carried by: `value` of `sample`
     ensures value { result ≡ sample_of page.now scene.now x y k }
+    // It is at most the greatest sample of the depth.
     ensures limit { result ≤ greatest_at scene.now.depth }
 {
     let tone = toned(scene.depth, &scene.gamma, light(page, scene, x, y, k));

@@ -38,7 +38,9 @@ pub fn do_job<W: Write>(
     /// Carried by: `ended`, `rest` of `do_job`
     ensures ended { IfErr result
         (λ ending. EndsJob (state device.old) job.now (state device.new) ending) }
+    // Its exit status is not 0.
     ensures failed { IfErr result IsFailure }
+    // Of the scanner only options, phase and count of failures changed, and a feeder let go of a page.
     ensures runs { ChangesDevice (state device.old) (state device.new) }
     ensures rest { is_at_rest (state device.new).phase ≡ true }
 {
@@ -70,6 +72,7 @@ pub fn do_batch<S: Shelf>(
     ensures ended { IfErr result (λ ending.
         EndsBatch job.now (record { device = state device.old; stock = S.stock shelf.old })
         (record { device = state device.new; stock = S.stock shelf.new }) ending) }
+    // Its exit status is not 0.
     ensures failed { IfErr result IsFailure }
     ensures rest { is_at_rest (state device.new).phase ≡ true }
 {

@@ -49,6 +49,7 @@ pub fn do_net_job<C: Read + Write, D: Dial, W: Write>(
     ensures ended { IfErr result (EndsNetJob
         (stream_views (views_of C.remaining C.contents D.ports) D.coming W.contents) job
         (streams control.old dial.old output.old) (streams control.new dial.new output.new)) }
+    // Its exit status is not 0.
     ensures failed { IfErr result IsFailure }
 {
     let Ok((prefix, device)) = names_answered(alloc, host, &job) else {
@@ -83,6 +84,7 @@ pub fn do_net_batch<C: Read + Write, D: Dial, S: Shelf>(
     ensures ended { IfErr result (EndsNetBatch
         (stream_views (views_of C.remaining C.contents D.ports) D.coming S.stock) job
         (streams control.old dial.old shelf.old) (streams control.new dial.new shelf.new)) }
+    // Its exit status is not 0.
     ensures failed { IfErr result IsFailure }
 {
     let Ok((prefix, device)) = names_answered(alloc, host, &job) else {

@@ -179,6 +179,7 @@ impl Decoder {
         /// Carried by: `history` of `Decoder::feed`, `next_request`, `next_reply`
         ensures history { (fed : List ℕ) (taken : List TakenMessage) → HasDecoded fed taken self.old
             → OnOk result (HasDecoded (fed ++ piece.now) taken self.new) }
+        // A piece that is refused was not fed.
         ensures refused { (fed : List ℕ) (taken : List TakenMessage)
             → HasDecoded fed taken self.old → OnErr result (HasDecoded fed taken self.new) }
     {

@@ -69,6 +69,7 @@ impl World {
         ensures led { let states = map ⟦<Box<dyn Device> as Device>⟧.state devices.items in
             let h = begun states users jobs.items in
             IfOk result (λ w. LedTo h (seen_world ⟦<Box<dyn Device> as Device>⟧.state w.inner)) }
+        // It is the new world of these devices, users and jobs.
         ensures begins { let states = map ⟦<Box<dyn Device> as Device>⟧.state devices.items in
             IfOk result (λ w. IsInitialWorld states users seed jobs.items
             (seen_world ⟦<Box<dyn Device> as Device>⟧.state w.inner)) }
