@@ -3,22 +3,35 @@ PREFIX ?= /usr/local
 BIN = $(DESTDIR)$(PREFIX)/bin
 MAN = $(DESTDIR)$(PREFIX)/share/man
 
-# The first line of a scan: a page of one gray sample, 200, at 26 dots per inch.
-DEMO_INPUT := flatbed 0 26 hex:50350a3220310a3235350a0ac8
-DEMO_WORDS := --config - --resolution 26 --br-x 1 --br-y 1
+# Of make demo: a page of one gray sample, 200, at 26 dots per inch; and a color scan of a page of examples.
+PIXEL_CONFIG := flatbed 0 26 hex:50350a3220310a3235350a0ac8
+PIXEL_WORDS := --config - --resolution 26 --br-x 1 --br-y 1
+PICTURE_CONFIG := flatbed 0 30 hills.ppm
+PICTURE_WORDS := --config - --mode Color --resolution 30 -x 200 -y 135
 
-.PHONY: demo help build install uninstall check above layout test mutants dist deb failing-allocations hostile peer-check sane-check \
+.PHONY: demo docs help build install uninstall check above layout test mutants dist deb failing-allocations hostile peer-check sane-check \
 	bench need-rt need-crate
 
-# One scan from source, before any proof: about a minute.
+# Two scans from source, before any proof, side by side: one pixel, and a picture that it leaves as demo.ppm. A minute or two.
 demo: need-rt
-	@echo 'This run is not proved yet: rt try interprets the source as it is, in about a minute. make build proves it first.'
-	@echo 'command: scanimage $(DEMO_WORDS)'
-	@echo 'input:   $(DEMO_INPUT)'
+	@echo 'These runs are not proved yet: rt try interprets the source as it is, in a minute or two. make build proves it first.'
+	@rm -f demo.pgm demo.ppm
+	@cd crates/scanimage && { failed=; \
+	    echo '$(PIXEL_CONFIG)' | rt try -- $(PIXEL_WORDS) > ../../demo.pgm 2> ../../demo.log & pixel=$$!; \
+	    echo '$(PICTURE_CONFIG)' | rt try --data hills.ppm=../../examples/hills.ppm -- $(PICTURE_WORDS) \
+	        > ../../demo.ppm 2> ../../demo.picture.log & picture=$$!; \
+	    wait $$pixel || failed=1; wait $$picture || failed=1; } ; \
+	if [ -n "$$failed" ]; then cat ../../demo.log ../../demo.picture.log >&2; cd ../..; rm -f demo.log demo.picture.log demo.pgm demo.ppm; exit 1; fi
+	@echo 'one pixel'
+	@echo 'config:  $(PIXEL_CONFIG)'
+	@echo 'command: scanimage $(PIXEL_WORDS)'
 	@echo 'output, byte by byte:'
-	@cd crates/scanimage && echo '$(DEMO_INPUT)' | rt try -- $(DEMO_WORDS) 2>../../demo.log >../../demo.pgm || { cat ../../demo.log >&2; rm -f ../../demo.log ../../demo.pgm; exit 1; }
 	@od -A d -t x1z demo.pgm
-	@rm -f demo.log demo.pgm
+	@echo 'a picture, examples/hills.ppm in color'
+	@echo 'config:  $(PICTURE_CONFIG)'
+	@echo 'command: scanimage $(PICTURE_WORDS)'
+	@echo "output:  demo.ppm, $$(head -n 3 demo.ppm | tail -n 1 | sed 's/ / x /') dots, $$(wc -c < demo.ppm) bytes"
+	@rm -f demo.log demo.picture.log demo.pgm
 
 # Prints what stands here before each command.
 help:
@@ -62,6 +75,10 @@ check: need-rt need-crate
 # Proves every crate that stands on one, the lowest first, and says which they are; in crates of tests it runs the tests too.
 above: need-rt need-crate
 	tests/above $(CRATE)
+
+# Makes docs/PROMISES.md and docs/DEFINITIONS.md of the sentences that stand beside clauses and definitions.
+docs:
+	docs/make
 
 # Tests that every file is as rt fmt has it, which is where the gate begins.
 layout: need-rt

@@ -10,9 +10,12 @@ pub const MOST_AGAIN: u64 = 1 << 40;
 /// the writer took them all; one that fails or takes nothing of a write ends it, and then it took a proper front
 /// of them.
 pub fn put<W: Write>(to: &mut W, bytes: &[u8], again: &mut u64) -> bool
+    /// All bytes are written, or the writer took a proper front of them.
+    /// Carried by: `whole`, `front` of `put`
     ensures whole { IsTrue result → Appends (W.contents to.old) (W.contents to.new) bytes.now }
     ensures front { result ≡ false → (n : ℕ) × (n < length bytes.now)
         × Appends (W.contents to.old) (W.contents to.new) (take n bytes.now) }
+    // No more writes may be made again than before.
     ensures again { again.new ≤ again.old }
 {
     let mut at = 0;

@@ -20,6 +20,9 @@ use Rattle.client_refines.specs.ClientRefinement.{requested_setting, ClientRefin
 use Rattle.client_refines.specs.RequestRefinement.{asks_of}
 use Rattle.client_refines.specs.PieceRefinement.{SpellsSent}
 
+-- **calls that hear nothing (`NewClientsAreAlike`, `CancelsAreAlike`, `LossesAreAlike`)**: a client that is made,
+-- cancelled, or loses a link, by its contracts.
+--
 -- a client that is made for a job asks for its greeting
 abbrev pub NewClientsAreAlike : Type 0
 NewClientsAreAlike =

@@ -17,7 +17,9 @@ use Rattle.client_replies.specs.GivenValues.{given_like, wire_value_in}
 use Rattle.system_model.specs.AbstractMessages as words
 use Rattle.system_model.specs.Devices.{abstract_status, abstract_info}
 
--- the word that goes before an answer; an answer; or that the password itself is asked for, for which the model has no word
+-- **decoded reply (`DecodedReply`, `decoded_reply_at`)**: what a reply of the wire is to the model, by what the client
+-- waits for: an answer; the word of AUTHORIZE, that goes before one; or that the password itself is asked for, for which
+-- they have no word. A reply of another shape than what is awaited, or while none is, is an answer to what nobody asked.
 pub data DecodedReply : Type 0 where
   Before : DecodedReply
   Says : (answer : words.AbstractReply) → DecodedReply

@@ -8,6 +8,7 @@ use Rattle.system_model.specs.Devices.{Make, OptionsInForce, is_readable, readab
 abbrev pub shown_at : Make → OptionsInForce → ℕ → Descriptor → Descriptor × Option Value
 shown_at make in_force n desc = (desc, if is_readable desc then Some (readable_value make in_force n) else None)
 
--- at each number stands the option of the descriptor there, and nothing behind the last of them
+-- **filled (`IsFilled`)**: at each number the descriptor of that option, with its value where that is told, and nothing
+-- behind the last.
 abbrev pub IsFilled : Make → OptionsInForce → List Descriptor → List (Descriptor × Option Value) → Type 0
 IsFilled make in_force descriptors options = (n : ℕ) → slice_get options n ≡ option_map (shown_at make in_force n) (slice_get descriptors n)

@@ -62,6 +62,10 @@ Hearing job word h Before Holds = Holds h
 Hearing job word h (Says answer) Holds = Holds (listening_after job word h (hear_in h.client.stage job h.client answer))
 Hearing job word h Demands Holds = Holds (listening_after job word h (client_refusing h.client))
 
+-- **what a call hears and comes to (`HearingAll`, `HeedsAs`, `ReceivesPiece`, `TakesAs`)**: the client view goes from reply
+-- to reply, and what it asks for each time is laid up; by the case of the client's contract how the client reads then, and
+-- what was sent: of a piece of the control connection, of a data connection, and as a page's file is taken.
+--
 -- what is so of it once it has heard these, one after another
 abbrev pub HearingAll : (DeviceInfo → ℕ) → JobTarget → rules.AbstractJob → ProtocolState → List Reply → (ListeningClient → Type 0) → ListeningClient → Type 0
 HearingAll place target job t [] Holds h = Holds h

@@ -16,6 +16,8 @@ use Rattle.client_refines.specs.ClientRefinement.{task_of, ClientRefines}
 abbrev pub client_refusing : rules.ClientView → rules.ClientView
 client_refusing m = rules.with_ending words.AccessDenied words.Plain m
 
+-- **heard (`HeardAs`), read and closed (`protocol_after_bytes`, `protocol_after_end`), turned (`protocol_of_next_page`)**:
+-- how the client reads once a reply, bytes of a frame, its end record came, and once it turned to the next page.
 abbrev pub HeardAs : (DeviceInfo → ℕ) → JobTarget → rules.AbstractJob → List (List Frame) → ProtocolState → rules.ClientView → DecodedReply → Type 0
 HeardAs place target job pages protocol m Before = ClientRefines place target job pages protocol m
 HeardAs place target job pages protocol m (Says answer) = ClientRefines place target job pages protocol (hear_in m.stage job m answer)

@@ -40,7 +40,9 @@ pub record IsSet (word : ℕ) (known : List Descriptor) (n : ℕ) (request_for :
   pub reads : read_value desc text ≡ Some request_for
   pub value_is : value ≡ wire_of request_for
 
--- A request of the wire is one of the model, of a client with that target and device word, that knows these descriptors.
+-- **the same requests (`IsRequest`, `AreRequests`, `AsksAt`)**: which request of the wire is which of the model, for a
+-- client of that target and device word that knows these descriptors; for each thing waited for, what is asked as the wait
+-- begins, or later.
 abbrev pub IsRequest : JobTarget → ℕ → List Descriptor → Request → words.AbstractRequest → Type 0
 IsRequest target word known (requests.Init version user) words.Init = (version ≡ 16777219) × (user ≡ target.user)
 IsRequest target word known requests.GetDevices words.GetDevices = Unit {0}
@@ -57,6 +59,9 @@ IsRequest target word known (requests.Close device) words.Close = device ≡ wor
 IsRequest target word known requests.Exit words.Exit = Unit {0}
 IsRequest target word known q r = ⊥
 
+-- **what a call spells (`ExpectedRequest`, `SpellsSent`, `SpellsSentAt`)**: what the model asks for, with the device word
+-- and the descriptors of then; the bytes sent are spellings of such requests, one behind the other.
+--
 -- what the model asks for as the client has that device word and knows these descriptors
 pub record ExpectedRequest : Type 0 where
   pub request : words.AbstractRequest

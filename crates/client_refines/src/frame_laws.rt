@@ -1,8 +1,9 @@
 ghost use Rattle.client_refines.specs.PieceRefinement.{PagesAreTakenAlike, PiecesAreReceivedAlike};
 ghost use Rattle.client_refines.specs.FrameRefinement.{BytesAreReadAlike, FramesEndAlike, PagesTurnUnseen};
 
-/// Bytes of a frame are taken alike, where memory suffices.
 pub fn bytes_are_read_alike()
+    /// Bytes and the end of a frame are taken alike.
+    /// Carried by: `bytes_are_read_alike`, `frames_end_alike`, `pieces_are_received_alike`
     ensures { BytesAreReadAlike }
 {}
 
@@ -13,6 +14,9 @@ pub fn frames_end_alike()
 
 /// A client that turns to the next page of a batch is read as before.
 pub fn pages_turn_unseen()
+    /// The START of a batch's further page goes out with the last byte of the page's file; the reading stays as it
+    /// is.
+    /// Carried by: `pages_turn_unseen`, `pages_are_taken_alike`
     ensures { PagesTurnUnseen }
 {}
 

@@ -1,13 +1,14 @@
 ghost use Rattle.client_refines.specs.Calls.{CancelsAreAlike, ConnectionsAreUnseen, LossesAreAlike, NewClientsAreAlike};
 ghost use Rattle.client_refines.specs.ClientLives.{ClientsBeginAlike, JobsStopAlike, OutcomesAreAlike, PullsAndLinksAreUnseen};
 
-/// A new client is read as one that has asked for nothing yet but a greeting.
 pub fn clients_begin_alike()
+    /// A new client is read as one that has asked for nothing yet but a greeting.
     ensures { ClientsBeginAlike }
 {}
 
-/// A cancel, a loss and out of memory end a job alike.
 pub fn jobs_stop_alike()
+    /// A cancel, a loss and out of memory end a job alike.
+    /// Carried by: `jobs_stop_alike`, `calls_are_alike`, `pulls_and_links_are_unseen`
     ensures { JobsStopAlike }
 {}
 
@@ -28,5 +29,6 @@ pub fn calls_are_alike()
 /// A job is done for the client just where it is for the client view that it reads as, with the same reports, and has ended just
 /// where it has, with the same status and why.
 pub fn outcomes_are_alike()
+    /// It is done, or has ended, just where that client view is or has, with the same reports, status and why.
     ensures { OutcomesAreAlike }
 {}

@@ -11,7 +11,8 @@ use Rattle.client_replies.specs.declared.progress.Progress.TheVariants as stages
 use Rattle.client_replies.specs.GivenValues.{blank_value}
 use Rattle.wire_message.specs.WireValues.{wire_of}
 
--- what a job asks for as it begins to wait
+-- **asked (`request_for`, `goodbye`, `farewell`)**: the request that begins a wait; what a job that is done, or cancelled,
+-- sends last.
 abbrev pub request_for : JobTarget → ℕ → Progress → Option Request
 request_for target word stages.Greeting = Some (requests.Init 16777219 target.user)
 request_for target word stages.Listing = Some requests.GetDevices

@@ -14,6 +14,9 @@ use Rattle.constraint.specs.NearestComputed.{only}
 abbrev pub words_like : List ℤ → List ℕ → Option Value
 words_like sent words = if length words == length sent then Some (Words (map (cast_signed w32) words)) else None
 
+-- **values that a reply gives (`given_like`, `wire_value_in`, `blank_value`)**: what words or bytes give in place of a
+-- value, or of an option's kind; what is sent where a value is asked for.
+--
 -- what a reply gives in place of a value: as many words, or a text
 abbrev pub given_like : Value → WireValue → Option Value
 given_like (Flag b) (wire.Words words) = option_map (λ w. Flag (is_set w)) (only words)

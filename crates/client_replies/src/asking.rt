@@ -17,6 +17,7 @@ pub fn request_for(
     word: u32,
     progress: &Progress,
 ) -> Result<Option<Request>, NoMem>
+    /// What is asked for.
     ensures { IfOk result (λ request. request ≡ request_for target.now word progress.now) }
 {
     Ok(match progress {

@@ -59,6 +59,7 @@ fn frame_joined(alloc: Global, task: Task, file: u32, joined: Result<bool, JoinF
 
 /// The end record of a frame.
 pub fn frame_ended(alloc: Global, join: &mut FrameJoin, task: Task, file: u32, status: u8) -> Next
+    /// What the end of a frame makes of a job.
     ensures next { (past : JoinHistory)
         → Represents past join.old → result ≡ (frame_ended task file past status).next }
     ensures past { (past : JoinHistory) → Represents past join.old

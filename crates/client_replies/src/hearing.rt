@@ -569,6 +569,9 @@ pub fn hear(
     progress: Progress,
     reply: Reply,
 ) -> Result<Next, NoMem>
+    /// What each reply makes of a job over the net: an ending with its status and why, what is asked for next, what
+    /// comes to be known.
+    /// Carried by: `next`, `notes` of `hear`
     ensures next { IfOk result (λ next. next
         ≡ (turn_after_reply target.now progress notes.old reply).next) }
     ensures notes { OnOk result (notes.new

@@ -13,6 +13,9 @@ pub struct JobTarget {
 }
 
 /// What a job that runs waits for.
+///
+/// **what a job waits for (`Progress`)**: the reply to a request, by procedure, with what that request needs; a frame's
+/// records; a page of a batch that is to be taken; nothing.
 #[derive(Drop)]
 pub enum Progress {
     /// The reply to INIT, to GET_DEVICES, to OPEN.
@@ -62,6 +65,9 @@ pub enum Progress {
 }
 
 /// What a job has come to know.
+///
+/// **what it came to know (`Notes`)**: devices, descriptors and values, reports, the settings that are left, the device
+/// word, the number of the file.
 #[derive(Drop)]
 pub struct Notes {
     /// The device word of OPEN's reply.

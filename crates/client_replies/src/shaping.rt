@@ -48,6 +48,7 @@ pub fn after_params_reply(
     order: ByteOrder,
     reply: Reply,
 ) -> Result<Next, NoMem>
+    /// Which parameters begin a frame.
     ensures next { (past : JoinHistory) → RepresentsClear past join.old
         → IfOk result (λ next. next ≡ (after_params_reply port order past reply).next) }
     ensures begun { (past : JoinHistory) → RepresentsClear past join.old

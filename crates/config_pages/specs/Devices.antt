@@ -27,7 +27,8 @@ pub record HasFirstPage (line : ConfigLine) (source : SourceState) : Type 0 wher
 abbrev pub HasPageSources : ConfigLine → List SourceState → Type 0
 HasPageSources line sources = AllZip (λ text source. IsPageOfText text line.dpi source) line.pages.items sources
 
--- a new scanner of that kind with the line's name, on its page
+-- **scanner of a line (`IsScannerOfLine`, `IsFeederOfLine`)**: a new one of a kind, with the line's name, on the line's
+-- first page, or with all its pages in the tray (`HasFirstPage`, `HasPageSources`).
 pub record IsScannerOfLine (kind : DeviceKind) (line : ConfigLine) (order : ByteOrder) (device : DeviceState) : Type 0 where
   pub source : SourceState
   pub page : HasFirstPage line source

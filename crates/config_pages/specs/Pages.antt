@@ -9,6 +9,9 @@ use Rattle.page_picture.specs.declared.page_file.PageFault.TheVariants.{BadMagic
 use Rattle.config_pages.specs.declared.no_page.PageSourceFault.{PageSourceFault}
 use Rattle.config_pages.specs.Texts.{source_fault}
 
+-- **a page in its line (`hex_digits`, `GivesSpelled`, `IsSpelledFault`)**: `hex:` and digits; the source gives the page of
+-- the file that they spell; they spell none, which counts as a bad magic, or one that has the fault.
+--
 -- the digits of a page that stands in its line; none where a path stands there
 abbrev pub hex_digits : List ℕ → Option (List ℕ)
 hex_digits page = if starts_with nat_eq page (codes "hex:") then Some (drop 4 page) else None

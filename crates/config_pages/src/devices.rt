@@ -73,6 +73,10 @@ pub fn flatbed(
     line: &ConfigLine,
     order: ByteOrder,
 ) -> Result<Box<Flatbed>, DeviceFault>
+    /// The scanner of a config line is new, of the kind asked for, has the line's name and gives samples in the order
+    /// asked for; on it is the line's first page, and in a feeder's tray all its pages in their order, each at the
+    /// line's dots per inch.
+    /// Carried by: `flatbed`, `hand_scanner`, `three_pass`, `feeder`
     ensures { IfOk result (λ device. IsScannerOfLine kinds.Flatbed line.now order device.value) }
 {
     let source = first_page(rt, line)?;

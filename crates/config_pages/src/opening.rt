@@ -25,10 +25,13 @@ fn file_page(rt: &HostRuntime, path: &[u8], dpi: u32) -> Result<PnmPage<File>, P
 /// hexadecimal, of which odd or other digits are no page file, or the path of its file, which is then
 /// read row by row.
 pub fn page_source(rt: &HostRuntime, page: &[u8], dpi: u32) -> Result<Source, PageSourceFault>
+    /// A page in hexadecimal gives, from its first row on, the page of the file that the digits spell.
     ensures found { IfOk result (λ source. (digits : List ℕ)
         → hex_digits page.now ≡ Some digits → GivesSpelled digits dpi (source_state source)) }
+    /// Each refusal comes exactly where that file has the fault first; no bytes at all count as a bad magic.
     ensures fault { IfErr result (λ why. (digits : List ℕ)
         → hex_digits page.now ≡ Some digits → IsSpelledFault why digits dpi) }
+    /// Of a page in a file of the system nothing is known but its dots per inch.
     ensures dots { IfOk result (λ source. (source_state source).page.dpi ≡ dpi) }
 {
     match hex_digits(page) {

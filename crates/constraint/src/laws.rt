@@ -5,6 +5,8 @@ ghost use Rattle.constraint.specs.NearestComputed.{nearest_in_range, nearest_in_
 
 /// A law: there is at most one nearest value.
 pub fn at_most_one_is_nearest()
+    /// At most one word, and at most one entry, is nearest, and what the definitions compute is it.
+    /// Carried by: `at_most_one_is_nearest`, `what_is_computed_is_nearest`
     ensures in_range { (range : Bounds) (asked a b : ℤ)
         → NearestInRange range asked a → NearestInRange range asked b → a ≡ b }
     ensures in_list { (entries : List ℤ) (asked a b : ℤ)

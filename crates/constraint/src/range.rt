@@ -77,7 +77,13 @@ impl Range {
 
     /// The admitted word nearest to `word`, of two the greater, and whether it differs from `word`.
     pub fn nearest_word(&self, word: i32) -> (i32, bool)
+        /// Of a range, and of a list, the nearest admitted word is given: no admitted word is closer, over all 32-bit
+        /// words.
+        ///
+        /// Of two equally close ones it is the greater in a range, and the first listed in a list.
         ensures nearest { NearestInRange self.now word result.0 }
+        /// Each is flagged exactly where it differs from what was asked.
+        /// Carried by: `differs` of `Range::nearest_word`, `WordList::nearest_word`, `StringList::match_string`
         ensures differs { FlagsDifference result.1 word result.0 }
         // The same as a computation, for definitions that go on from it.
         ensures value { result.0 ≡ nearest_in_range self.now word }
@@ -108,6 +114,8 @@ impl Range {
 
     /// Puts the nearest admitted word in each place, and says whether any differs.
     pub fn nearest_words(&self, words: &mut [i32]) -> bool
+        /// A vector is given place by place.
+        /// Carried by: `nearest_words`
         ensures nearest { PlaceByPlace (NearestInRange self.now) words.old words.new }
         ensures differs { FlagsDifference result words.old words.new }
         // The same as a computation, for definitions that go on from it.

@@ -127,6 +127,9 @@ impl StringList {
     /// that of the first equal entry, else that of the only one which begins with the text without
     /// regard to ASCII case.
     pub fn match_string(&self, text: &[u8]) -> Option<(usize, bool)>
+        /// A text is matched with its entry: the first equal one, else the only one that begins with it without
+        /// regard to case.
+        /// Carried by: `nearest`, `none` of `match_string`
         ensures nearest { IfSome result (λ found. NearestEntry self.now text.now found.0) }
         ensures differs { IfSome result
             (λ found. IfSome (slice_get self.now found.0) (FlagsDifference found.1 text.now)) }

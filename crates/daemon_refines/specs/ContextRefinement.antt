@@ -44,7 +44,9 @@ tray_of s = page_views (pages_to_come s.phase s)
 abbrev pub abstract_device_as : Option ℕ → Setup → List PageView → ScanPhase → AbstractDevice
 abstract_device_as holder options tray phase = record { listed = true; holder = holder; options = options; tray = tray; phase = phase }
 
--- a scanner and who holds it, as a listed device of the model
+-- **seen (`abstract_device`, `tray_of`, `phase_at`)**: a scanner and who holds it, as a listed device of the model: its
+-- options; the pages that starts at rest take, where the first of a feeder that scans is no more among them; at rest, or
+-- the frame that ended last and those to come, or the frame that is read, what is left of it and those after it.
 abbrev pub abstract_device : Option ℕ → DeviceState → AbstractDevice
 abstract_device holder s = abstract_device_as holder s.setup (tray_of s) (phase_at (scan.place_of s))
 
@@ -56,7 +58,8 @@ pub record HasSource (make : Make) (held : HeldPage) : Type 0 where
 abbrev pub HaveSources : Make → List HeldPage → Type 0
 HaveSources make pages = AllByRecursion (HasSource make) pages
 
--- what never changes of it; its options are within their limits, and its phase is one that a scan comes to
+-- **made (`IsMade`)**: what always holds of it: the kind and the byte order that never change, options within their limits,
+-- and a phase that a scan comes to.
 pub record IsMade (make : Make) (s : DeviceState) : Type 0 where
   pub sources : HaveSources make s.pages
   pub kind : make.model ≡ s.setup.scene.kind
@@ -126,6 +129,7 @@ abbrev pub NamesPlace : Option ℕ → (ℕ → AbstractDevice) → ℕ → Type
 NamesPlace None table k = (table k).listed ≡ false
 NamesPlace (Some p) table k = p ≡ k
 
+-- **names (`Names`)**: the place of a name; a name that nobody has is read as a place that is not listed.
 abbrev pub Names : List ℕ → Table → (ℕ → AbstractDevice) → ℕ → Type 0
 Names name registry table k = NamesPlace (find_name name registry) table k
 
@@ -135,7 +139,11 @@ IsAwaited held registry table None sent = sent ≡ None
 IsAwaited held registry table (Some a) None = ⊥
 IsAwaited held registry table (Some a) (Some sent) = Names a.name registry table sent.1 × (free_word held ≢ None)
 
--- a request context is this session of client i, and these devices
+-- **refines (`ContextRefines`, `TableRefines`)**: a request context is this session of client i, and these devices: the
+-- words are the places of their leases, of four words; the frame and, of one that waits or streams, its word, whose device
+-- is read; what is awaited, for which a word is free; each leased device is seen as held by client i, no two of one place;
+-- a device in its place is seen as held by nobody, an unplugged one as not listed, and one that is out is held by a word of
+-- this session or by another client.
 pub record ContextRefines (i : ℕ) (make : ℕ → Make) (d : RequestContext) (table : ℕ → AbstractDevice) (s : AbstractSession) : Type 0 where
   pub words : (w : ℕ) → s.words w ≡ option_map (λ (l : Lease DeviceState). l.place) (held_by d.session.held w)
   pub four : length d.session.held ≡ 4

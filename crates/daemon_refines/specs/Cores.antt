@@ -55,6 +55,9 @@ OpeningsRefine =
 
 -- ---- a piece for one of the sessions
 
+-- **a daemon's session (`SessionRefines`, `CoreFed`, `SessionRefinesAs`)**: the session of a number shown, with the table
+-- and the challenges that all share; what a piece for one, or another call, makes of it and of the others.
+--
 -- the session of that number is this one of client i
 pub record SessionRefines (i : ℕ) (make : ℕ → Make) (core : Core) (n : ℕ) (table : ℕ → AbstractDevice) (s : AbstractSession) : Type 0 where
   pub session : DeskSession DeviceState

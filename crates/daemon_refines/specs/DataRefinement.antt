@@ -24,7 +24,8 @@ EndRecordIs status (TurnsNamed name) = name ≡ abstract_status status
 EndRecordIs status (TurnsFault fault) = status ≡ code.IoError
 EndRecordIs status _ = ⊥
 
--- a record of the bytes that were read, or the end record
+-- **what a read is (`IsTurnOf`, `SendsAs`, `StreamServed`)**: the action that a read of the device is: bytes, the end, a
+-- status named or a failure; the record that it sends; and that the request context behind it is shown again.
 abbrev pub IsTurnOf : Result ℕ Code → List ℕ → Action → Type 0
 IsTurnOf (Ok n) window action = action ≡ Turns (take n window)
 IsTurnOf (Err status) window action = EndRecordIs status action

@@ -54,6 +54,8 @@ abbrev pub AsksOf : Option Descriptor → Kind → WireValue → Value → Type 
 AsksOf None kind value v = v ≡ Flag false
 AsksOf (Some desc) kind value v = value_asked desc kind value ≡ Some v
 
+-- **asks for a value (`AsksFor`, `AsksNone`)**: the value that a SET asks for; and that it asks for none, since what it has
+-- is not of its option's type.
 abbrev pub AsksFor : Option (Lease DeviceState) → ℕ → Kind → WireValue → Value → Type 0
 AsksFor None n kind value v = Unit {0}
 AsksFor (Some l) n kind value v = AsksOf (slice_get (descriptors_of l.device.setup) n) kind value v

@@ -6,7 +6,10 @@ use Rattle.saned_requests.specs.Holding.{held_by}
 use Rattle.system_model.specs.Daemon.{FailureCounts}
 use Rattle.system_model.specs.Actions.{Action, TurnsFault}
 
--- the source of the device's first page, one that can fail, did so, and these are its counts before and behind the call
+-- **failed (`IsFailureOf`, `IsFailureIn`, `FailedAt`, `IsCounted`, `IsTurnCounted`, `IsCountedAt`)**: a failure by the
+-- model is one of the device: the source of its first page, one that can fail, did so in this very call, and the model's
+-- two numbers are its counts before and behind it; so did that of the device of a word, which the session held before and
+-- holds behind; of a START, and of a turn.
 pub record IsFailureOf (old new : DeviceState) (f : FailureCounts) : Type 0 where
   pub stopped : HasStopped old new
   pub before : f.before ≡ failures_of old

@@ -44,7 +44,9 @@ pub data ServesRequest (i : ℕ) (make : ℕ → Make) (users : List Entry) (d :
   OfAnotherType : (word n : ℕ) → (kind : Kind) → (value : WireValue) → q ≡ requests.ControlOption word n SetValue kind value → AsksNone (held_by d.session.held word) n kind value →
       said ≡ One (refused_control code.Inval kind value) → new ≡ d → t ≡ table → u ≡ s → ServesRequest i make users d table s q said new t u
 
--- these requests, each of which the session goes on behind
+-- **fed (`ServesRequests`, `SessionContinues`, `EndsSession`, `IsFed`)**: requests one after another, each a call by the
+-- model or a SET of another type, and the request context shown behind each; that the session goes on behind them; or that
+-- it ended, with all given back, behind them or behind one more.
 abbrev pub ServesRequests : ℕ → (ℕ → Make) → List Entry → RequestContext → (ℕ → AbstractDevice) → AbstractSession → List Asked → RequestContext → (ℕ → AbstractDevice) → AbstractSession → Type 0
 ServesRequests i make users d table s [] new t u = (new ≡ d) × (t ≡ table) × (u ≡ s)
 ServesRequests i make users d table s (q ∷ qs) new t u =

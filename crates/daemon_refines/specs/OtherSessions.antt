@@ -27,7 +27,8 @@ IsHeldByNoOther i (Some holder) = holder ≡ i
 abbrev pub LeavesPlace : ℕ → AbstractDevice → AbstractDevice → Option (Place DeviceState) → Option (Place DeviceState) → Type 0
 LeavesPlace i old new at now = ((new ≡ old) × (now ≡ at)) ⊎ (IsHeldByNoOther i old.holder × IsHeldByNoOther i new.holder)
 
--- and the same devices are listed, under their names
+-- **leaves others (`LeavesOthers`)**: each place is as it was, or nobody but client i holds its device before and after;
+-- the same devices are listed, under the same names.
 pub record LeavesOthers (i : ℕ) (registry now : Table) (table new : ℕ → AbstractDevice) : Type 0 where
   pub places : (k : ℕ) → LeavesPlace i (table k) (new k) (slice_get registry k) (slice_get now k)
   pub listed : (k : ℕ) → (new k).listed ≡ (table k).listed

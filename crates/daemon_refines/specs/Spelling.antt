@@ -66,7 +66,9 @@ abbrev pub OpensBackend : Asked → List ℕ → Type 0
 OpensBackend (requests.Open name) backend = IsBackendOf name backend
 OpensBackend _ backend = ⊥
 
--- this answer is this reply
+-- **spells (`Spells`, `SpellsSaid`)**: the reply of the wire that is this answer of the model, for the request that was
+-- asked: the value with its type, the descriptors, the parameters, the port and the byte order, the least free word, the
+-- backend and the challenge; a refusal with its status. AUTHORIZE is one answer and two replies.
 abbrev pub Spells : Manner → Asked → AbstractReply → Wire → Type 0
 Spells m q Greeted r = r ≡ replies.Init code.Good own_version
 Spells m q (Listed places) r = r ≡ replies.GetDevices code.Good m.infos

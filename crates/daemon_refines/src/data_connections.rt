@@ -6,12 +6,21 @@ ghost use Rattle.daemon_refines.specs.Streams.{EndingsAgree, StreamsAgree};
 /// The data connection is made as the model says.
 #[tactic(none)]
 pub fn a_connection_follows_the_model()
+    /// A connection that is made or lost, and a session that ends, leave the devices as by the model.
+    /// Carried by: `a_connection_follows_the_model`, `a_loss_follows_the_model`, `a_core_connection_refines`,
+    /// `a_core_loss_refines`, `a_core_end_refines`
     ensures { ConnectsAgree }
 {}
 
-/// A read of a device is a turn of the model.
 #[tactic(none)]
 pub fn a_turn_follows_the_model()
+    /// A turn of the data connection is an action that the model allows, and sends what that action sends: of a
+    /// device whose sources are steady the frame's own bytes, of another as many.
+    /// Carried by: `a_turn_follows_the_model`, `a_stream_follows_the_model`, `a_core_turn_refines`
+    ///
+    /// Where a page source fails by the model, at a START or a turn, the one of the device that is asked did so in
+    /// that very call: it can fail, and its counts before and behind are the model's numbers.
+    /// Carried by: `counted` of `RequestServed`, `ServesRequest`, `StreamServed`, `CoreTurned`
     ensures { TurnsAgree }
 {}
 

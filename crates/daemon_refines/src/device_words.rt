@@ -5,6 +5,10 @@ ghost use Rattle.daemon_refines.specs.DeviceWords.{CancelAgrees, CloseAgrees, Ge
 /// The descriptors of a device word are those of the model.
 #[tactic(none)]
 pub fn descriptors_follow_the_model()
+    /// So for each request of a device word.
+    /// Carried by: `descriptors_follow_the_model`, `a_get_follows_the_model`, `a_set_follows_the_model`,
+    /// `parameters_follow_the_model`, `a_start_follows_the_model`, `a_cancel_follows_the_model`,
+    /// `a_close_follows_the_model`
     ensures { OptionsAgree }
 {}
 
@@ -17,6 +21,9 @@ pub fn a_get_follows_the_model()
 /// A SET of a value that is one of its option's type gives what the model gives. Another one is refused, and nothing changes.
 #[tactic(none)]
 pub fn a_set_follows_the_model()
+    /// Beside the model, which has no such words: an INIT of another major and a first request other than INIT end
+    /// the session, and a SET whose value is not of its option's type is refused.
+    /// Carried by: `a_greeting_follows_the_model`, `a_set_follows_the_model`
     ensures of_its_type { SetAgrees }
     ensures of_another { SetRefuses }
 {}

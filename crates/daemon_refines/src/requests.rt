@@ -5,15 +5,18 @@ ghost use Rattle.daemon_refines.specs.Feeds.{FeedsAgree};
 ghost use Rattle.daemon_refines.specs.OtherSessions.{DevicesLeave, EndsLeave, OthersAreKept, RequestsLeave};
 ghost use Rattle.daemon_refines.specs.ModelRequests.{RequestsAgree};
 
-/// Any request of a session that was greeted is answered as the model says, whatever it awaits.
 #[tactic(none)]
 pub fn any_request_follows_the_model()
+    /// Any request of a session that was greeted is answered by the reply that spells what the model answers, a
+    /// string value as long as the session's are, and the request context behind it is read as what stands behind it.
     ensures { RequestsAgree }
 {}
 
 /// Where a session leaves to others what they hold, those go on as they were.
 #[tactic(none)]
 pub fn other_sessions_are_kept()
+    /// Each session of another client stands as it stood.
+    /// Carried by: `other_sessions_are_kept`, `others_are_left_alone`
     ensures { OthersAreKept }
 {}
 
@@ -29,12 +32,15 @@ pub fn others_are_left_alone()
 /// that it holds is given back; also where memory runs out. Others are left what they hold.
 #[tactic(none)]
 pub fn a_feed_follows_the_model()
+    /// A piece of bytes is a run of such requests, also where the session ends in it or memory runs out.
+    /// Carried by: `a_feed_follows_the_model`, `a_fed_daemon_follows_the_model`
     ensures { FeedsAgree }
 {}
 
 /// A new registry and a session that was just opened are shown.
 #[tactic(none)]
 pub fn the_beginning_is_shown()
+    /// A new registry and a new session are read as the beginning.
     ensures registry { RegistriesRefine }
     ensures session { OpeningsRefine }
 {}

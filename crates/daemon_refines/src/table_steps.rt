@@ -5,6 +5,8 @@ ghost use Rattle.daemon_refines.specs.TableRefinement.{LoadsAgree, PagesAgree, R
 /// A device takes a page just where the model lets one be laid in, and is then as by the model, in its place as well.
 #[tactic(none)]
 pub fn a_load_follows_the_model()
+    /// A page is taken just where the model lets one be laid in, and a device unplugged where nobody holds it.
+    /// Carried by: `a_load_follows_the_model`, `an_unplug_follows_the_model`
     ensures taken { PagesAgree }
     ensures refused { RefusalsAgree }
     ensures in_its_place { LoadsAgree }

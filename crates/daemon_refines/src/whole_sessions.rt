@@ -5,6 +5,9 @@ ghost use Rattle.daemon_refines.specs.WholeSessions.{AuthorizeAgrees, DevicesAgr
 /// INIT is answered as by the model. One of another major ends the session, and all that it holds is given back.
 #[tactic(none)]
 pub fn a_greeting_follows_the_model()
+    /// So for each request: INIT, the list, OPEN, AUTHORIZE.
+    /// Carried by: `a_greeting_follows_the_model`, `a_list_follows_the_model`, `an_open_follows_the_model`,
+    /// `an_authorization_follows_the_model`
     ensures of_its_major { InitAgrees }
     ensures of_another { InitEnds }
 {}
@@ -31,6 +34,8 @@ pub fn an_authorization_follows_the_model()
 /// EXIT, and AUTHORIZE that nothing asked for, end a session as the model says.
 #[tactic(none)]
 pub fn an_end_follows_the_model()
+    /// So for what ends a session.
+    /// Carried by: `an_end_follows_the_model`, `another_request_follows_the_model`, `a_release_follows_the_model`
     ensures { EndsAgree }
 {}
 

@@ -23,7 +23,7 @@ joined_bodies (body ∷ bodies) = body ++ joined_bodies bodies
 abbrev pub end_record : ℕ → List ℕ
 end_record status = 255 ∷ 255 ∷ 255 ∷ 255 ∷ status ∷ []
 
--- records, whose bodies joined are the payload, and then FFFFFFFF and the status
+-- **data records (`IsRecords`)**: counted records, whose bodies joined are the payload, then FFFFFFFF and the status.
 pub record IsRecords (text payload : List ℕ) (status : ℕ) : Type 0 where
   pub bodies : List (List ℕ)
   pub short : AllByRecursion (λ body. length body < 4294967295) bodies

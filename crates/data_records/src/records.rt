@@ -14,6 +14,8 @@ use std::marker::Model;
 /// The head of a record of `len` bytes.
 pub fn record_head(len: u32) -> [u8; 4]
     requires { len < 4294967295 }
+    /// A record's head and the end record are as the wire has them.
+    /// Carried by: `record_head`, `record_end`
     ensures { result ≡ to_be_bytes w32 len }
 {
     len.to_be_bytes()
@@ -97,6 +99,9 @@ fn behind_body(left: u32) -> RecordPhase
 impl RecordReader {
     /// A reader before the first record.
     pub fn new() -> Self
+        /// Over any pieces a reader gives the payload and the status of the records, the end only there, and uses
+        /// nothing after it.
+        /// Carried by: `RecordReader::new`, `step`; `records_are_read_in_any_pieces`
         ensures begins { (text payload : List ℕ) (status : ℕ)
             → RecordsContinue result text payload status ↔ IsRecords text payload status }
         ensures head { result ≡ Head }

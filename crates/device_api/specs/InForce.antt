@@ -53,7 +53,9 @@ force s [] = Some (s, [])
 force s (setting ∷ settings) =
     option_and_then (λ first. option_map (λ more. (more.0, first ∷ more.1)) (force first.setup settings)) (placement s setting)
 
--- the setup in force, its scene among it, and what each setting was given
+-- **settings in force (`in_force`)**: a fold over settings from the defaults of the kind: each name finds its option among
+-- the descriptors in force, its text is read as that option's value, and the nearest admitted value is put in; none at the
+-- first that fails.
 abbrev pub in_force : DeviceKind → ByteOrder → List (List ℕ × List ℕ) → Option (Setup × List Placement)
 in_force k order settings = force (defaults k order) settings
 

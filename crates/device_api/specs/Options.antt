@@ -28,7 +28,9 @@ flatbed_options =
     NumOptions ∷ ModeOption ∷ Depth ∷ Resolution ∷ TlX ∷ TlY ∷ BrX ∷ BrY ∷ GammaTable ∷ PplLoss ∷ ReadLimitSize ∷ ReadReturnValue
     ∷ RedGammaTable ∷ GreenGammaTable ∷ BlueGammaTable ∷ []
 
--- the options of each kind of scanner, in the order of their numbers from 0
+-- **option tables (`options_of`, `descriptor_of`, `is_active`)**: by kind of scanner, in the order of their numbers: name,
+-- title, kind, unit, size, capabilities, constraint. No gamma table at depth 16, tables of channels in color at depth 8
+-- alone, no order of passes in gray; an inactive option keeps its value.
 abbrev pub options_of : DeviceKind → List ScanOption
 options_of Flatbed = flatbed_options
 options_of Feeder = flatbed_options

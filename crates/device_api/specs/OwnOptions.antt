@@ -27,5 +27,6 @@ HasOwnAlone Hand s = (s.passes ≡ Rgb) × HasNoOwnOptions s × SeesAll s
 HasOwnAlone ThreePass s = HasNoOwnOptions s
 HasOwnAlone Feeder s = s.passes ≡ Rgb
 
+-- **only its own (`IsOwn`)**: what a kind of scanner has no option for keeps its default.
 abbrev pub IsOwn : Setup → Type 0
 IsOwn s = HasOwnAlone s.scene.kind s

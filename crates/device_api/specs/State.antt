@@ -32,6 +32,10 @@ pub record HeldPage : Type 0 where
 abbrev pub held_from : SourceState → HeldPage
 held_from source = record { page = source.page; steady = source.steady; infallible = source.infallible; failures = source.failures }
 
+-- **state of a scanner (`DeviceState`, `HeldPage`, `Phase`)**: what it is, its setup, its pages, each with whether its
+-- source is steady, whether that can fail at all (`infallible`) and how often it did, and where a scan is: at rest (after a
+-- cancelled scan or not), between passes, or reading a pass with so many bytes given.
+--
 -- What a device is to its callers. Its kind is that of the setup's scene; that, the byte order and the info never change.
 -- The first page is the one that is scanned, or that a start would scan. A scanner that is no feeder has one and keeps it;
 -- a feeder lets go of the first when its scan is over.
@@ -56,6 +60,10 @@ abbrev pub first_page : List HeldPage → HeldPage
 first_page [] = no_page
 first_page (held ∷ _) = held
 
+-- **the first page (`page_of`, `steady_of`, `is_infallible`, `failures_of`)**: the one that is scanned, or that a start
+-- would scan. A feeder lets go of it when it comes to rest (`state_at_rest`, `left_behind`); any other scanner has one and
+-- keeps it.
+--
 -- the first page, whether its source shows it at each pass, whether that can fail, and how often it did
 abbrev pub page_of : DeviceState → PageView
 page_of s = (first_page s.pages).page
@@ -142,7 +150,8 @@ with_defaults s = record s { setup = defaults s.setup.scene.kind s.setup.order; 
 abbrev pub after_reset : DeviceState → DeviceState
 after_reset s = with_defaults (after_cancel s)
 
--- a device takes a page at rest, and a feeder while its tray has room
+-- **what a load makes (`takes_page`, `after_load`)**: a page is taken at rest, and by a feeder while it has fewer than 16;
+-- a feeder's new page is its last, another's takes the place of the one it had.
 abbrev pub takes_page : DeviceState → Bool
 takes_page s = is_at_rest s.phase && (not (feeds s) || nat_lt (length s.pages) tray_room)
 
@@ -171,6 +180,9 @@ stopped_in (Reading _ _) s = state_at_rest s false
 abbrev pub after_stop : DeviceState → DeviceState
 after_stop s = stopped_in s.phase s
 
+-- **stopped (`HasStopped`, `after_stop`)**: the first page's source, one that can fail, failed once more; a start at rest
+-- leaves all pages, else the scan is over.
+--
 -- the source of the first page, one that can fail, did so; that was counted, and no scan is under way
 pub record HasStopped (old new : DeviceState) : Type 0 where
   pub can_fail : is_infallible old ≡ false
@@ -202,7 +214,8 @@ StartsIn (AtRest _) old result new = StartsOn old.pages old result new
 StartsIn (Between _) old result new = StartsOn old.pages old result new
 StartsIn (Reading _ _) old result new = (result ≡ Err DeviceBusy) × (new ≡ old)
 
--- what a start answers, and what it leaves
+-- **starts, reads (`Starts`, `Reads`)**: what a start and a read may answer and leave, by the phase, then by whether there
+-- is a page, then by what `read-return-value` says, then by the answer.
 abbrev pub Starts : DeviceState → Result Unit Status → DeviceState → Type 0
 Starts old result new = StartsIn old.phase old result new
 

@@ -5,6 +5,9 @@ use sane_fixed::{ByteOrder, DeviceInfo, Info, Params, Status};
 use std::alloc::Global;
 
 /// A boxed scanner is the scanner.
+///
+/// A box of a device is the device.
+/// Carried by: `impl Device for Box<dyn Device>`
 impl Device for Box<dyn Device> {
     ghost state = { λ b. (Device-box b).state b.value };
 

@@ -9,82 +9,155 @@ use sane_fixed::{ByteOrder, DeviceInfo, Info, Params, Status};
 use std::alloc::Global;
 
 /// A scanner (SANE Standard 1.06, "The SANE Application Programmer Interface").
+///
+/// A scanner is one plain state (what it is, what its options say, its pages, where a scan is), and each method of
+/// the trait `Device` is a step of it, each refusal in its order.
+/// Carried by: `Device`
+///
+/// A device is kind, options, pages and a phase: at rest (after a cancelled scan or not), between passes, or reading
+/// a pass with so many bytes given.
+/// Carried by: `DeviceState`, `Phase`
 pub trait Device: Drop {
     // What it is, what its options say, its pages, and where it is in a scan.
     ghost state: { Self → DeviceState };
 
     /// What the scanner is. It never changes.
     fn info(&self) -> &DeviceInfo
+        /// `info` and `order` never change.
+        /// Carried by: `info`, `order`; `a_scanner_stays_what_it_is`
         ensures { result.now ≡ (state self.now).info };
 
     /// The order of the two bytes of a sample at depth 16. It never changes.
     fn order(&self) -> ByteOrder
         ensures { result ≡ (state self.now).setup.order };
 
-    /// The options as they stand, in the order of their numbers. The only error is out of memory.
+    /// The options as they stand, in the order of their numbers.
     fn descriptors(&self, alloc: Global) -> Result<Vec<Descriptor>, Status>
+        /// `descriptors` gives the options as they stand; its only refusal is NO_MEM.
+        /// Carried by: `ok`, `err` of `descriptors`: `descriptors_of`
         ensures ok { IfOk result (λ all. all.items ≡ descriptors_of (state self.now).setup) }
         ensures err { IfErr result (λ status. status ≡ Status.NoMem) };
 
-    /// Ends the scan, if one is under way, and puts all options to their defaults. The pages are kept, but a feeder's of
-    /// which a scan was under way.
+    /// Ends the scan, if one is under way, and puts all options to their defaults.
     fn reset(&mut self)
+        /// `reset` cancels, puts all options to their defaults and keeps the pages, but for one that a feeder lets go
+        /// of by the cancel.
+        /// Carried by: `after` of `reset`: `after_reset`
         ensures after { state self.new ≡ after_reset (state self.old) }
         ensures limits { HasLimits (state self.new) };
 
-    /// The value of option `n`, also during a scan: `Inval` where there is no such option, or it is
-    /// inactive or cannot be read, and `NoMem`.
+    /// The value of option `n`.
     fn get(&self, alloc: Global, n: u32) -> Result<Value, Status>
+        /// `get` refuses with INVAL where the number is unknown, the option is inactive or cannot be read, and with
+        /// NO_MEM; it may be called during a scan.
+        /// Carried by: `answer`, `memory` of `get`: `option_got`
         ensures answer { result ≢ Err Status.NoMem → result ≡ get_answer (state self.now) n }
         ensures memory { result ≡ Err Status.NoMem → IsOk (get_answer (state self.now) n) };
 
     /// Puts the admitted value nearest to `value` into option `n`, and answers it and what became of it.
-    /// Refuses, in this order: `DeviceBusy` where the scanner is not at rest; `Inval` where there is no
-    /// such option, it is inactive or cannot be set, the value does not fit, or no text is matched; and
-    /// `NoMem`. A refused call changes nothing.
     fn set(&mut self, alloc: Global, n: u32, value: &Value) -> Result<(Value, Info), Status>
+        /// `set` refuses in this order: DEVICE_BUSY where not at rest; INVAL where the number is unknown, the option
+        /// is inactive, cannot be set, or the value cannot be put; NO_MEM.
+        /// Carried by: `answer`, `memory` of `set`: `set_answer`, `option_set`
+        ///
+        /// INEXACT stands exactly where the value in force differs from the one given.
+        /// Carried by: `info_of`, `same_value`; `same_values_are_equal`
+        ///
+        /// RELOAD_OPTIONS stands exactly where the descriptors changed.
+        /// Carried by: `info_of`, `reloads`; `reload_tells_of_changed_descriptors`
+        ///
+        /// RELOAD_PARAMS stands for each accepted set of an option marked so.
+        /// Carried by: `info_of`, `bears_on_params`
         ensures answer { result ≢ Err Status.NoMem
             → result ≡ set_answer (state self.old) n value.now }
         ensures memory { result ≡ Err Status.NoMem
             → IsOk (set_answer (state self.old) n value.now) }
+        // The option then has the value that was given.
         ensures ok { IfOk result (λ given. state self.new ≡ after_set (state self.old) n given.0) }
+        /// A refused `set` changes nothing.
         ensures err { OnErr result (state self.new ≡ state self.old) };
 
-    /// What is told of the frame that was started last; at rest, of the first frame that a start would
-    /// give, with width, lines and bytes per line 0 where there is no picture or no page.
+    /// What is told of a frame.
     fn params(&self) -> Params
+        /// `params` are those of the started frame until the next start or rest; at rest those of the first frame
+        /// that a start would give, with width, lines and bytes per line 0 where there is no picture or no page.
+        /// Carried by: `value` of `params`: `params_of`, `params_at`, `params_without`
         ensures value { result ≡ params_of (state self.now) }
+        /// The limits hold in every state.
+        /// Carried by: `limits` of `params` and of `reset`: `HasLimits`
         ensures limits { HasLimits (state self.now) };
 
-    /// Begins the first frame of a scan of the first page, or the next one. Refuses, in this order: `DeviceBusy` where a
-    /// frame is being read, and then nothing changes; `NoDocs` where there is no page; `Inval` where the options mean no
-    /// picture on the page; `NoMem`; and `IoError` where the page's source failed. After these four the scanner is at rest.
-    /// A first start that is refused leaves all pages where they are.
+    /// Begins the first frame of a scan of the first page, or the next one.
     fn start(&mut self, alloc: Global) -> Result<(), Status>
+        /// `start` refuses: DEVICE_BUSY where a frame is being read, and nothing changes; NO_DOCS without a page;
+        /// INVAL without a picture; NO_MEM; IO_ERROR where the source failed; after these four it is at rest.
+        /// Carried by: `start`: `Starts`, `StartsOn`, `StartsFrame`
+        ///
+        /// A first start that is refused leaves the pages as they were.
+        /// Carried by: `after_stop`; `a_refused_start_takes_no_page`
+        ///
+        /// A feeder lets go of the page that was scanned when it comes to rest.
+        /// Carried by: `state_at_rest`, in `goes_to`, `cancelled_in` and `after_stop`
+        ///
+        /// Page and setup stay while a scan is under way, so each pass has those of the first start.
+        /// Carried by: `a_scan_keeps_its_options_and_page` (`scan_laws`)
         ensures { Starts (state self.old) result (state self.new) };
 
-    /// The next bytes of the frame: all that is left of it, but no more than the buffer holds, nor than the option
-    /// `read-limit-size` says. Refuses: `Eof` at the frame's end, after which the scanner waits for the next start, or
-    /// is at rest if it was the last frame; before that `IoError` where the page's source failed at a row that these
-    /// bytes show; what `read-return-value` says; `Cancelled` after a cancelled scan, until the next start or reset; and
-    /// `Inval` where no frame is being read. It takes no memory.
+    /// The next bytes of the frame.
     fn read(&mut self, buf: &mut [u8]) -> Result<usize, Status>
         requires { 0 < length buf.old }
+        /// `read` gives at least one byte: as many as are left of the pass, the buffer holds, or `read-limit-size`
+        /// lets, whichever is least.
+        /// Carried by: `GivesBytes`
+        ///
+        /// What was read is a prefix of the frame's payload, where the page's source is steady.
+        /// Carried by: `bytes`, `after` of `GivesBytes`
+        ///
+        /// EOF comes at the frame's end and only there, or where `read-return-value` says so.
+        /// Carried by: `ReadsOn`, `FrameReads`
+        ///
+        /// IO_ERROR comes only of a source that can fail, where its failure was counted, and before the frame's last
+        /// byte; or `read-return-value` says so.
+        /// Carried by: `HasStopped`, `ReadsOn`, `FrameReads`
+        ///
+        /// The status of `read-return-value` comes at the first read of a frame, with no byte.
+        /// Carried by: `read_status_at`, `FrameReads`
+        ///
+        /// CANCELLED comes after a cancelled scan until the next start or reset.
+        /// Carried by: `ReadsIn`; `Starts`, `after_reset`
+        ///
+        /// INVAL comes where no frame is being read.
+        /// Carried by: `ReadsIn`
+        ///
+        /// After the EOF of a frame that is not the last the device waits for the next start; after any other refusal
+        /// that ended a frame it is at rest.
+        /// Carried by: `after_pass`, `after_read_status`, `HasStopped`
+        ///
+        /// `read` takes no memory.
+        /// Carried by: `ReadsOn`
         ensures reads { Reads (state self.old) result (state self.new) buf.new }
+        // At most as many bytes were given as the buffer holds.
         ensures room { IfOk result (λ n. n ≤ length buf.new) };
 
     /// Ends the scan, if one is under way; a feeder then lets go of the page that was scanned.
     fn cancel(&mut self)
+        /// `cancel` at rest does nothing.
+        /// Carried by: `after_cancel`, `cancelled_in`
         ensures { state self.new ≡ after_cancel (state self.old) };
 
-    /// Whether no scan is under way: from a scan's first start until the end of its last frame, a cancel
-    /// or a failure one is.
+    /// Whether no scan is under way.
     fn at_rest(&self) -> bool
+        /// `at_rest` is false from the first start that succeeds until the end of the last frame, a cancel, or a
+        /// failure.
+        /// Carried by: `at_rest`: `is_at_rest`; `Starts`, `after_pass`, `HasStopped`, `after_read_status`,
+        /// `after_cancel`
         ensures { result ≡ is_at_rest (state self.now).phase };
 
-    /// Puts another page in, and drops the old one; a feeder lays it behind those that it has. Gives the page back where
-    /// the scanner is not at rest, or a feeder has 16 pages.
+    /// Puts another page in.
     fn load(&mut self, page: Source) -> Result<(), Source>
+        /// `load` gives the new page back where the device is not at rest, or where a feeder has 16; else it drops
+        /// the old page, or lays the new one behind a feeder's others.
+        /// Carried by: `loaded`, `refused`, `ok`, `err` of `load`
         ensures loaded { takes_page (state self.old) ≡ true → IsOk result }
         ensures refused { takes_page (state self.old) ≡ false → result ≡ Err page }
         ensures ok { OnOk result (state self.new

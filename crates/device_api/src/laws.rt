@@ -32,6 +32,8 @@ pub fn reload_tells_of_changed_descriptors()
 /// and not put where that refuses. So the setups of a job's settings in force are those that one `set`
 /// after another leaves.
 pub fn settings_are_put_as_they_are_set()
+    /// Settings in force are what one set after another leaves, and are allowed.
+    /// Carried by: `settings_are_put_as_they_are_set`, `settings_in_force_are_allowed`
     ensures { (s : Setup) (name text : List ℕ) (n : ℕ) (desc : Descriptor) (asked : Value)
         → number_named name (descriptors_of s) ≡ Some n
         → slice_get (descriptors_of s) n ≡ Some desc → read_value desc text ≡ Some asked
@@ -40,6 +42,7 @@ pub fn settings_are_put_as_they_are_set()
 
 /// A law: no call changes what a scanner is, its kind or its byte order.
 pub fn a_scanner_stays_what_it_is()
+    /// No step changes what a scanner is.
     ensures set { (s : DeviceState) (n : ℕ) (given : Value) → IsSameDevice s (after_set s n given) }
     ensures reset { (s : DeviceState) → IsSameDevice s (after_reset s) }
     ensures cancel { (s : DeviceState) → IsSameDevice s (after_cancel s) }
@@ -59,6 +62,8 @@ pub fn a_refused_start_takes_no_page()
 
 /// A law: what a set gave, a get gives.
 pub fn what_is_set_is_read()
+    /// What is set is read, and no other option changes.
+    /// Carried by: `what_is_set_is_read`, `a_set_changes_one_option`, `get_option`
     ensures { (s : Setup) (n : ℕ) (asked given : Value) (info : Info) → option_set s n asked
         ≡ Ok (given, info) → option_got (setup_after s n given) n ≡ Ok given }
 {}

@@ -216,6 +216,9 @@ pub fn set_option(
     n: u32,
     value: &Value,
 ) -> Result<(Value, Info), Status>
+    /// A set gives the nearest admitted value, INEXACT just where it differs, and RELOAD_OPTIONS just where the
+    /// descriptors changed; a refused set changes nothing.
+    /// Carried by: `set_option`; `same_values_are_equal`, `reload_tells_of_changed_descriptors`
     ensures answer { result ≢ Err Status.NoMem → result ≡ option_set setup.old n value.now }
     ensures memory { result ≡ Err Status.NoMem → IsOk (option_set setup.old n value.now) }
     ensures ok { IfOk result (λ given. setup.new ≡ setup_after setup.old n given.0) }

@@ -152,6 +152,7 @@ pub fn descriptor(alloc: Global, setup: &Setup, option: ScanOption) -> Result<De
 /// The descriptors of a scanner's options as they stand, in the order of their numbers. The only error is
 /// out of memory.
 pub fn descriptors(alloc: Global, setup: &Setup) -> Result<Vec<Descriptor>, NoMem>
+    /// The option tables are those of the four kinds.
     ensures { IfOk result (λ all. all.items ≡ descriptors_of setup.now) }
 {
     let options = options_of(setup.scene.kind);

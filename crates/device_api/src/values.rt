@@ -37,6 +37,8 @@ fn default_resolution(kind: DeviceKind) -> u32
 /// What the options of a new scanner say: gray, 8 bits, a window of 80 by 100 mm.
 #[tactic(auto, using(crate::proofs::AllowedLaws::defaults_allowed), unfolding(crate::specs::Values::defaults))]
 pub fn defaults(kind: DeviceKind, order: ByteOrder) -> Setup
+    /// A reset leaves the defaults of the kind.
+    /// Carried by: `defaults`, `reset_setup`
     ensures value { result ≡ defaults kind order }
     ensures allowed { IsAllowed result }
 {

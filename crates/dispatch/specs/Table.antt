@@ -34,7 +34,8 @@ abbrev pub seen_unplug : {D S : Type 0} → (D → S) → Result D Status → Re
 seen_unplug f (Ok d) = Ok (f d)
 seen_unplug f (Err e) = Err e
 
--- a table of device states
+-- **table (`Table`, `Place`, `Slot`)**: a place for each device handed in, with what it is: it is in, out with a lease, or
+-- gone. A table's invariant holds where each device that is in has its place's name.
 abbrev pub Table : Type 0
 Table = List (Place DeviceState)
 
@@ -75,6 +76,8 @@ abbrev pub take_at : Table → Option ℕ → Result (Lease DeviceState) Status
 take_at t (Some k) = take_of k (held_at t k)
 take_at t None = Err Inval
 
+-- **steps of the table (`take_answer`, `after_take`, `after_give_back`, `unplug_answer`, `after_unplug`, `listed_infos`)**:
+-- what is answered for a name, and the table after it.
 unfoldable pub take_answer : Table → List ℕ → Result (Lease DeviceState) Status
 take_answer t name = take_at t (find_name name t)
 
@@ -103,7 +106,8 @@ awaits name k ps = awaits_in name (slice_get ps k)
 unfoldable pub after_give_back : Table → Lease DeviceState → Table
 after_give_back t l = if awaits l.device.info.name l.place t then with_slot t l.place (In (after_cancel l.device)) else t
 
--- a lease of this table: its place is out, and its device has that place's name
+-- **lease (`IsLeaseOf`)**: its place is out, and its device has that place's name; only such a one changes the table when
+-- it is given back (`awaits`).
 pub record IsLeaseOf (lease : Lease DeviceState) (t : Table) : Type 0 where
   pub place : Place DeviceState
   pub at : slice_get t lease.place ≡ Some place

@@ -63,6 +63,9 @@ const _: () = prove!(RegistryFault::NoMem as u32 == 3);
 impl<D: Device> Registry<D> {
     /// The devices in order, each of them reset. Refused devices are given back as they were.
     pub fn new(alloc: Global, devices: Vec<D>) -> Result<Registry<D>, (RegistryFault, Vec<D>)>
+        /// A registry takes exactly up to sixteen devices of different names, resets each, and gives refused ones
+        /// back as they were.
+        /// Carried by: `ok`, `accepted`, `fault`, `given_back` of `Registry::new`
         ensures ok { IfOk result (λ r. table D.state r ≡ fresh_table (map D.state devices.items)) }
         ensures accepted { OnOk result (AreRegistrable (map D.state devices.items)) }
         ensures fault { IfErr result (λ e. HasRegistryFault e.0 (map D.state devices.items)) }
@@ -88,6 +91,8 @@ impl<D: Device> Registry<D> {
     /// Leases the device of that name, reset. Refuses: `Inval` where none is listed under it, `DeviceBusy` where it is
     /// leased; then nothing changes.
     pub fn take(&mut self, name: &[u8]) -> Result<Lease<D>, Status>
+        /// `take`, `load` and `unplug` are steps of the table, and answer exactly.
+        /// Carried by: `Registry::take`, `load`, `unplug`
         ensures answer { seen_take D.state result ≡ take_answer (table D.state self.old) name.now }
         ensures after { table D.state self.new ≡ after_take (table D.state self.old) name.now }
     {
@@ -106,6 +111,8 @@ impl<D: Device> Registry<D> {
     /// What the devices are, in the order in which they were handed in: leased ones too, unplugged ones
     /// not. The only error is out of memory.
     pub fn list(&self, alloc: Global) -> Result<Vec<DeviceInfo>, NoMem>
+        /// `list` tells leased devices too, and unplugged ones not; `lists` says whether a name is listed.
+        /// Carried by: `Registry::list`, `lists`
         ensures { IfOk result (λ infos. infos.items ≡ listed_infos (table D.state self.now)) }
     {
         listed_infos(alloc, self.places.as_slice())
@@ -116,6 +123,12 @@ impl<D: Device> Registry<D> {
     /// The device is cancelled, and its place is in again. A lease that is not of this registry is dropped with its device,
     /// and changes nothing: one whose place is not out, or has another name than its device.
     pub fn give_back(&mut self, lease: Lease<D>)
+        /// `give_back`, the only call that takes a lease back, cancels its device and puts it into its place, where
+        /// that place is out and has the device's name: where the lease is of the table.
+        /// Carried by: `Registry::give_back`; `given_back` of `leases_are_kept`
+        ///
+        /// Any other lease changes nothing.
+        /// Carried by: `other` of `leases_are_kept`
         ensures { table D.state self.new
             ≡ after_give_back (table D.state self.old) (seen_lease D.state lease) }
     {

@@ -3,7 +3,7 @@ use Rattle.std.specs.Prelude.{ℕ, ◌<◌, ◌≤◌}
 use Rattle.flatbed_dev.specs.declared.feeder.FeederFault.{FeederFault}
 use Rattle.flatbed_dev.specs.declared.feeder.FeederFault.TheVariants.{TooMany, NoMem}
 
--- so many pages are too many; where memory ran out, they are not
+-- **fault of a feeder (`HasFeederFault`)**: there are more than 16 pages; or, where memory ran out, there are not.
 abbrev pub HasFeederFault : FeederFault → ℕ → Type 0
 HasFeederFault TooMany pages = 16 < pages
 HasFeederFault NoMem pages = pages ≤ 16

@@ -30,6 +30,9 @@ impl Flatbed {
     /// A flatbed of that name at rest, its options at their defaults, on the page of a source. The source comes back
     /// where memory ran out.
     pub fn new(alloc: Global, name: Text, source: Source, order: ByteOrder) -> Result<Self, Source>
+        /// A flatbed is a virtual scanner of that kind, and a feeder one of its own; refusals are for lack of memory,
+        /// and of a feeder for more than 16 pages.
+        /// Carried by: `Flatbed::new`; `ok`, `fault`, `given_back` of `Feeder::new`
         ensures ok { IfOk result (λ flatbed. flatbed
             ≡ new_scanner FlatbedKind name (source_state source) order) }
         ensures err { IfErr result (λ back. back ≡ source) }

@@ -36,7 +36,8 @@ abbrev pub lines_in : Option ℕ → ℕ
 lines_in None = 0
 lines_in (Some n) = n
 
--- a frame of these parameters is a picture of known height
+-- **a frame that is a picture (`is_alone`)**: one GRAY or RGB frame of known lines with the last flag, of an accepted
+-- shape.
 abbrev pub is_alone : Params → Bool
 is_alone p = is_alone_format p.format && (p.last_frame && (is_known p.lines && is_shaped p))
 

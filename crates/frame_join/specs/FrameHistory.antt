@@ -10,7 +10,8 @@ use Rattle.frame_join.specs.AloneFrame.{is_alone_format, is_alone, most_bytes}
 use Rattle.frame_join.specs.KeptFrame.{is_open_ended, is_pass_that, goes_with}
 use Rattle.page_picture.specs.Extent.{is_side}
 
--- the frames that ended, the one under way, the fault that stands, and what was pulled in all
+-- **history of a join (`JoinHistory`)**: the frames that ended, the one under way, the fault that stands first, and what
+-- was pulled in all; each call goes on from it.
 pub record JoinHistory : Type 0 where
   pub ended : List Frame
   pub under : Option Frame
@@ -41,7 +42,8 @@ abbrev pub is_full_at : Option ℕ → ℕ → ℕ → Bool
 is_full_at (Some lines) line size = size == lines * line
 is_full_at None line size = is_side (size / line) && (size == size / line * line)
 
--- the frame has all its bytes
+-- **a frame that has all its bytes (`is_full`)**: as many as its lines want; where they are not told, a whole number of
+-- lines from 1 to 65,536.
 abbrev pub is_full : Frame → Bool
 is_full frame = is_full_at frame.params.lines frame.params.bytes_per_line (length frame.payload)
 

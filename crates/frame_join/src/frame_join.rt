@@ -62,9 +62,13 @@ impl FrameJoin {
     /// through.
     pub fn begin(&mut self, alloc: Global, params: &Params, order: ByteOrder)
         // Whatever was told before, the join stands for that and the frame.
+        /// A join takes, in any pieces, one GRAY or RGB frame, of known height or not, or a RED, a GREEN and a BLUE
+        /// frame in any order; it refuses every other shape.
+        /// Carried by: `begin`, `feed`, `fault` of `FrameJoin`
         ensures carried { (past : JoinHistory) → Represents past self.old
             → Represents (after_begin params.now order (is_out_of_memory self.new) past) self.new }
-        // Only the first frame takes memory here.
+        /// Only the first frame, and bytes that come, take memory.
+        /// Carried by: `later` of `begin`, `nothing` of `feed`
         ensures later { (past : JoinHistory) → Represents past self.old
             → past.ended ≢ [] → is_out_of_memory self.new ≡ is_out_of_memory self.old }
     {
@@ -156,11 +160,12 @@ impl FrameJoin {
     /// has fewer bytes than was told, or, where its lines are not known, no line or a part of one. Outside a frame, and
     /// after a fault, it changes nothing. It takes no memory.
     pub fn end(&mut self) -> Result<bool, JoinFault>
+        // The join goes on from what was told before, and answers what the end of the frame comes to.
         ensures carried { (past : JoinHistory)
             → Represents past self.old → Represents (after_end past) self.new }
         ensures answer { (past : JoinHistory)
             → Represents past self.old → result ≡ answer_of_end (after_end past) }
-        // True exactly where no fault stands and the frames show a picture.
+        /// `end` is true exactly where no fault stands and the frames show a picture.
         ensures exact { (past : JoinHistory) → Represents past self.old → (result ≡ Ok true)
             ↔ ((past.fault ≡ None) × ((p : Picture) × ShowsFrames (history_frames past) p)) }
     {
@@ -186,6 +191,7 @@ impl FrameJoin {
 
     /// The fault that stands: the first that came to stand since the join was made.
     pub fn fault(&self) -> Option<JoinFault>
+        /// `fault` tells the first fault.
         ensures { (past : JoinHistory) → Represents past self.now → result ≡ past.fault }
     {
         self.pixels.fault()

@@ -19,19 +19,22 @@ pub fn not_whole_before()
 
 /// Where no fault stands, a proper front of what was given in all is no whole text.
 pub fn no_front_is_whole()
+    /// No proper front of what went out is a whole text.
     ensures { (past : JoinHistory) (join : JoinState) (front more : List ℕ) → Represents past join
         → past.fault ≡ None → past.given ≡ front ++ more → more ≢ [] → IsWhole front → ⊥ }
 {}
 
 /// Where no fault stands, what was given in all is less than 2^40 bytes.
 pub fn no_file_is_endless()
+    /// What goes out in all is less than 2^40 bytes.
     ensures { (past : JoinHistory) (join : JoinState)
         → Represents past join → past.fault ≡ None → length past.given < 2 ^ 40 }
 {}
 
-/// Of frames that are kept a join holds the bytes that show pixels, and no others: of the frame under way as many as that many
-/// rows have, and of those that ended, colors each, their rows.
 pub fn only_pixels_are_kept()
+    /// Of frames that are kept a join holds the bytes that show pixels, and no others: of the frame under way at most
+    /// what as many rows have, however long its lines are told to be.
+    /// Carried by: `coming`, `most`, `colors`, `size` of `only_pixels_are_kept`
     ensures coming { (past : JoinHistory) (join : JoinState) (f : Frame)
         → Represents past join → is_keeping join.pixels.stage ≡ true
         → past.under ≡ Some f → join.pixels.held ≡ (pixels_of f).payload }
@@ -47,8 +50,9 @@ pub fn only_pixels_are_kept()
         → is_full f ≡ true → length (pixels_of f).payload ≡ frame_height f * row_bytes f.params }
 {}
 
-/// A whole picture's frames show one.
 pub fn whole_shows()
+    /// A whole picture's frames show one, and frames that show a picture are accepted.
+    /// Carried by: `whole_shows`, `shown_frame_is_accepted`, `shown_colors_are_accepted`
     ensures { (past : JoinHistory) (join : JoinState)
         → Represents past join → IsJoined past → (p : Picture) × ShowsFrames past.ended p }
 {}
@@ -69,6 +73,9 @@ pub fn shown_colors_are_accepted()
 /// The file of a whole picture is that of one frame of known height; the three frames of one color each make a frame
 /// that has the colors side by side.
 pub fn whole_file_is_of_one_frame()
+    /// The file of a whole picture is that of one frame of known height, and the header and rows that such a frame
+    /// gives are those of the writer's text.
+    /// Carried by: `whole_file_is_of_one_frame`, `frame_file_is_the_writers_text`
     ensures { (past : JoinHistory) (join : JoinState) → Represents past join → IsJoined past
         → (f : Frame) × (is_alone f.params ≡ true) × ((i : ℕ) → slice_index f.payload i < 256)
         × (file_of past.ended ≡ file_front f (lines_in f.params.lines)) }

@@ -25,18 +25,24 @@ impl PnmOut {
     /// Writes the next bytes of the file that may go out to the front of `buf`, and says how many. The picture's last
     /// row goes out only once the picture is whole, and nothing after a fault. It takes no memory.
     pub fn pull(&mut self, join: &mut FrameJoin, buf: &mut [u8]) -> usize
+        // At most as many bytes as the buffer holds, the rest of which stays as it was.
         ensures count { result ≤ length buf.old }
         ensures rest { drop result buf.new ≡ drop result buf.old }
         // The join goes on from what was told before and what was given in all.
+        /// Rows of a frame of known height go straight through; other frames are kept until the picture is whole, and
+        /// nothing of them goes out before.
+        /// Carried by: `gone`, `carried` of `PnmOut::pull`
         ensures carried { (past : JoinHistory) → Represents past join.old
             → Represents (after_pull (take result buf.new) past) join.new }
-        // After a fault nothing goes out.
+        /// After a fault nothing goes out.
         ensures silent { (past : JoinHistory) (fault : JoinFault)
             → Represents past join.old → past.fault ≡ Some fault → result ≡ 0 }
         // Where nothing goes out, the header and the rows have gone, or the whole file; of a frame that is kept nothing.
         ensures gone { (past : JoinHistory) → Represents past join.old → past.fault ≡ None
             → result ≡ 0 → 0 < length buf.old → AllGone past.under past.ended past.given }
         // Then, where the picture is whole, what was given in all denotes the picture that the frames show.
+        /// What was pulled in all then denotes that picture, and before it is never whole.
+        /// Carried by: `denotes`, `whole` of `PnmOut::pull`; `not_whole_before`
         ensures denotes { (past : JoinHistory)
             → Represents past join.old → IsJoined past → result ≡ 0
             → 0 < length buf.old → (p : Picture) → ShowsFrames past.ended p → Denotes past.given p }

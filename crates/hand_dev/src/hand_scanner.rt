@@ -30,6 +30,7 @@ impl HandScanner {
     /// A hand scanner of that name at rest, its options at their defaults, on the page of a source. The source comes back
     /// for lack of memory.
     pub fn new(alloc: Global, name: Text, source: Source, order: ByteOrder) -> Result<Self, Source>
+        /// A hand scanner is a virtual scanner of that kind.
         ensures ok { IfOk result (λ made. made
             ≡ new_scanner HandKind name (source_state source) order) }
         ensures err { IfErr result (λ back. back ≡ source) }

@@ -18,6 +18,10 @@ pub record SlotDiffersInFlight (undelivered : List ℕ) (x y : Option (SessionSl
   pub input : (s : Session DeviceState) → session_in x ≡ Some s → input_in y ≡ input_in x
   pub replies : replies_in y ≡ undelivered ++ replies_in x
 
+-- **differs in flight (`DiffersInFlight`, `SlotDiffersInFlight`)**: the table, the users, how strings are sent, the
+-- challenges and the count of sessions are the same; each session is the same, and so is what came of its next request; its
+-- replies in the other daemon are the bytes in flight and behind them those of the one. Both are within a daemon's limits.
+--
 -- the bytes in flight, by the number of their session
 pub record DiffersInFlight (undelivered : ℕ → List ℕ) (d e : Core) : Type 0 where
   pub registry : e.registry ≡ d.registry
@@ -29,7 +33,8 @@ pub record DiffersInFlight (undelivered : ℕ → List ℕ) (d e : Core) : Type 
   pub limits : HasDaemonLimits d
   pub limits_there : HasDaemonLimits e
 
--- other bytes of one session are in flight
+-- **undelivered (`undelivered_with`, `undelivered_after_feed`)**: the bytes in flight where one session's are others; what
+-- is left of a session's where a piece was fed to it: all, or none where memory ran out.
 abbrev pub undelivered_with : ℕ → List ℕ → (ℕ → List ℕ) → ℕ → List ℕ
 undelivered_with n bytes undelivered m = if m == n then bytes else undelivered m
 
@@ -39,7 +44,7 @@ undelivered_after_feed Standing undelivered = undelivered
 undelivered_after_feed Over undelivered = undelivered
 undelivered_after_feed Starved undelivered = []
 
--- the other daemon can do this call as well, and then differs by these bytes
+-- **can follow (`CanFollow`)**: the other daemon can do this call as well, and then differs by these bytes.
 pub record CanFollow (undelivered : ℕ → List ℕ) (d_new : Core) (Call : Core → Type 0) : Type 0 where
   pub e_new : Core
   pub call : Call e_new

@@ -5,7 +5,7 @@ use Rattle.net_client.specs.ClientStates.{ClientRepresents, ClientState, TakesPa
 use Rattle.net_client.specs.FramePieces.{Receives}
 use Rattle.net_client.specs.ReplyPieces.{Heeds}
 
--- the same client, where these bytes still stand in front of those that are to go out
+-- **unheard (`with_unheard`)**: the same client, where these bytes still stand in front of those that are to go out.
 abbrev pub with_unheard : List ℕ → ClientState → ClientState
 with_unheard unheard c = record c { out = unheard ++ c.out }
 

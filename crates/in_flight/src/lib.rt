@@ -6,40 +6,48 @@ ghost use Rattle.in_flight.specs.FreePlaces.{FewerThanEightLeaveAPlace};
 ghost use Rattle.in_flight.specs.InFlight.{DataConnectionsAreAlike, DeliveriesAreUnseen, EndsAreAlike, FeedsAreAlike, FramesAreAlike, DataLossesAreAlike, NothingIsInFlight, OpensAreAlike, TakesAreUnseen, TurnsAreAlike};
 ghost use Rattle.in_flight.specs.Requests.{HistoriesAreAlike, TurnedPagesAreAlike, TakenRecordsAreAlike, HeardRepliesAreAlike};
 
-/// A daemon differs from itself by no bytes.
 #[tactic(none)]
 pub fn nothing_is_in_flight_at_first()
+    /// A daemon differs from itself by no bytes.
     ensures { NothingIsInFlight }
 {}
 
 /// Replies that one daemon gives out are in flight: the other has them still, in front of those that wait in both.
 #[tactic(none)]
 pub fn takes_are_unseen()
+    /// Replies that the one gives out are in flight, behind those that were.
     ensures { TakesAreUnseen }
 {}
 
 /// Bytes in flight are the first that the other daemon gives out, and the first does not see it.
 #[tactic(none)]
 pub fn deliveries_are_unseen()
+    /// They are the first bytes that the other gives out, and the one does not see it.
     ensures { DeliveriesAreUnseen }
 {}
 
 /// A session that is opened gets the same number in both, and is the same.
 #[tactic(none)]
 pub fn opens_are_alike()
+    /// One that is opened, where both have a place for it, has the same number in both. The other may keep a place
+    /// for a session that is over while its replies are in flight; it has one free where fewer than eight sessions
+    /// stand.
+    /// Carried by: `opens_are_alike`, `fewer_than_eight_leave_a_place`
     ensures { OpensAreAlike }
 {}
 
-/// What a piece of a session's bytes does to one daemon, it can do to the other, with the same replies. Where it ends the session
-/// for want of memory, the bytes in flight are dropped too.
 #[tactic(none)]
 pub fn feeds_are_alike()
+    /// Whatever a piece of a session's bytes does to the one it can do to the other, with the same replies. Where it
+    /// runs out of memory, what is in flight of that session is dropped.
     ensures { FeedsAreAlike }
 {}
 
-/// A frame is where it is in both, and its data connection is made, and lost, alike.
 #[tactic(none)]
 pub fn data_connections_are_alike()
+    /// A frame is where it is in both, and its data connection is made and lost alike; whatever a turn does to the
+    /// one it can do to the other, with the same record.
+    /// Carried by: `data_connections_are_alike`, `turns_are_alike`
     ensures frame { FramesAreAlike }
     ensures made { DataConnectionsAreAlike }
     ensures lost { DataLossesAreAlike }
@@ -51,9 +59,9 @@ pub fn turns_are_alike()
     ensures { TurnsAreAlike }
 {}
 
-/// A session that is ended gives back the same leases in both, and nothing of it is in flight.
 #[tactic(none)]
 pub fn ends_are_alike()
+    /// A session that is ended gives back the same in both, and nothing of it is in flight.
     ensures { EndsAreAlike }
 {}
 
@@ -63,10 +71,10 @@ pub fn fewer_than_eight_leave_a_place()
     ensures { FewerThanEightLeaveAPlace }
 {}
 
-/// Requests that were written and not heard are unseen by their client: it stands for the same histories, and makes the same of
-/// replies, of records and of a page whose file is taken.
 #[tactic(none)]
 pub fn requests_are_unseen()
+    /// A client of whose requests some are in flight stands for the same histories, and makes the same of replies, of
+    /// records and of the file of a page that is taken; they stay in front of those that are to go out.
     ensures past { HistoriesAreAlike }
     ensures replies { HeardRepliesAreAlike }
     ensures records { TakenRecordsAreAlike }

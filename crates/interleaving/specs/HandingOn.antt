@@ -36,6 +36,10 @@ IsHandedOn seen owner (OfServer (Of k act)) past = MayServe seen owner k act pas
 IsHandedOn seen owner (OfServer action) past = Unit {0}
 IsHandedOn seen owner (OfJob i move) past = MayMove seen owner i (seen move) past
 
+-- **hand on (`HandsOn`, `Owner`, `HaveOneSession`)**: each session's control connection is a job's, and no job has two; in
+-- the one order what a session is fed is, with all before it, a front of what its job has written, what a job reads a front
+-- of the replies that were taken of the core for its session, or of the records since the data connection was accepted, and
+-- one is accepted only where the job has made more.
 unfoldable pub HandsOn : {M : Type 0} → (M → Traffic) → Owner → List (JointAction M) → Type 0
 HandsOn seen owner [] = Unit {0}
 HandsOn seen owner (action ∷ past) = HandsOn seen owner past × IsHandedOn seen owner action past

@@ -5,7 +5,10 @@ use Rattle.saned_serve.specs.SessionActions.SessionAction.{Connect}
 use Rattle.saned_serve.specs.Journal.{LoopAction}
 use Rattle.saned_serve.specs.Journal.LoopAction.{Of}
 
--- what a move of a job does on its connections
+-- **traffic (`Traffic`, `bytes_sent`, `bytes_heard`, `bytes_taken`, `connections_made`, `connections_accepted`)**: what a
+-- move does on its job's connections: bytes are written to the control connection, or read of it, a data connection is
+-- made, bytes are read of the one that was made last, or nothing of that; what comes of it over a journal; and how many
+-- data connections a session was given.
 pub data Traffic : Type 0 where
   -- these bytes are written to the control connection
   Writes : (bytes : List ℕ) → Traffic
@@ -18,6 +21,9 @@ pub data Traffic : Type 0 where
   -- nothing of that
   NoTraffic : Traffic
 
+-- **interleaving (`JointAction`, `server_journal`, `job_journal`)**: a list, newest first, of a server's actions and of
+-- moves of jobs, each with its job's number; the journal of each in it.
+--
 -- the moves of jobs are of some type M
 pub data JointAction (M : Type 0) : Type 0 where
   OfServer : (action : LoopAction) → JointAction M

@@ -4,21 +4,24 @@
 
 ghost use Rattle.interleaving.specs.Orders.{AllMayComeSooner, MovesMayComeSooner, ReadsWereWritten};
 
-/// A move of a job that comes just behind an act that gives the job nothing may come just before it.
 #[tactic(none)]
 pub fn moves_may_come_sooner<M>()
+    /// A move that comes just behind an act which gives its job nothing, no byte and no connection, may come just
+    /// before it.
     ensures { MovesMayComeSooner M }
 {}
 
-/// From where the server gives a job nothing more on, the job may do at once all that it will yet do: each journal is the same, and
-/// the connections hand on as before.
 #[tactic(none)]
 pub fn all_may_come_sooner<M>()
+    /// From where the server gives a job nothing more on, the job may do at once all that it will yet do: each
+    /// journal is the same, and connections hand on as before.
     ensures { AllMayComeSooner M }
 {}
 
 /// Over connections that hand on, in every order, what was read of a job's connections is a front of what was given to them.
 #[tactic(none)]
 pub fn reads_were_written<M>()
+    /// In every such order what was read of each connection of a job is a front of what was given to it, and a data
+    /// connection that is not accepted yet gave nothing.
     ensures { ReadsWereWritten M }
 {}

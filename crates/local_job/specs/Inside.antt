@@ -77,6 +77,9 @@ abbrev pub put_found : Setup → List ℕ × List ℕ → Option ℕ → Result 
 put_found s setting None = Err bad_setting
 put_found s setting (Some n) = put_read s setting.0 n (value_of_setting s n setting.1)
 
+-- **settings put (`put_one`, `put_all`)**: the same one after another, as the code does it, with what ends the job at the
+-- first that fails; proved to be the settings in force.
+--
 -- the option of the setting's name is found, its text is read, and the value is set
 unfoldable pub put_one : Setup → List ℕ × List ℕ → Result (Setup × Report) Stop
 put_one s setting = put_found s setting (number_named setting.0 (descriptors_of s))
@@ -101,7 +104,8 @@ with_done done (Err stop) = Err stop
 
 -- ---- the bytes of a file on their way from a join to the output
 
--- more bytes were given, the output took all that were given so far, and once the picture is whole they denote it
+-- **drained (`JoinIsDrainedTo`), stops short (`StopsShort`)**: the output took all that was given so far, and once the
+-- picture is whole that denotes it; the output took a text that is no whole file.
 pub record JoinIsDrainedTo (past : JoinHistory) (first : Option (List ℕ)) (join : JoinState) (contents : Option (List ℕ)) : Type 0 where
   pub bytes : List ℕ
   pub stands : Represents (after_pull bytes past) join
@@ -130,6 +134,12 @@ pub record JoinIsInside (past : JoinHistory) (frame : Frame) (first : Option (Li
   pub under : past.under ≡ Some frame
   pub taken : Appends first contents past.given
 
+-- **read to (`FrameUnderWay`, `IsReadTo`), ends the frame (`JoinsFrame`), joined (`HasJoined`), scanned (`IsScanned`)**: so
+-- many bytes of a frame came, the front of the pass's where the source is steady; the frame had all its bytes and the
+-- output took what was given; so many passes were joined, each with the pass's bytes where the source is steady, and one
+-- more is to come; the output took the whole file of a picture, which is the scene's meaning on the page where the source
+-- is steady.
+--
 -- a frame under way: what was told to the join, the frame, and what the output held first
 pub record FrameUnderWay : Type 0 where
   pub past : JoinHistory

@@ -32,8 +32,8 @@ pub record IsBatchPut (s : DeviceState) (job : Job) (forced : Setup × List Plac
   pub taken : HasJobFault job None
   pub put : in_force s.setup.scene.kind s.setup.order (settings_put job.task job.settings.items) ≡ Some forced
 
--- The job was done on this scanner: its settings are in force and reported, its task was done and reported, and its pages
--- were scanned with these settings, from a scanner that was reset.
+-- **done (`IsBatchDone`)**: settings in force and reported, the task's devices and options told, and pages scanned: as many
+-- as were asked for, or fewer, at least one, where none is left; the shelf kept the output of each.
 pub record IsBatchDone (job : Job) (was now : DeviceAndShelf) (reports : Reports) : Type 0 where
   pub setup : Setup
   pub placed : List Placement
@@ -50,8 +50,9 @@ pub record ScansNothing (old : DeviceState) (before after : Option Stock) (new :
   pub pages : new.pages ≡ (after_reset old).pages
   pub rest : is_at_rest new.phase ≡ true
 
--- What ends a job that is not done: its size or count; the setting that is not put; out of memory; or what ends the scan
--- of a page.
+-- **ended (`IsBatchEndedBy`, `StopsAt`, `EndsBehind`, `RefusesLast`)**: the size or the count; the setting that is not put;
+-- out of memory before the first page; or, behind the pages that were finished, what ends a scan, where at most one output
+-- more was asked for, which took no whole file; or a shelf that refuses the last page's output.
 pub record IsBatchEndedBy (job : Job) (was now : DeviceAndShelf) (stop : Stop) : Type 0 where
   pub size : (HasJobFault job None → ⊥) → stop ≡ bad_setting
   pub setting : HasJobFault job None → (why : Stop) → FailsAt (defaults was.device.setup.scene.kind was.device.setup.order) (settings_put job.task job.settings.items) why → (stop ≡ no_memory) ⊎ (stop ≡ why)

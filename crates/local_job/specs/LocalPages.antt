@@ -44,6 +44,9 @@ pub record DeviceAndShelf : Type 0 where
   pub device : DeviceState
   pub stock : Option Stock
 
+-- **pages scanned (`AreScanned`)**: one file for each page: whole, and of the meaning of the options on the scanner's first
+-- page where its source is steady; the next is that of the scanner that the page before left.
+--
 -- So many pages were scanned, or fewer, at least one, where no page was left. Each has its file, and they went out under
 -- the numbers from 1 on; the shelf kept every one.
 pub record AreScanned (count : ℕ) (was now : DeviceAndShelf) : Type 0 where

@@ -82,8 +82,10 @@ pub record DeviceAndOutput : Type 0 where
   pub device : DeviceState
   pub output : Option (List ℕ)
 
--- The job was done on this scanner: its settings are in force and reported, its task was done and reported, and the
--- scanner is left as after a reset, at rest, with the options of the settings.
+-- **done (`IsDone`), ended by (`IsEndedBy`), leaves no file (`LeavesNoFile`)**: the settings that the task puts are in
+-- force and reported, the task told and wrote what it should, and the scanner is left as after a reset, at rest and not
+-- cancelled, with the options of the settings; what ends a job: its size, a task that wants more than one file, the setting
+-- that fails, a picture that is none, no page, out of memory, or the cause that ends a scan; the output took no whole file.
 pub record IsDone (job : Job) (was now : DeviceAndOutput) (reports : Reports) : Type 0 where
   pub setup : Setup
   pub placed : List Placement

@@ -24,6 +24,11 @@ pub record IsReported (s : Setup) (setting : List ℕ × List ℕ) (p : Placemen
   pub set : option_set s puts.n p.asked ≡ Ok (p.given, report.info)
   pub info : TellsOfSet s puts.n p.asked p.given report.info
 
+-- **settings in force, reported (`SettingsAreReported`, `IsReported`), fails at (`FailsAt`)**: the report of each setting:
+-- its kind is the option's, asked is what its text reads as, given the admitted value nearest to it, INEXACT just where
+-- they differ, RELOAD_OPTIONS just where the descriptors changed; the first setting that is not put, and why: no option has
+-- its name, its text asks nothing of that option, or the set refuses.
+--
 -- each of the settings, from the options that those before it left
 abbrev pub SettingsAreReported : Setup → List (List ℕ × List ℕ) → List Placement → List Report → Type 0
 SettingsAreReported s [] [] [] = Unit {0}

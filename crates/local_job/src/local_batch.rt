@@ -105,15 +105,26 @@ pub fn run_local_batch<S: Shelf>(
     job: &Job,
     shelf: &mut S,
 ) -> Outcome
+    // It is done, or has ended.
     ensures over { IsOver result }
+    /// Where `run_local_batch` is Done, its pages are those of the tray in their order, each scanned with the
+    /// settings in force, each file whole and of the meaning on its page (where the page's source is steady).
+    ///
+    /// The shelf kept them all, in order and numbered from 1; as many as were asked for, or fewer, at least one,
+    /// where no page was left.
+    /// Carried by: `done` of `run_local_batch`: `AreScanned`
     ensures done { IfDone result (λ reports.
         IsBatchDone job.now (record { device = state device.old; stock = S.stock shelf.old })
         (record { device = state device.new; stock = S.stock shelf.new }) reports) }
+    /// Any other ending leaves the files of the pages that were finished, and at most one output more, which took no
+    /// whole file, and has its cause as a scan's; or the shelf refused the last page's output, and no other.
+    /// Carried by: `ended`, `stop` of `run_local_batch`: `RefusesLast`, `EndsBehind`
     ensures ended { IfEnded result (λ status why. (status ≢ Good) × (status ≢ Eof)) }
     ensures stop { IfEnded result (λ status why.
         IsBatchEndedBy job.now (record { device = state device.old; stock = S.stock shelf.old })
         (record { device = state device.new; stock = S.stock shelf.new })
         (record { status = status; why = why })) }
+    // The scanner is at rest.
     ensures rest { is_at_rest (state device.new).phase ≡ true }
 {
     match run_local_batch_with(alloc, device, job, shelf, |_| Ok(())) {

@@ -144,14 +144,47 @@ pub fn run_local<W: Write>(
     job: &Job,
     out: &mut W,
 ) -> Outcome
+    // It is done, or has ended.
     ensures over { IsOver result }
+    /// Where `run_local` answers Done its settings are in force, each reported with its option's kind, what its text
+    /// reads as, the admitted value nearest to that, and INEXACT just where they differ.
+    ///
+    /// A scan's output then took the whole file of a picture. It is exactly the meaning of the settings' scene on the
+    /// scanner's page where the page's source is steady.
+    ///
+    /// A list told the scanner and ignored the settings; a show told each option, with its value where it is active,
+    /// can be read and has one; these, and settings alone, wrote nothing.
+    ///
+    /// The scanner is left at rest, not cancelled, with the options of the settings.
+    /// Carried by: `done`, `rest` of `run_local`
     ensures done { IfDone result (λ reports.
         IsDone job.now (record { device = state device.old; output = W.contents out.old })
         (record { device = state device.new; output = W.contents out.new }) reports) }
+    /// Any other ending has a status that is neither GOOD nor EOF, and the output took no whole file.
     ensures ended { IfEnded result (λ status why. (status ≢ Good)
         × (status ≢ Eof) × LeavesNoFile (W.contents out.old) (W.contents out.new)) }
+    /// A job too large ends with INVAL (setting).
+    /// Carried by: `stop` of `run_local`: `size` of `IsEndedBy`
+    ///
+    /// A setting that fails ends the job with its own status and why, and settings that mean no picture with INVAL
+    /// (answer); both may also end for lack of memory.
+    /// Carried by: `stop` of `run_local`: `setting`, `no_picture` of `IsEndedBy`
+    ///
+    /// With its settings in force, a task other than a scan ends otherwise for lack of memory alone.
+    ///
+    /// A scan on a feeder whose tray is empty ends with NO_DOCS (answer), or for lack of memory.
+    ///
+    /// A scan of a picture ends otherwise for lack of memory, for its output, as short where `read-return-value` says
+    /// EOF, or with what `read-return-value` names, or IO_ERROR where a failure of the page's source was counted in
+    /// the job.
+    ///
+    /// A batch is no such job: it ends with INVAL (setting).
+    /// Carried by: `stop` of `run_local`: `size` of `IsEndedBy`
     ensures stop { IfEnded result (λ status why. IsEndedBy (state device.old) job.now
         (state device.new) (record { status = status; why = why })) }
+    /// The pages are those of before, but that a feeder lets go of the page that was scanned, and the reset at the
+    /// beginning of one under way.
+    /// Carried by: `runs` of `run_local`
     ensures runs { ChangesDevice (state device.old) (state device.new) }
     ensures rest { is_at_rest (state device.new).phase ≡ true }
 {

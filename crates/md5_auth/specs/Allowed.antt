@@ -8,7 +8,7 @@ use Rattle.md5_auth.specs.declared.users.Entry.{Entry}
 abbrev pub mark : List ℕ
 mark = codes "$MD5$"
 
--- what follows the first `$MD5$` of the resource, of that at most the first 128 bytes
+-- **challenge of a resource (`IsChallenge`)**: what follows the first `$MD5$`, of that at most 128 bytes.
 pub record IsChallenge (resource challenge : List ℕ) : Type 0 where
   pub before : List ℕ
   pub after : List ℕ
@@ -30,7 +30,8 @@ abbrev pub LineAllows : List Entry → List ℕ → List ℕ → List ℕ → Li
 LineAllows users user password backend resource =
     (challenge : List ℕ) × IsChallenge resource challenge × HasDigest users user backend challenge (md5 (challenge ++ password))
 
--- no line names the backend, or some line allows it to the user
+-- **allowed (`UserIsAllowed`)**: no line names the backend, or some line of that user and backend has a password whose MD5
+-- after the challenge equals that of the password given. `SentAllows` is the second half, with the digest that was sent.
 abbrev pub UserIsAllowed : List Entry → List ℕ → List ℕ → List ℕ → List ℕ → Type 0
 UserIsAllowed users user password backend resource = (¬ NamesBackend users backend) ⊎ LineAllows users user password backend resource
 

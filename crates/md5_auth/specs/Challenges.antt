@@ -17,6 +17,9 @@ digits_from key stream place (suc n) = digits_from key stream place n ++ word_di
 abbrev pub challenge_at : List ℕ → ℕ → List ℕ
 challenge_at seed k = digits_from (key_of seed) 0 (4 * k) 4
 
+-- **challenges of a seed (`HasGiven`)**: number k, from 0, is words 4k to 4k+3 modulo 2^68 of ChaCha20's stream of the
+-- seed, each as 8 lower-case hexadecimal digits.
+--
 -- the generator has given that many challenges of the seed
 abbrev pub HasGiven : List ℕ → ℕ → ChaCha → Type 0
 HasGiven seed k g = g ≡ record { key = key_of seed; stream = 0; word_pos = 4 * k % 2 ^ 68 }

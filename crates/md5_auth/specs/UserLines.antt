@@ -61,6 +61,11 @@ abbrev pub is_some_line : List ℕ → Bool
 is_some_line [] = false
 is_some_line (byte ∷ bytes) = true
 
+-- **users file (`TellsUsers`, `HasLineFault`)**: at most 256 lines of at most 256 bytes 20 to 7E (hexadecimal). Each is
+-- empty, or `user:password:backend` with exactly two colons, user and backend not empty. Its entries are those of the lines
+-- that are not empty, in order. A file is refused for its first refused line, a line for the first reason in the order: too
+-- many lines, line too long, bad byte, wrong number of fields, empty field.
+--
 -- each line of the text may stand in a users file, and those that are not empty are the lines of these entries, in order
 pub record TellsUsers (text : List ℕ) (entries : List Entry) : Type 0 where
   pub good : AllAfter (λ before line. IsGood (length before + 1) line) [] (lines_of text)

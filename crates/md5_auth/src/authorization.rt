@@ -45,6 +45,8 @@ fn answer_to(challenge: &[u8], password: &[u8]) -> [u8; 37]
 /// The answer to a resource with a password: `$MD5$` and the 32 lower-case hexadecimal digits of the
 /// MD5 digest of the challenge followed by the password. `None` where the resource has no `$MD5$`.
 pub fn answer(alloc: Global, resource: &[u8], password: &[u8]) -> Result<Option<Text>, NoMem>
+    /// `answer` gives the digest of a resource's challenge and the password, and none exactly where the resource has
+    /// no challenge.
     ensures found { IfOk result
         (λ answer. IfSome answer (λ text. IsAnswer text resource.now password.now)) }
     ensures none { (result ≡ Ok None)
@@ -70,6 +72,7 @@ fn gives_answer(entry: &Entry, user: &[u8], backend: &[u8], challenge: &[u8], an
 /// Whether some line of the user and the backend allows them by the digest sent. Every line is
 /// looked at, whichever fits. It takes no memory.
 pub fn check(users: &Users, user: &[u8], backend: &[u8], resource: &[u8], answer: &[u8]) -> bool
+    /// `check` is yes exactly where a line of that user and backend allows the digest that was sent.
     ensures { IsTrue result ↔ SentAllows users.now user.now backend.now resource.now answer.now }
 {
     let Some(challenge) = challenge(resource) else {

@@ -60,6 +60,8 @@ impl Challenger {
     /// lower-case hexadecimal digits. Where memory runs out nothing is lost: the same challenge is
     /// still the next one.
     pub fn next(&mut self, alloc: Global) -> Result<Text, NoMem>
+        /// The k-th challenge is made of the k-th four words of the seed's stream; one that finds no memory is not
+        /// lost.
         ensures text { (seed : List ℕ) (k : ℕ)
             → HasGiven seed k self.old → IfOk result (λ text. text ≡ challenge_at seed k) }
         ensures ok { (seed : List ℕ) (k : ℕ)

@@ -36,6 +36,9 @@ impl Users {
     /// The users of a file: at most 256 lines of at most 256 bytes, each `user:password:backend`, where
     /// user and backend are not empty, or empty. Tests one line after another.
     pub fn parse(alloc: Global, text: &[u8]) -> Result<Users, LineFault>
+        /// `Users::parse` reads exactly the users files, and a refusal is that of the first refused line, for its
+        /// first reason.
+        /// Carried by: `found`, `fault` of `Users::parse`
         ensures found { IfOk result (λ users. TellsUsers text.now users) }
         ensures fault { IfErr result (λ fault. HasLineFault text.now fault.line fault.reason) }
     {
@@ -64,6 +67,7 @@ impl Users {
 
     /// Whether some line names the backend.
     pub fn needs(&self, backend: &[u8]) -> bool
+        /// `needs` says whether some line names the backend.
         ensures { IsTrue result ↔ NamesBackend self.now backend.now }
     {
         self.entries

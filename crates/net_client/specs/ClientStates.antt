@@ -25,8 +25,9 @@ use Rattle.client_replies.specs.Asking.{request_for, goodbye}
 use Rattle.client_replies.specs.ProtocolStates.{ProtocolState, HistoryFits, answer_to, target_of, next_file}
 use Rattle.net_client.specs.Sending.{requests_text, optional_request_text}
 
--- what a client is to its callers: the job and its outcome, what it waits for and has come to know, the bytes that are to go
--- out, what came of the next reply, where it stands in a frame's records, and the join
+-- **client (`ClientState`, `ClientRepresents`)**: the job, its outcome, what it waits for and knows, the bytes to go out,
+-- what came of the next reply, where it stands in a frame's records, and the join; it represents a history where the join
+-- does and it fits.
 pub record ClientState : Type 0 where
   pub target : JobTarget
   pub outcome : Outcome
@@ -37,7 +38,7 @@ pub record ClientState : Type 0 where
   pub phase : RecordPhase
   pub join : JoinState
 
--- bytes of a reply came before the request that it answers was taken
+-- **early reply (`HasEarlyReply`)**: bytes of a reply came before the request that it answers was taken of the client.
 abbrev pub HasEarlyReply : ClientState → Type 0
 HasEarlyReply c = (c.out ≢ []) × (c.input.rest ≢ [])
 
@@ -94,8 +95,8 @@ pub record TurnsPage (old new : ClientState) : Type 0 where
   pub text : behind old.out (optional_request_text (request_for old.target old.notes.word (stages.Starting true))) ≡ Some new.out
   pub stands : Represents empty_history new.join
 
--- Bytes of the file of a batch's page: where they are not its last, the client waits on for it to be taken; with the last
--- one the file is whole, that of the picture that the page's frames show, and the client turns to the next page.
+-- **a page's file taken (`TakesPage`)**: bytes that are not the file's last; or the last one, with which the file denotes
+-- the picture of the page's frames, START is asked for, and a new join stands.
 pub data TakesPage (old : ClientState) (past : JoinHistory) (bytes : List ℕ) (new : ClientState) : Type 0 where
   Stays : (IsWhole (past.given ++ bytes) → ⊥) → new ≡ record old { join = new.join } → ClientRepresents (after_pull bytes past) new → TakesPage old past bytes new
   Turns : IsWhole (past.given ++ bytes) → ((p : Picture) → ShowsFrames past.ended p → Denotes (past.given ++ bytes) p) → TurnsPage old new → ClientRepresents empty_history new → TakesPage old past bytes new

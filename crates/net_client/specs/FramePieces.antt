@@ -77,5 +77,7 @@ pub record FailsAtBytes (old : ClientState) (past : JoinHistory) (piece : List �
   pub serves : ClientRepresents (after_feed reads.last reads.starved (with_payload past frame reads.before)) new
   pub rest : new ≡ record old { outcome = next_outcome old.target.task old.notes (stop_unjoined fault); progress = stages.Over; phase = new.phase; join = new.join }
 
+-- **receives (`Receives`)**: what a piece of a data connection makes of it: bytes of the frame, the end record, bytes too
+-- many, or out of memory.
 abbrev pub Receives : ClientState → JoinHistory → List ℕ → ClientState → Type 0
 Receives old past piece new = TakesBytes old past piece new ⊎ (TakesFrameEnd old past piece new ⊎ FailsAtBytes old past piece new)

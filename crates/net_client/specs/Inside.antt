@@ -41,7 +41,8 @@ pub record GoesOnBy (old : ClientState) (next : Next) (new : ClientState) : Type
 abbrev pub after_out_of_memory : ClientState → ClientState
 after_out_of_memory v = after_client_end statuses.NoMem whys.Memory v
 
--- the join stands for what was told to it, no fault does, and this frame is under way
+-- **within a frame (`RepresentsWithin`)**: the join stands for what was told to it, no fault does, and this frame is under
+-- way.
 pub record RepresentsWithin (past : JoinHistory) (frame : Frame) (join : JoinState) : Type 0 where
   pub stands : Represents past join
   pub clear : past.fault ≡ None

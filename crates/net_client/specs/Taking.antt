@@ -7,8 +7,9 @@ use Rattle.frame_join.specs.FrameHistory.{JoinHistory, IsJoined, after_pull}
 use Rattle.client_replies.specs.ProtocolStates.{is_ended, turns}
 use Rattle.net_client.specs.ClientStates.{ClientState, ClientRepresents, TakesPage}
 
--- What a client gave so: one that waits for its page's file to be taken gave bytes of that, and any other serves on with them.
--- It gives the picture as above; only a job that has ended otherwise need not have given all of it.
+-- **bytes of the file taken (`TakesFile`, `GivesPicture`)**: a client that waits for its page's file to be taken gave bytes
+-- of that, any other serves on with them; of a whole picture, where nothing more comes and the job has not ended otherwise,
+-- all that was given denotes it; before it is whole, what was given is no whole file.
 pub record TakesFile (old : ClientState) (past : JoinHistory) (room : ℕ) (bytes : List ℕ) (new : ClientState) : Type 0 where
   pub carried : turns old.outcome old.progress ≡ false → ClientRepresents (after_pull bytes past) new
   pub page : turns old.outcome old.progress ≡ true → TakesPage old past bytes new

@@ -91,7 +91,9 @@ impl Client {
 
     /// A client of a job. A job that is refused comes back.
     pub fn new(alloc: Global, job: Job) -> Result<Client, (JobFault, Job)>
+        // Nothing has happened to it yet.
         ensures fresh { IfOk result (λ c. IsNewClient job c) }
+        /// A job that is too large is refused and given back.
         ensures fault { IfErr result (λ e. HasJobFault job (Some e.0)) }
         ensures back { IfErr result (λ e. e.1 ≡ job) }
     {
@@ -171,6 +173,8 @@ impl Client {
 
     /// The next bytes for the control connection.
     pub fn take_out(&mut self, buf: &mut [u8]) -> usize
+        /// What it sends are the spellings of the requests that `hear` has for those replies.
+        /// Carried by: `Client::take_out`, `feed_control`
         ensures count { result ≡ min (length buf.old) (length self.old.out) }
         ensures given { take result buf.new ≡ take result self.old.out }
         ensures rest { drop result buf.new ≡ drop result buf.old }
@@ -253,6 +257,10 @@ impl Client {
     /// waits. A job that is over ignores them.
     pub fn feed_control(&mut self, piece: &[u8])
         ensures over { is_running self.old.outcome ≡ false → self.new ≡ self.old }
+        /// The bytes of the control connection are spellings of the replies that were awaited, heard one after
+        /// another as `hear` says, then a rest of which more is wanted, or the job ended as malformed, or for lack of
+        /// memory.
+        /// Carried by: `heeds` of `Client::feed_control`: `Heeds`
         ensures heeds { is_running self.old.outcome ≡ true → (past : JoinHistory)
             → ClientRepresents past self.old → Heeds self.old past piece.now self.new }
     {
@@ -374,6 +382,9 @@ impl Client {
     pub fn feed_data(&mut self, piece: &[u8])
         ensures idle { is_receiving self.old.outcome self.old.progress ≡ false
             → self.new ≡ self.old }
+        /// The records of a data connection give the join their payload, and their end what `client_replies` makes of
+        /// it.
+        /// Carried by: `receives` of `Client::feed_data`: `Receives`
         ensures receives { is_receiving self.old.outcome self.old.progress ≡ true
             → (past : JoinHistory)
             → ClientRepresents past self.old → Receives self.old past piece.now self.new }
@@ -476,6 +487,14 @@ impl Client {
         ensures outcome { self.new.outcome ≡ self.old.outcome }
         ensures same { is_ended self.old.outcome ≡ false → turns self.old.outcome self.old.progress
             ≡ false → self.new ≡ record self.old { join = self.new.join } }
+        /// The bytes that `take_file` gave, once a scan is Done and it gives 0, denote the picture that the frames
+        /// show by what was replied and read.
+        /// Carried by: `taken` of `Client::take_file`: `TakesFile`
+        ///
+        /// Before they are never a whole file.
+        ///
+        /// Each page of a batch likewise; the next START is asked for in the call that gives a page's last byte.
+        /// Carried by: `Client::take_file`, `file_number`
         ensures taken { (past : JoinHistory) → ClientRepresents past self.old
             → TakesFile self.old past (length buf.old) (take result buf.new) self.new }
     {
@@ -522,6 +541,10 @@ impl Client {
 
     /// The job is given up: one that runs ends so, and tells the daemon. It takes no memory.
     pub fn cancel(&mut self)
+        /// A cancel ends a running job with CANCEL where a frame may be under way, and EXIT, and takes no memory.
+        ///
+        /// A job that is over stays so, and a call changes nothing of it but what waits to go out.
+        /// Carried by: `over` of `feed_control`; `over` of `cancel`; `idle` of `feed_data`
         ensures over { is_running self.old.outcome ≡ false → self.new ≡ self.old }
         ensures ended { is_running self.old.outcome ≡ true → self.new ≡ record
             (after_client_end Status.Cancelled Why.Cancelled self.old) { out = self.new.out } }
@@ -541,8 +564,11 @@ impl Client {
 
     /// A connection is lost. That of the data counts from the wanted port to the end record.
     pub fn link_lost(&mut self, link: Link)
+        /// A lost link ends a job where it counts.
+        /// Carried by: `lost` of `Client::link_lost`
         ensures lost { self.new ≡ (if is_lost_by link self.old.outcome self.old.progress
             then after_client_end Status.IoError Why.Lost self.old else self.old) }
+        // It stands for the same histories.
         ensures serves { (past : JoinHistory)
             → ClientRepresents past self.old → ClientRepresents past self.new }
     {

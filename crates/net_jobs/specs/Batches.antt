@@ -50,6 +50,10 @@ MayScan tasks.Scan n = n ≡ 1
 MayScan (tasks.Batch count) n = (1 ≤ n) × (n ≤ count)
 MayScan task n = n ≡ 0
 
+-- **Batch done, batch ended, batch refused**: what `run_batch` promises, as [PROMISES.md](PROMISES.md#net_jobs) has it. Of
+-- a batch that ended otherwise the shelf **keeps all pages**, or **refuses the last** (`KeepsAllPages`, `RefusesLastPage`).
+-- The pages of a job that is done are those that were turned and the last one, if its picture is whole.
+--
 -- The job is done, as the client's rules have it for these replies and frames. All was written, with CLOSE and EXIT, unless a
 -- write failed; each data connection began with its frame's records, which ended with EOF; and the shelf kept one output for
 -- each page, in their order, numbered from 1, each with the whole file of the picture that the page's frames show, and was given

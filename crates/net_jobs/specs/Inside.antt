@@ -106,7 +106,9 @@ HasReadOf (Some all) remaining whole bytes = Consumes (Some whole) remaining byt
 
 -- ---- a turn of a job's loop: its moves, with what each makes of the client, of the connections, and of the tally of their calls
 
--- what became of a job's calls: why nothing more is read, if so, and whether a write to the control connection failed
+-- **Notes** (`CallNotes`, `NotesMatch`): what the tally of a job's calls noted of them: why nothing more is read, and
+-- whether a write failed. **All moves** of a turn (`MovesAll`) lead from one client, links, data connection and notes to
+-- the next; a journal's notes match where it tells of losses and failed writes what the tally does.
 pub record CallNotes : Type 0 where
   pub loss : Option Loss
   pub write_failed : Bool
@@ -276,12 +278,16 @@ StopsAs (Ended status why) stop = stop ≡ record { status = status; why = why }
 
 -- ---- the bytes of a scan's file on their way to the output
 
--- a scan's client stands for what was told to it and given, and the output took what was given, behind what it held first
+-- **Holds what was given** (`HoldsGiven`): a scan's client stands for what was told to it and given, and the output took
+-- what was given, behind what it held first.
 pub record HoldsGiven (past : JoinHistory) (client : ClientState) (first contents : Option (List ℕ)) : Type 0 where
   pub scan : client.target.task ≡ tasks.Scan
   pub serves : ClientRepresents past client
   pub taken : Appends first contents past.given
 
+-- **Drained** (`IsDrainedTo`, `StopsBehind`): the output took all that was given of the file, which denotes the frames'
+-- picture once that is whole; or it took a text that is no whole file.
+--
 -- these bytes more were given, the output took all that were given so far, and once the picture is whole they denote it
 pub record IsDrainedTo (past : JoinHistory) (old : ClientState) (first : Option (List ℕ)) (bytes : List ℕ) (new : ClientState) (contents : Option (List ℕ)) : Type 0 where
   pub serves : ClientRepresents (after_pull bytes past) new
@@ -313,7 +319,8 @@ pub record OutputIsUnderWay (before : Option Stock) (outputs : List ReturnedOutp
   pub taken : HasTaken before outputs now out k bytes
   pub asked : bytes ≡ [] → out ≡ None
 
--- whatever it took before, with what the shelf took back, it took these bytes more
+-- **Takes more, takes a front** (`TakesMore`, `TakesFront`): whatever the output under way took before, it took these bytes
+-- more, or only a proper front of them.
 abbrev pub TakesMore : Option Stock → Option (Option (List ℕ)) → Option Stock → Option (Option (List ℕ)) → ℕ → List ℕ → Type 0
 TakesMore was out now new k bytes = (before : Option Stock) (outputs : List ReturnedOutput) (had : List ℕ) → HasTaken before outputs was out k had → HasTaken before outputs now new k (had ++ bytes)
 
@@ -337,8 +344,10 @@ HasBatchRun views job was now (Ended status why) = BatchEnded views job was now 
 
 -- ---- files and pages of a batch
 
--- a client that scans stands for what was told to it and given, and the output of the file under way, which is number k, took
--- what was given of that
+-- **Filing, filed, filed short** (`IsFiling`, `HasFiled`, `HasFiledShort`): a client that scans stands for what was told to
+-- it and given, and the output of the file under way, by its number, took what was given of that; then all that the client
+-- gave was taken, and it goes on with its file or turned to the next page; or an output fell short, or the shelf refused
+-- the one that was given back as the client turned.
 pub record IsFiling (past : JoinHistory) (client : ClientState) (k : ℕ) (before : Option Stock) (outputs : List ReturnedOutput) (now : Option Stock) (out : Option (Option (List ℕ))) : Type 0 where
   pub scanning : scans client.target.task ≡ true
   pub number : is_ended client.outcome ≡ false → client.notes.file ≡ k

@@ -12,6 +12,10 @@ use Rattle.net_client.specs.ReplyPieces.{Heeds}
 use Rattle.net_client.specs.Taking.{TakesFile}
 use Rattle.net_jobs.specs.declared.calls.Loss.{Loss}
 
+-- **Move** (`JobMove`, `MoveLeads`): what a loop does, with what it makes of the client by the client's own contracts. All
+-- that is to go out is written, or only a front of it, as a write failed; a piece of the control connection is heard, or
+-- what came too soon is looked at again; a data connection at a port is asked for, and made or not; a piece of it is taken;
+-- bytes of the job's files go out; a connection is lost, for a reason (`Loss`, `src/calls.rt`).
 pub data JobMove : Type 0 where
   -- all that was to go out to the daemon is written to the control connection
   Writes : (bytes : List ℕ) → JobMove
@@ -95,7 +99,9 @@ MoveLeads c (Takes piece) e = TakesPiece c piece e × IsPiece piece
 MoveLeads c (Gives bytes) e = GivesFileBytes c bytes e
 MoveLeads c (Loses link reason) e = LosesLink c link e
 
--- moves one after another, the newest first
+-- **Journal** (`MovesLead`): moves one after another, the newest first. It tells what was written, read and given, which
+-- ports were asked for, and whether a write failed (`bytes_written_by`, `heard_by`, `given_by`, `dialled_by`,
+-- `has_write_failed`); and why nothing more was read (`HasLoss`; `loss_of`, `Inside.antt`).
 abbrev pub MovesLead : ClientState → List JobMove → ClientState → Type 0
 MovesLead first [] now = now ≡ first
 MovesLead first (move ∷ moves) now = (was : ClientState) × MovesLead first moves was × MoveLeads was move now

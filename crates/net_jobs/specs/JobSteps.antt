@@ -7,8 +7,14 @@ use Rattle.net_jobs.specs.JobJournal.{AreGives, GivesFileBytes, HearsPiece, IsPi
 use Rattle.net_jobs.specs.Outputs.{texts_of}
 use Rattle.net_jobs.specs.JobJournal.JobMove.{Fails, Hears, Resumes, Takes, Gives}
 
--- a move, the moves by which bytes of the job's file go out behind it, the newest first, and whether the file is that of a page
--- which ends so, and the job turns to its next page
+-- **step (`JobStep`, `StepLeads`, `StepsLead`, `MovesAreSteps`)**: a move of a job, the bytes of its file that go out
+-- behind it, and whether the file is a page's that ends so; what a step, or steps one after another, make of a client, with
+-- nothing behind a write that failed. Behind a piece of 1 to 4,096 bytes (`IsPiece`), or where what came before its request
+-- was written is looked at again, the file goes out until the client gives no bytes (`FileRunsOut`, `FileGoesOn`), or, of a
+-- batch, to the last bytes of a page, with which the client turns to its next one (`PageEnds`), and behind no other move; a
+-- job that has ended gives none. The files that went out: those of the pages that were turned (`files_by_steps`) and the
+-- one under way (`given_by_steps`), and of which pages they are (`StepsGive`); moves that **stop within** the last that
+-- came, since an output failed (`MovesStopWithin`); the moves of steps (`moves_of`).
 pub record JobStep : Type 0 where
   pub move : JobMove
   pub gives : List JobMove

@@ -18,8 +18,11 @@ use Rattle.net_client.specs.ClientStates.{sends, sent_by}
 use Rattle.net_client.specs.ReplyPieces.{IsReply}
 use Rattle.net_client.specs.Sending.{optional_request_text}
 
--- what a job lives through: a reply, its data connection made at that port, bytes of the frame that this carries, the frame's end with a
--- status, bytes of the file that were given, and the last bytes of the file of a page behind which a batch asks for another
+-- **Trace**: what a job lived through: the text of its replies, the data of each frame that ended, what it sent for them,
+-- and how far it is. An **event** is a reply, a data connection made, bytes of a frame, a frame's end with its status,
+-- bytes of the file given, or the last bytes of a page's file, with which a batch turns to the next page; one event goes on
+-- to the next trace as the client's rules say (`EventLeads`), and a run is events one after another (`EventsLead`). They
+-- **end well** where each frame ended with EOF.
 pub data TraceEvent : Type 0 where
   Replied : Reply → TraceEvent
   Opened : ℕ → TraceEvent
@@ -107,8 +110,8 @@ pub record ControlBytes : Type 0 where
   pub rest : List ℕ
   pub left : List ℕ
 
--- What a job did so far: of what it read on the control connection a front spells the replies of its trace, and the rest
--- waits; what it wrote there is a front of its greeting and what it sent for the replies, and the others are to go out.
+-- **Did** (`BytesMatchTrace`, `ControlBytes`): of what was read a front spells the replies of the trace, and the rest
+-- waits; what was written, with what is left to go out, is the greeting and what the trace sent.
 pub record BytesMatchTrace (job : Job) (trace : JobTrace) (bytes : ControlBytes) : Type 0 where
   pub events : List TraceEvent
   pub hello : List ℕ

@@ -5,6 +5,10 @@ use Rattle.net_jobs.specs.JobJournal.{JobMove, Writes, Fails, Hears, Dials, Lose
 
 -- ---- the control connection, and the ports of the data connections
 
+-- **Calls**: what the moves of a journal make of the control connection and of the ports that were asked for, as far as
+-- these are told. A dial **brings** the first of the connections to come, where these are known; each **begins with** a
+-- frame's stream.
+--
 -- a job's control connection, and what makes its data connections
 pub record JobLinks (C D : Type 0) : Type 0 where
   pub control : C

@@ -53,8 +53,8 @@ seen coming holds s = record {
 
 -- ---- what a job did
 
--- the ports that were asked for are those that START replies named, in their order, but for the last one where the job ended
--- before its frame's connection was asked for
+-- **Asked for** (`AreAskedFor`): the ports that were asked for are those that START replies named, in their order, but for
+-- the last where the job ended before its frame's connection was asked for.
 abbrev pub AreAskedFor : List ℕ → List ℕ → Type 0
 AreAskedFor asked named = (named ≡ asked) ⊎ ((port : ℕ) × (named ≡ port ∷ asked))
 
@@ -79,6 +79,8 @@ pub record RanWithTrace {L O : Type 0} (views : LinkViews L) (job : Job) (was no
   pub brought : HasBrought was.coming now.coming (wholes ++ unread)
   pub few : length unread ≤ 1
 
+-- **Ran, done, ended, refused**: what `run_job` promises, as [PROMISES.md](PROMISES.md#net_jobs) has it.
+--
 -- The job is done, as the client's rules have it for these replies and frames. All was written, with CLOSE and EXIT, unless a
 -- write failed; each data connection began with its frame's records, which ended with EOF; and the output took the file of the
 -- picture that the frames show, or nothing, where the job is no scan. Each piece that came was followed by the bytes of the file

@@ -310,10 +310,24 @@ pub fn run_batch<C: Read + Write, D: Dial, S: Shelf>(
     shelf: &mut S,
 ) -> Outcome
     ensures over { IsOver result }
+    /// `run_batch` keeps the same of the control and data connections, whatever the shelf.
+    /// Carried by: `done`, `ended` of `run_batch`
+    ///
+    /// Where it is Done, the shelf kept one output for each page, in their order and numbered from 1, each with the
+    /// whole file of the picture that the page's frames show, and was given back no other.
+    /// Carried by: `done` of `run_batch`: `outputs` of `BatchDone`
+    ///
+    /// They are at most as many as the batch may scan, one of a scan, and none of any other job.
     ensures done { IfDone result (λ reports. BatchDone (views_of C.remaining C.contents D.ports)
         job (seen D.coming S.stock (streams control.old dial.old shelf.old))
         (seen D.coming S.stock (streams control.new dial.new shelf.new)) reports) }
     // A job that is refused, or finds no memory for its buffers, touches no stream and no shelf.
+    /// Where it ends otherwise the pages before have whole files, and at most one more output stands, which took no
+    /// whole file.
+    ///
+    /// The shelf kept the output of each of these pages, but for one that it refused, which was the last and ended
+    /// the batch as its output's.
+    /// Carried by: `ended` of `run_batch`: `shelf` of `BatchEnded`
     ensures ended { IfEnded result (λ status why. RefusesBatch job (Ended status why)
         (streams control.old dial.old shelf.old) (streams control.new dial.new shelf.new)
         ⊎ BatchEnded (views_of C.remaining C.contents D.ports) job

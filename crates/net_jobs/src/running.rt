@@ -584,10 +584,65 @@ pub fn run_job<C: Read + Write, D: Dial, W: Write>(
     out: &mut W,
 ) -> Outcome
     ensures over { IsOver result }
+    /// What `run_job` did is one journal of moves, each with what the client's own contracts have it make of the
+    /// client, from the new client to the last. By its moves the control connection took the bytes written and gave
+    /// the pieces heard, the ports were asked for, and the output took what was given.
+    /// Carried by: `done`, `ended` of `run_job`
+    ///
+    /// Its moves are steps: a piece that comes has 1 to 4,096 bytes, behind each the file goes out until the client
+    /// gives none, and nothing is done behind a write that failed. So it is where the job is Done, and where it is
+    /// told as the client ended.
+    /// Carried by: `done`, `ended` of `run_job`: `steps`
+    ///
+    /// Those of `run_batch` are such steps too, and behind the last bytes of a page's file the client turns to its
+    /// next page. The files that went out by them are those of the pages that were turned and of the one under way.
+    /// Carried by: `done`, `ended` of `run_batch`: `steps`; `StepsGive`
+    ///
+    /// What it wrote to the control connection is a front of the greeting and of what the client's rules send for the
+    /// replies that it read, in their order; and all of it, with CLOSE and EXIT, where no write failed, unless the
+    /// output ended the job.
+    /// Carried by: `done`, `ended` of `run_job`
+    ///
+    /// The ports that it asked for are those that its START replies named, in their order, but for the last where the
+    /// job ended before.
+    /// Carried by: `done`, `ended` of `run_job`
+    ///
+    /// Each data connection began with the records of a frame that ended, but for at most one that was let go within
+    /// its frame.
+    /// Carried by: `done`, `ended` of `run_job`
+    ///
+    /// A job that is Done is so by `client_replies` for these replies and frames, and each frame ended with EOF.
+    ///
+    /// The output of a scan that is Done took the file of the picture that the frames show; that of any other job
+    /// nothing.
     ensures done { IfDone result (λ reports. RanDone (views_of C.remaining C.contents D.ports) job
         (seen D.coming W.contents (streams control.old dial.old out.old))
         (seen D.coming W.contents (streams control.new dial.new out.new)) reports) }
-    // A job that is refused, or finds no memory for its buffers, touches no stream.
+    /// Where an output failed they are steps up to the last piece that came: of its file not all went out that was
+    /// given, and nothing more was done. A batch whose last output is refused as it is given back did steps alone.
+    /// Carried by: `ended` of `run_job`, `run_batch`: `sunk`; `MovesStopWithin`
+    ///
+    /// A job that ends otherwise does so by `client_replies` for these replies and frames, or for one of five causes:
+    /// a lost connection, out of memory, bytes that begin no reply, more bytes of a frame than were told, or an
+    /// output that did not take its file; so a full disk is never told as a short frame.
+    ///
+    /// It is lost only by a move that tells why: a write or a read that failed, a stream at its end, a dial that
+    /// failed, or 2^40 reads or turns that are used up.
+    ///
+    /// The output of a job that ends otherwise took no whole file.
+    ///
+    /// One that is refused touches no stream.
+    ///
+    /// What went out is what the client gave, the files of the pages and what was given of the one under way, and
+    /// only where an output failed bytes more behind that.
+    /// Carried by: `ended` of `run_job`, `run_batch`: `gave`, `none_behind`
+    ///
+    /// What is told is the client's last outcome, but where there was no memory for what is told of a job that was
+    /// done, or an output failed.
+    /// Carried by: `ended` of `run_job`, `run_batch`: `last_told`
+    ///
+    /// Both are over when they return.
+    /// Carried by: `over` of `run_job`, `run_batch`
     ensures ended { IfEnded result (λ status why. RefusesJob job (Ended status why)
         (streams control.old dial.old out.old) (streams control.new dial.new out.new)
         ⊎ RanEnded (views_of C.remaining C.contents D.ports) job

@@ -46,7 +46,8 @@ row_text Ppm maxval width at = samples_text 3 maxval width at
 abbrev pub raster_text : Header → (ℕ → ℕ → ℕ → ℕ) → List ℕ
 raster_text h at = concat_up_to (λ y. row_text h.format h.maxval h.width (λ x k. at x y k)) h.height
 
--- the whole file
+-- **the writer's text (`file_text`)**: of the texts that denote a picture the one that we write: the comment line `# SANE
+-- data follows` after the magic, and filling bits 0.
 abbrev pub file_text : Header → (ℕ → ℕ → ℕ → ℕ) → List ℕ
 file_text h at = header_text h ++ raster_text h at
 

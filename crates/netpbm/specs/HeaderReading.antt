@@ -46,6 +46,8 @@ maxval_at Pbm bytes = Some (1, bytes)
 maxval_at Pgm bytes = field_at bytes
 maxval_at Ppm bytes = field_at bytes
 
+-- **header reading (`header_at`)**: the header as a computation from the left; proved to find exactly what the grammar has.
+--
 -- the header that a text begins with, and the bytes after it
 unfoldable pub header_at : List ℕ → Option (Header × List ℕ)
 header_at text = do

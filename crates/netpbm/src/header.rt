@@ -128,6 +128,7 @@ fn header(text: &[u8]) -> Option<(Header, &[u8])>
 
 /// The header that a text begins with, and the bytes after it; `None` where it begins with none.
 pub fn read_header(text: &[u8]) -> Option<(Header, &[u8])>
+    /// `read_header` finds the header of the grammar, comments and all, and `None` exactly where there is none.
     ensures found { IfSome result (λ f. Begins text.now f.0 f.1.now) }
     ensures none { IfNone result ((h : Header) (raster : List ℕ) → Begins text.now h raster → ⊥) }
     // The same as a computation, for proofs that go on from it.

@@ -15,7 +15,8 @@ HasRoomFor Free size text = length text + 1 ≤ size
 HasRoomFor (Span _) size text = length text + 1 ≤ size
 HasRoomFor (WordsOf _) size text = length text + 1 ≤ size
 
--- the value is of the option's kind and has as many words, of 4 bytes each, as the option's size says
+-- **fits (`Fits`)**: the kind agrees, a vector has as many words as the option's size says, and a text that no list binds
+-- has room for its NUL.
 abbrev pub Fits : Descriptor → Value → Type 0
 Fits desc (Flag _) = (desc.kind ≡ kind.Bool) × (desc.size / 4 ≡ 1)
 Fits desc (Int _) = (desc.kind ≡ kind.Int) × (desc.size ≡ 4)

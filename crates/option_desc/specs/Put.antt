@@ -31,7 +31,8 @@ NearestValue constraint (Fixed asked) given = (word : ℤ) × NearestWord constr
 NearestValue constraint (Words asked) given = (words : List ℤ) × PlaceByPlace (NearestWord constraint) asked words × (given ≡ Words words)
 NearestValue constraint (Text asked) given = (text : List ℕ) × NearestText constraint asked text × (given ≡ Text text)
 
--- the value asked for fits the option, and the value given is the nearest admitted one
+-- **puts (`Puts`, `resolve`)**: the value asked for fits, and the value given is the nearest admitted one, a vector place
+-- by place; a constraint of another kind than the value binds nothing.
 pub record Puts (desc : Descriptor) (asked given : Value) : Type 0 where
   pub fits : Fits desc asked
   pub nearest : NearestValue desc.constraint asked given

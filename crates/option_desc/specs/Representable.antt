@@ -15,7 +15,7 @@ IsRepresentable (Fixed fixed) = FitsSigned w32 fixed.0
 IsRepresentable (Words words) = All (FitsSigned w32) words
 IsRepresentable (Text text) = IsText text
 
--- words in a row and texts take memory, one word does not
+-- **values that take memory (`takes_memory`)**: words in a row and texts, but no flag and no single word.
 abbrev pub takes_memory : Value → Bool
 takes_memory (Flag _) = false
 takes_memory (Int _) = false

@@ -14,6 +14,8 @@ abbrev pub word_text : Kind → ℤ → List ℕ
 word_text kind.Fixed word = exact_decimal word
 word_text _ word = signed_decimal word
 
+-- **shown (`shown_text`)**: the text that is shown of a value; where the value fits, it reads as that value.
+--
 -- `yes` or `no`, a number, numbers joined by commas, or the text
 abbrev pub shown_text : Descriptor → Value → List ℕ
 shown_text desc (Flag true) = codes "yes"

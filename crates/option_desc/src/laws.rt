@@ -11,6 +11,9 @@ ghost use Rattle.option_desc.specs.Put.{NearestValue, Puts, resolve};
 
 /// A law: there is at most one nearest value.
 pub fn at_most_one_is_put()
+    /// At most one value is put; what is computed of putting and reading is what the relations say.
+    /// Carried by: `at_most_one_is_put`, `what_is_computed_is_put`, `what_is_computed_is_read`,
+    /// `what_is_shown_is_read`
     ensures { (constraint : Constraint) (asked a b : Value)
         → NearestValue constraint asked a → NearestValue constraint asked b → a ≡ b }
 {}

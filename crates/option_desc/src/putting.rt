@@ -14,6 +14,8 @@ use std::alloc::Global;
 /// Whether the value is of the option's kind and size: as many words as the size says, and a text that
 /// leaves room for a NUL where the option has no list of texts.
 pub fn fits(desc: &Descriptor, value: &Value) -> bool
+    /// `fits` says whether a value has an option's kind and size.
+    /// Carried by: `fits`
     ensures fits { IsTrue result ↔ Fits desc.now value.now }
     // The same as a computation, for definitions that go on from it.
     ensures value { result ≡ fits_of desc.now value.now }
@@ -118,6 +120,8 @@ fn put_value(alloc: Global, constraint: &Constraint, value: &Value) -> Result<(V
 /// The nearest value that the option admits, and whether it differs from `value`. `Inval` where the value
 /// does not fit or is matched by no text of the option's list, and `NoMem` for lack of memory.
 pub fn put(alloc: Global, desc: &Descriptor, value: &Value) -> Result<(Value, bool), Status>
+    /// `put` gives the nearest admitted value, flagged exactly where it differs, and INVAL exactly where the value
+    /// does not fit or nothing matches.
     ensures ok { IfOk result (λ given. Puts desc.now value.now given.0) }
     ensures differs { IfOk result (λ given. FlagsDifference given.1 value.now given.0) }
     ensures inval { (result ≡ Err Status.Inval)
@@ -126,7 +130,8 @@ pub fn put(alloc: Global, desc: &Descriptor, value: &Value) -> Result<(Value, bo
     ensures value { MatchResult result
         (λ given. resolve desc.now value.now ≡ Some given.0)
         (λ status. Refuses status (resolve desc.now value.now)) }
-    // One word is put without memory.
+    /// One word is put, read and copied without a growth that may be refused.
+    /// Carried by: `memory` of `put`, `read_text`, `Value::try_clone`
     ensures memory { result ≡ Err Status.NoMem → takes_memory value.now ≡ true }
 {
     desc.constraint.keeps();

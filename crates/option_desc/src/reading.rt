@@ -155,6 +155,7 @@ fn read_string(alloc: Global, text: &[u8]) -> Result<Value, Status>
 /// 32 bits; a decimal; several of these joined by commas; any text without NUL. `Inval` where it spells
 /// none, and `NoMem` for lack of memory.
 pub fn read_text(alloc: Global, desc: &Descriptor, text: &[u8]) -> Result<Value, Status>
+    /// `read_text` reads exactly the texts of an option's values.
     ensures ok { IfOk result (λ value. ReadsAsValue desc.now text.now value) }
     ensures inval { (result ≡ Err Status.Inval)
         ↔ ((value : AnyValue) → ReadsAsValue desc.now text.now value → ⊥) }

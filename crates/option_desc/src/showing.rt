@@ -14,8 +14,11 @@ use std::alloc::Global;
 /// The text of the value, which reads as the value where it fits: `yes` or `no`, a number, numbers joined
 /// by commas, or the text itself. The only error is out of memory.
 pub fn show_text(alloc: Global, desc: &Descriptor, value: &Value) -> Result<Text, NoMem>
+    /// What `show_text` writes of a value that fits reads as that value.
+    /// Carried by: `reads` of `show_text`
     ensures reads { Fits desc.now value.now
         → IfOk result (λ text. read_value desc.now text ≡ Some value.now) }
+    // The same as a computation, for definitions that go on from it.
     ensures value { IfOk result (λ text. text ≡ shown_text desc.now value.now) }
 {
     match value {

@@ -3,7 +3,9 @@ use Rattle.std.specs.Prelude.{ℕ, ◌+◌, ◌*◌, ◌/◌, ◌≤◌, ◌≡�
 use Rattle.page_picture.specs.Extent.{left_of, across}
 use Rattle.page_picture.specs.declared.scene.Scene.{Scene}
 
--- the window's first dot, the dots per inch of the page and of the scene, the columns of the page and of the picture
+-- **columns (`Columns`, `column_at`, `IsRun`)**: which column of the page each column of a line shows, by the window's
+-- first dot and the two resolutions; they are a run where they lie on the page one beside the other, at its own dots per
+-- inch.
 pub record Columns : Type 0 where
   pub left : ℕ
   pub dpi : ℕ

@@ -60,6 +60,9 @@ extent_on height dpi scene =
     then Some (across scene.kind scene, down scene.kind height dpi scene)
     else None
 
+-- **extent (`extent_of`)**: the window's origin and size in dots. A hand scanner has none: it begins at the corner, is 110
+-- mm wide and as high as there are lines on the page. None where a side is below 1 or above 65,536, or for color of one
+-- bit.
 abbrev pub extent_of : PageView → Scene → Option (ℕ × ℕ)
 extent_of page_view scene = extent_on page_view.height page_view.dpi scene
 

@@ -31,6 +31,7 @@ picture_of page_view scene size = record {
   at = λ x y k. sample_of page_view scene x y k;
 }
 
--- none where the scene has no extent on the page
+-- **meaning (`meaning_of`, `sample_of`)**: the picture of the extent whose samples are the tones of what is seen, in their
+-- channels; none where there is no extent.
 abbrev pub meaning_of : PageView → Scene → Option Picture
 meaning_of page_view scene = option_map (picture_of page_view scene) (extent_of page_view scene)

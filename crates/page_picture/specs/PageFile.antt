@@ -23,7 +23,8 @@ pub record IsPageOf (p : Picture) (dpi : ℕ) (page_view : PageView) : Type 0 wh
   pub dots : page_view.dpi ≡ dpi
   pub samples : (x y k : ℕ) → x < p.width → y < p.height → k < 3 → page_sample_at page_view x y k ≡ p.at x y (file_channel p.channels k) * 65535 / p.greatest
 
--- the text denotes the picture that the page shows
+-- **page file (`TellsPage`)**: a text of grays or colors that denotes a picture; the page has at each place floor(v * 65535
+-- / m) for a sample v of greatest value m, a gray for all three channels.
 pub record TellsPage (text : List ℕ) (dpi : ℕ) (page_view : PageView) : Type 0 where
   pub picture : Picture
   pub denotes : Denotes text picture
@@ -46,7 +47,8 @@ pub record BeginsPage (text : List ℕ) (h : Header) (raster : List ℕ) : Type 
   pub width_most : h.width ≤ 16384
   pub height_most : h.height ≤ 16384
 
--- the text is a page file, at dots per inch that a page may have
+-- **page text (`IsPageText`)**: the text begins with the header of a page, has all its bytes and no more, and no sample
+-- above the greatest, at 1 to 1,200 dots per inch; only there may memory be wanting.
 pub record IsPageText (text : List ℕ) (dpi : ℕ) : Type 0 where
   pub dots : IsDpi dpi
   pub header : Header
@@ -55,6 +57,9 @@ pub record IsPageText (text : List ℕ) (dpi : ℕ) : Type 0 where
   pub size : length raster ≡ raster_size header
   pub none_above : NoneAbove header.maxval raster (sample_count header)
 
+-- **faults of a page file (`HasPageFault`)**: by cases, each where it is the first in the order: dots per inch, magic,
+-- header, short, trailing, sample too large.
+--
 -- A text has a fault only where it has none of those that are tested before it; memory runs out only for a text that
 -- has none.
 abbrev pub HasPageFault : PageFault → List ℕ → ℕ → Type 0

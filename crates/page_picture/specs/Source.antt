@@ -5,8 +5,12 @@ use Rattle.page_picture.specs.declared.scene.Mode.{Mode}
 use Rattle.page_picture.specs.declared.scene.Mode.TheVariants.{Gray, Color}
 use Rattle.page_picture.specs.declared.sources.SourceFault.{SourceFault}
 
--- the page, how many of its rows were given since the last rewind, whether the source gives the page's rows at each
--- pass, whether it can never fail, and how often it failed
+-- **page source (`SourceState`, `SourceAndBytes`, `GivesRow`, `GivesRowBytes`, `Rewinds`)**: a page, how many of its rows
+-- were given since the last rewind, whether the source is steady (it gives the page's rows at each pass), whether it is
+-- infallible (it can never fail), and how often it failed. A call of `next_row` gives the next row, which is the page's
+-- where the source is steady, or none after the last, or fails; a failure is counted, or the count stands at its greatest.
+-- A call of `next_bytes` gives the upper byte of each of the next row's samples, from a place on, or does nothing, or
+-- fails.
 pub record SourceState : Type 0 where
   pub page : PageView
   pub given : ℕ

@@ -82,6 +82,8 @@ impl ColumnMap {
         requires some { 1 ≤ scene.now.resolution }
         requires known { scene.now.resolution ≤ 1200 }
         requires dots { dpi ≤ 1200 }
+        /// `ColumnMap` has the column that each place of a line shows, and none off the page.
+        /// Carried by: `ColumnMap::new`, `at`
         ensures { IfOk result (λ columns. columns ≡ columns_of scene.now width dpi) }
     {
         let left = scene.left();
@@ -113,6 +115,7 @@ impl ColumnMap {
     /// The page's column that the first column of the picture shows, where all its columns lie on the page one beside the
     /// other, at the page's own dots per inch.
     pub fn run(&self) -> Option<u32>
+        /// It tells the first of them just where they lie on the page one beside the other, at its own dots per inch.
         ensures first { IfSome result (λ first. first ≡ self.now.left) }
         ensures run { IfSome result (λ _. IsRun self.now) }
         ensures none { result ≡ None → ¬ (IsRun self.now) }

@@ -85,6 +85,7 @@ fn tables_are_bytes(tables: &[[u8; 256]; 3])
 /// `None` where there is no such picture.
 pub fn extent(page: &Page, scene: &Scene) -> Option<(u32, u32)>
     requires { scene.now.resolution ≤ 1200 }
+    /// `extent` is the definition of a picture's extent, for each kind of scanner.
     ensures value { result ≡ extent_of page.now scene.now }
     // What the scene means is a picture.
     ensures picture { IfSome result (λ size. IsPicture (picture_of page.now scene.now size)) }

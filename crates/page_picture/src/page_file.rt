@@ -154,8 +154,10 @@ fn page_header(text: &[u8], dpi: u32) -> Result<(Header, &[u8]), PageFault>
 /// order `BadDpi`, `BadMagic`, `BadHeader`, `Short`, `Trailing`, `SampleTooLarge`; `NoMem` where a growth is refused.
 pub fn read_page(alloc: Global, text: &[u8], dpi: u32) -> Result<Page, PageFault>
     // What is read is the page of the picture that the whole text denotes.
+    /// `read_page` gives the page that the text tells.
     ensures found { IfOk result (λ page. TellsPage text.now dpi page) }
-    // A refusal says the first fault that the text has.
+    /// Each refusal comes exactly where the text has that fault first, in the order: dots per inch, magic, header,
+    /// short, trailing, sample too large. Memory is wanted only of a text that has none of them.
     ensures fault { IfErr result (λ fault. HasPageFault fault text.now dpi) }
 {
     let (header, raster) = page_header(text, dpi)?;

@@ -57,10 +57,18 @@ pub trait PageSource: Drop {
     /// Writes the next row, three samples for each place; false after the last row.
     fn next_row(&mut self, row: &mut [u16]) -> Result<bool, SourceFault>
         requires { length row.old ≡ 3 * (source self.old).page.width }
+        /// A page source gives its page's rows in order, from the top after a rewind, where it is steady.
+        /// Carried by: `PageSource`, at `MemoryPage`, `FailingPage`, `PnmPage`, `Source`
+        ///
+        /// It answers a fault only where it can fail at all, which a page in memory cannot, and where its count of
+        /// failures rose or stood at its greatest.
+        /// Carried by: `next_row`, `rewind` of `PageSource`; `next_bytes` of `ByteRows`
         ensures { GivesRow (source self.old) result (source self.new) row.new };
 
     /// Starts the rows anew from the top, also after a fault.
     fn rewind(&mut self) -> Result<(), SourceFault>
+        /// After a fault a rewind that succeeds starts the rows anew.
+        /// Carried by: `rewind` of `PageSource`
         ensures { Rewinds (source self.old) result (source self.new) };
 }
 
@@ -71,6 +79,9 @@ pub trait ByteRows: PageSource {
     fn next_bytes(&mut self, mode: Mode, first: u32, bytes: &mut [u8]) -> Result<bool, SourceFault>
         requires { byte_place mode first 0 + length bytes.old
             ≤ byte_place mode (Self.source self.old).page.width 0 }
+        /// A page source that gives a row's upper bytes gives those of the next row's samples; where it gives none,
+        /// it has done nothing; when it gives none no clause says.
+        /// Carried by: `ByteRows`, at `MemoryPage`, `FailingPage`, `PnmPage`, `Source`
         ensures { GivesRowBytes mode first
             (record { source = Self.source self.old; bytes = bytes.old }) result
             (record { source = Self.source self.new; bytes = bytes.new }) };

@@ -108,7 +108,10 @@ pub fn sample(page: &Page, scene: &Scene, x: u32, y: u32, k: u32) -> u16
     requires known { scene.now.resolution ≤ 1200 }
     requires inside { IsInside page.now scene.now x y }
     requires channel { k < channels_in scene.now.mode }
+    /// `sample` is the definition of seen and tone, gray and color, depths 1, 8 and 16.
+    /// Carried by: `value` of `sample`
     ensures value { result ≡ sample_of page.now scene.now x y k }
+    // It is at most the greatest sample of the depth.
     ensures limit { result ≤ greatest_at scene.now.depth }
 {
     let tone = toned(scene.depth, &scene.gamma, light(page, scene, x, y, k));

@@ -10,6 +10,9 @@ use Rattle.pnm_writer.specs.declared.read.Picture.{Picture as HeldPicture}
 use Rattle.pnm_writer.specs.declared.read.PnmFault.{PnmFault}
 use Rattle.pnm_writer.specs.declared.read.PnmFault.TheVariants.{BadMagic, BadHeader, SampleTooLarge, Short, Trailing, NoMem}
 
+-- **picture read (`picture_of_held`, `HasPnmFault`)**: the picture that a text denotes, held in memory; the faults that a
+-- text may have, each where it is the first.
+--
 -- the picture that is held: its samples row by row from the top, the channels of a place side by side
 abbrev pub picture_of_held : HeldPicture → Picture
 picture_of_held p = record {

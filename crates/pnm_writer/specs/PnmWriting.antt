@@ -25,6 +25,6 @@ header_of scene width height = record {
   maxval = greatest_at scene.depth;
 }
 
--- the writer's text of what the scene means on the page, which has an extent
+-- **plain file (`IsPlainFile`)**: the writer's text of what a scene means on a page.
 abbrev pub IsPlainFile : PageView → Scene → List ℕ → Type 0
 IsPlainFile page_view scene text = (size : ℕ × ℕ) × (extent_of page_view scene ≡ Some size) × (text ≡ file_text (header_of scene size.0 size.1) (sample_of page_view scene))

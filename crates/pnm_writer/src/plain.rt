@@ -211,10 +211,14 @@ fn push_line(
 pub fn scan_plain(alloc: Global, page: &Page, scene: &Scene) -> Result<Vec<u8>, PlainFault>
     requires { scene.now.resolution ≤ 1200 }
     // The file denotes the picture, and nothing else.
+    /// The file of `scan_plain` denotes the meaning of the scene on the page, for every scene, and is the writer's
+    /// text.
+    /// Carried by: `found`, `text` of `scan_plain`
     ensures found { IfOk result
         (λ file. IsSomeAnd (meaning_of page.now scene.now) (Denotes file.items)) }
     // Of the texts that denote it, it is the writer's.
     ensures text { IfOk result (λ file. IsPlainFile page.now scene.now file.items) }
+    /// `NoPicture` comes exactly where there is none.
     ensures none { (result ≡ Err PlainFault.NoPicture) ↔ IsNone (meaning_of page.now scene.now) }
 {
     let Some(size) = extent(page, scene) else {

@@ -210,11 +210,14 @@ fn read_samples(alloc: Global, header: &Header, raster: &[u8]) -> Result<Samples
 /// is answered in the order `BadMagic`, `BadHeader`, `Short`, `Trailing`, `SampleTooLarge`; `NoMem` where a growth is
 /// refused, of a text that has no fault.
 pub fn read_pnm(alloc: Global, text: &[u8]) -> Result<Picture, PnmFault>
+    /// `read_pnm` gives the picture that a text denotes, with exactly its samples.
+    /// Carried by: `found`, `size` of `read_pnm`
     ensures found { IfOk result (λ picture. Denotes text.now (picture_of_held picture)) }
     // It holds a sample for each channel of each place, and no more.
     ensures size { IfOk result (λ picture. length picture.samples
         ≡ picture.width * picture.height * picture.channels) }
-    // A refusal says the first fault that the text has.
+    /// Each refusal comes exactly where the text has that fault first; memory is wanted only of a text that denotes a
+    /// picture.
     ensures fault { IfErr result (λ fault. HasPnmFault fault text.now) }
 {
     if format_of(text).is_none() {

@@ -36,6 +36,9 @@ WorldsHearInTurn = (devices : List DeviceState) (jobs : List Job) (other : Job) 
 abbrev pub history_of : List DeviceState → List Job → Core → List Event → History
 history_of devices jobs d events = record { devices = devices; users = d.users; jobs = jobs; events = events }
 
+-- **is kept (`LoopIsKept`, `AllLoopsAreKept`)**: what a world promises of the outcome, the files and the count of pages of
+-- a job, of what its loop came to, by a history of such events that led to a world where it is so.
+--
 -- a world's promise on the outcome and the files of a job, said of what its loop came to; memory ran out where it did in the world
 pub record LoopIsKept (h : History) (v : WorldCore) (i : ℕ) (job : Job) (acts : Acts) (last : ClientState) : Type 0 where
   pub ends : EndsAlike v i acts last

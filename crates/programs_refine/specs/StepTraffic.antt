@@ -17,5 +17,6 @@ traffic_of_move (Takes piece) = TakesBytes piece
 traffic_of_move (Gives bytes) = NoTraffic
 traffic_of_move (Loses link reason) = NoTraffic
 
+-- **traffic of a step (`traffic_of`)**: what its move does on the job's connections.
 abbrev pub traffic_of : JobStep → Traffic
 traffic_of step = traffic_of_move step.move

@@ -25,6 +25,7 @@ IsOfConnections (Cancel i) = ⊥
 IsOfConnections (Load name page) = ⊥
 IsOfConnections (Unplug name) = ⊥
 
+-- **events of connections (`AreOfConnections`, `LeadsBy`)**: no job is given up, no page laid in and no device taken out.
 abbrev pub AreOfConnections : List Event → Type 0
 AreOfConnections [] = Unit {0}
 AreOfConnections (event ∷ events) = IsOfConnections event × AreOfConnections events
@@ -45,13 +46,15 @@ pub record LeadsBy (source : Source → SourceState) (w : WorldCore) (events : L
   pub are : AreOfConnections events
   pub runs : Runs source events w v
 
--- a job that wants the data connection of a frame has none that flows
+-- **wants before it flows (`WantsBeforeItFlows`)**: a job that wants the data connection of a frame has none that flows; so
+-- it always is from a world on (`AlwaysWantsBeforeItFlows`).
 abbrev pub WantsBeforeItFlows : WorldCore → Type 0
 WantsBeforeItFlows w =
     (i : ℕ) (endpoint : Endpoint) (id : SessionId) → slice_get w.endpoints i ≡ Some endpoint → endpoint.link ≡ Some id
     → is_running endpoint.client.outcome ≡ true → IsSome (wanted_port endpoint.client.progress) → IsFlowing (frame_state_at w.daemon id.number) → ⊥
 
--- no reply comes to a job before the request that it answers was taken
+-- **hears in turn (`HearsInTurn`, `AlwaysHearsInTurn`)**: no reply comes to a job that runs before the request that it
+-- answers was taken.
 abbrev pub HearsInTurn : WorldCore → Type 0
 HearsInTurn w =
     (i : ℕ) (endpoint : Endpoint) (id : SessionId) → slice_get w.endpoints i ≡ Some endpoint → endpoint.link ≡ Some id → is_running endpoint.client.outcome ≡ true → HasEarlyReply endpoint.client → ⊥

@@ -13,12 +13,22 @@ use world_refines::{a_new_world_refines, a_run_refines};
 /// has the premises.
 #[tactic(none)]
 pub fn programs_are_a_world()
+    /// Whatever a server and jobs did so, some events of connections lead the new world of that daemon and these jobs
+    /// to where its daemon is the server's, but for replies that are on their way to their jobs.
+    /// Carried by: `programs_are_a_world`: `ComeToAWorld`, `HasDaemonOf`
+    ///
+    /// From there losses of control connections alone, of jobs that are connected for that where they were not, lead
+    /// on to where each job that is over has the outcome that its loop has, and its files, of finished pages and the
+    /// one under way, are what went out.
+    /// Carried by: `programs_are_a_world`: `AreAWorld`, `AreLosses`, `EndsAlike`
     ensures { ProgramsAreAWorld }
 {}
 
 /// In a world of devices within their limits a job that wants the data connection of a frame has none that flows.
 #[tactic(none)]
 pub fn worlds_want_before_it_flows()
+    /// That law asks two things of worlds. A job that wants the data connection of a frame has none that flows: in a
+    /// world of devices within their limits it is so.
     ensures { WorldsWantBeforeItFlows }
 {
     a_new_world_refines();
@@ -28,6 +38,8 @@ pub fn worlds_want_before_it_flows()
 /// In such a world no reply comes to a job before the request that it answers was taken.
 #[tactic(none)]
 pub fn worlds_hear_in_turn()
+    /// And no reply comes to a job before the request that it answers was taken; there it is so, so a loop never
+    /// looks again at what came too soon.
     ensures { WorldsHearInTurn }
 {
     a_new_world_refines();
@@ -38,6 +50,10 @@ pub fn worlds_hear_in_turn()
 /// its file is what a world promises of a file.
 #[tactic(none)]
 pub fn programs_keep_all()
+    /// So of each job whose loop is over holds what a world promises of the outcome and of the files of a job, by a
+    /// history that led to such a world: done, the picture that its settings mean on a page of its device, where
+    /// these are steady; else a status and a cause, and no whole file.
+    /// Carried by: `programs_keep_all`: `LoopIsKept`
     ensures { ProgramsKeepAll }
 {
     a_new_world_refines();

@@ -12,6 +12,10 @@ abbrev pub fraction_text : List ℕ → List ℕ
 fraction_text [] = []
 fraction_text (digit ∷ digits) = 46 ∷ digit ∷ digits
 
+-- **decimal text (`IsDecimal`, `SpellsFixed`)**: an optional `-`, 1 to 9 digits, and optionally a point and 1 to 16 digits.
+-- It spells the word of its magnitude times 65536, rounded to the nearest whole number, halves away from zero, with the
+-- sign put; none where that leaves 32 bits.
+--
 -- the text is that sign, those digits before the point and those after it
 pub record IsDecimal (text : List ℕ) (negative : Bool) (whole fraction : List ℕ) : Type 0 where
   pub text_is : text ≡ sign_text negative ++ (whole ++ fraction_text fraction)

@@ -27,6 +27,8 @@ fraction_in (b ∷ digits) =
     then Some digits
     else None
 
+-- **its reading (`fixed_of`)**: the same as a computation from the left; the two are proved to agree.
+--
 -- the word that a text spells
 unfoldable pub fixed_of : List ℕ → Option ℤ
 fixed_of text = do

@@ -9,7 +9,7 @@ abbrev pub is_below_zero : ℤ → Bool
 is_below_zero (pos _) = false
 is_below_zero (negsuc _) = true
 
--- the text is the number word / 65536 itself, written as short as may be
+-- **exact decimal (`IsExactDecimal`)**: the text of word / 65536 itself, with no zero too many and no bare point.
 pub record IsExactDecimal (text : List ℕ) (word : ℤ) : Type 0 where
   pub whole : List ℕ
   pub fraction : List ℕ

@@ -3,6 +3,7 @@ use Rattle.std.specs.Prelude.{ℕ, List, codes}
 use Rattle.sane_fixed.specs.declared.status.Status.{Status}
 use Rattle.sane_fixed.specs.declared.status.Status.TheVariants.{Good, Unsupported, Cancelled, DeviceBusy, Inval, Eof, Jammed, NoDocs, CoverOpen, IoError, NoMem, AccessDenied}
 
+-- **status**: SANE's twelve statuses, their numbers and names ("Status Type").
 abbrev pub status_code : Status → ℕ
 status_code Good = 0
 status_code Unsupported = 1

@@ -10,6 +10,8 @@ use crate::text::Text;
 use std::alloc::{AllocError, Global};
 
 /// SANE's fixed number: the word over 65536 (SANE Standard 1.06, "Fixed-point Type").
+///
+/// **fixed number**: SANE's SANE_Fixed: a 32-bit word that stands for the word over 65536 ("Fixed-point Type").
 #[derive(Clone, Copy, Debug, PartialEq, Eq)]
 pub struct Fixed(pub i32);
 
@@ -170,6 +172,8 @@ impl Fixed {
     /// 1 to 16 digits, rounded to the nearest word, halves away from zero. `None` for any other
     /// text, and where the word does not fit.
     pub fn parse(text: &[u8]) -> Option<Fixed>
+        /// `Fixed::parse` gives the word that a decimal text spells by its grammar, rounded to the nearest, halves
+        /// away from zero, and `None` exactly where it spells none.
         ensures found { IfSome result (λ fixed. SpellsFixed text.now fixed.0) }
         ensures none { IfNone result ((word : ℤ) → SpellsFixed text.now word → ⊥) }
         // The same as a computation, for definitions that go on from it.
@@ -178,9 +182,10 @@ impl Fixed {
         read(text)
     }
 
-    /// The number's exact decimal: `-` before a negative one, no zeros but one before the point,
-    /// no zero last after it, and no point where the number is whole. The only error is out of memory.
+    /// The number's exact decimal. The only error is out of memory.
     pub fn to_text(self, alloc: Global) -> Result<Text, NoMem>
+        /// `Fixed::to_text` gives the exact decimal of a number, which reads as that number: no zeros but one before
+        /// the point, none last behind it, and no point where the number is whole.
         ensures exact { IfOk result (λ text. IsExactDecimal text self.0) }
         ensures reads { IfOk result (λ text. fixed_of text ≡ Some self.0) }
         // The same as a computation, for definitions that go on from it.

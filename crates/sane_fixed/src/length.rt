@@ -7,6 +7,7 @@ use crate::fixed::Fixed;
 /// negative length.
 pub fn px(length: Fixed, resolution: u32) -> u32
     requires { resolution ≤ 1200 }
+    /// `px` is the whole dots of a length at a resolution of at most 1,200.
     ensures { result ≡ px_of length.0 resolution }
 {
     if length.0 < 0 {
@@ -19,6 +20,7 @@ pub fn px(length: Fixed, resolution: u32) -> u32
 /// The whole dots of the length `to - from`, which need not fit a `Fixed`.
 pub fn px_between(from: Fixed, to: Fixed, resolution: u32) -> u32
     requires { resolution ≤ 1200 }
+    /// `px_between` is the dots of a difference of two lengths, which need not fit a word.
     ensures { result ≡ px_of (to.0 -ℤ from.0) resolution }
 {
     let length = i64::from(to.0) - i64::from(from.0);

@@ -29,6 +29,9 @@ impl Status {
 
     /// The status of that number, if there is one.
     pub fn from_code(code: u32) -> Option<Status>
+        /// Statuses, kinds, units and frame formats have SANE's numbers, both ways; statuses have SANE's names.
+        /// Carried by: `Status::from_code`, `Status::name`, `Kind::from_code`, `Unit::from_code`,
+        /// `FrameFormat::from_code`
         ensures found { IfSome result (λ status. status_code status ≡ code) }
         ensures none { IfNone result ((status : AnyStatus) → status_code status ≢ code) }
     {

@@ -74,6 +74,8 @@ impl Text {
 
     /// The text of these bytes: `Nul` where one of them is NUL, `NoMem` where there is no memory for a copy.
     pub fn new(alloc: Global, bytes: &[u8]) -> Result<Self, TextFault>
+        /// `Text::new` keeps the bytes, and refuses exactly those with NUL; `Text::from_vec` does so without taking
+        /// memory, and gives refused bytes back.
         ensures ok { IfOk result (λ text. text ≡ bytes.now) }
         ensures nul { (result ≡ Err TextFault.Nul) ↔ ¬ IsText bytes.now }
     {

@@ -32,6 +32,8 @@ abbrev pub joined_from : Option (List ℕ) → List (List ℕ) → Option (List 
 joined_from waiting [] = if is_none waiting then Some [] else None
 joined_from waiting (word ∷ words) = option_and_then (λ step. option_map (λ more. step.0 ++ more) (joined_from step.1 words)) (word_step waiting word)
 
+-- **the words of saned (`words_joined`, `BeginsPlainly`)**: options, each a name with its value behind `=` or in the next
+-- word, whatever that begins with; no value is empty; a number begins with no sign, and with no zero but alone.
 abbrev pub words_joined : List (List ℕ) → Option (List (List ℕ))
 words_joined words = joined_from None words
 

@@ -42,6 +42,11 @@ pub record AreNamed (named : List (List ℕ)) (options : DaemonOptions) : Type 0
   pub strings : options.strings ≡ string_size_by (has_pad_strings named)
   pub seeded : IsSome options.users → IsSome options.seed
 
+-- **saned's options and endings (`AreDaemonOptions`, `AreNamed`, `IsNumberOf`, `daemon_exit_status`)**: each option has the
+-- value that stands behind its name among the options that the words are joined to; a number is the one that its text
+-- writes, or the default where there is none; sessions at most 1,000,000,000, idle turns 1 to that, and a seed where there
+-- are users; 64 for the command line, 65 for what it names, 9 for a port that cannot be had, 10 for lack of memory.
+--
 -- so the words behind the program's name do
 abbrev pub AreDaemonOptions : List (List ℕ) → DaemonOptions → Type 0
 AreDaemonOptions words options = (named : List (List ℕ)) × (words_joined (drop 1 words) ≡ Some named) × AreNamed named options

@@ -29,6 +29,7 @@ impl DaemonEnding {
 
     /// The exit status of the program.
     pub fn daemon_exit_status(&self) -> u8
+        /// The exit status of each ending.
         ensures { result ≡ daemon_exit_status self.now }
     {
         match self {

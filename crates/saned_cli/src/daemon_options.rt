@@ -256,6 +256,15 @@ fn options_found(
 /// number is not within its bounds or has a sign or a leading zero, where there is no config, and where there are users and no
 /// seed; `NoMem` where there is no memory.
 pub fn read_options(alloc: Global, words: &[String]) -> Result<DaemonOptions, DaemonOptionsFault>
+    /// Each option of saned has the value that the words give it, or its default; numbers are within their bounds,
+    /// and there is a seed where there are users.
+    ///
+    /// String values are as long as their option just where the flag for it is among the words, and it has no value.
+    /// Carried by: `read_options`: `string_size_by`
+    ///
+    /// The word behind an option's name is its value, whatever it begins with, and a number is plain digits, without
+    /// a sign or a leading zero.
+    /// Carried by: `read_options`: `words_joined` and `IsNumberOf`
     ensures { IfOk result (AreDaemonOptions (map string_bytes words.now)) }
 {
     let Some((_, words)) = words.split_first() else {

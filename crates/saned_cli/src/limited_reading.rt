@@ -11,6 +11,7 @@ pub const MOST_OF_USERS: u64 = 256 * (256 + 2) + 1;
 
 /// The bytes of a text, at most so many of the first.
 pub fn text_of<R: Read + Drop>(alloc: Global, reader: R, most: u64) -> io::Result<Vec<u8>>
+    /// Of a text at most so many bytes are read.
     ensures { IfOk result
         (λ text. IfSome (R.remaining reader) (λ all. text.items ≡ take most all)) }
 {

@@ -123,6 +123,8 @@ impl<R: Net + Clock + Drop> LocalNet<R> {
 /// What a call on a stream came to, which moved at most so many bytes.
 fn how(outcome: io::Result<usize>, most: usize) -> Got
     requires { IfOk outcome (λ n. n ≤ most) }
+    /// What a call on a stream came to is told by its kind: bytes, nothing where it would wait or was interrupted,
+    /// and else a loss.
     ensures within { MovesWithin result most }
     ensures moved { IfOk outcome (λ n. result ≡ (if n == 0 then Got.Lost else Got.Moved n)) }
     ensures would_wait { IfErr outcome (λ e. error_kind e ≡ ErrorKind.WouldBlock

@@ -20,5 +20,8 @@ HaveOwnNumbers opened [] = Unit {0}
 HaveOwnNumbers opened (None ∷ slots) = HaveOwnNumbers opened slots
 HaveOwnNumbers opened (Some slot ∷ slots) = (slot.number < opened) × IsFree slot.number slots × HaveOwnNumbers opened slots
 
+-- **limits (`HasDaemonLimits`)**: there are eight slots, and each session's number is below the count of those that were
+-- opened, and no other session's. (A table has at most sixteen devices by the registry's invariant, and a session four
+-- words by its type).
 abbrev pub HasDaemonLimits : {S : Type 0} → DaemonState S → Type 0
 HasDaemonLimits d = (length d.slots ≡ 8) × HaveOwnNumbers d.opened d.slots

@@ -14,6 +14,9 @@ use Rattle.saned_requests.specs.declared.session.StringSize.{StringSize}
 use Rattle.saned_core.specs.declared.session_slot.SessionSlot.{SessionSlot}
 use Rattle.saned_requests.specs.Holding.{seen_session, with_cancelled, given_back, fresh_session}
 
+-- **daemon (`DaemonState`, `core`)**: eight slots, the table, the users, whence the next challenge comes, and how many
+-- sessions were opened; `core` sees each device as its state.
+--
 -- A daemon whose devices are seen as S.
 pub record DaemonState (S : Type 0) : Type 0 where
   -- the places of sessions
@@ -47,6 +50,9 @@ abbrev pub is_slot_number : {S : Type 0} → ℕ → Option (SessionSlot S) → 
 is_slot_number n None = false
 is_slot_number n (Some slot) = slot.number == n
 
+-- **slot (`SessionSlot`, `session_slot_of`, `on_session_slot`)**: a session's number, what came and was not answered, the
+-- bytes of replies that wait, and the session while it goes on. A slot stands as long as its session goes on or replies
+-- wait.
 unfoldable pub session_slot_of : {S : Type 0} → List (Option (SessionSlot S)) → ℕ → Option (SessionSlot S)
 session_slot_of [] n = None
 session_slot_of (slot ∷ slots) n = if is_slot_number n slot then slot else session_slot_of slots n

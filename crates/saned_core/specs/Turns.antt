@@ -60,6 +60,9 @@ TurnsSessions (Some s) n old step new buf = (t : Session DeviceState) × TurnsSt
 abbrev pub TurnsSlots : ℕ → List (Option (SessionSlot DeviceState)) → DataStep → List (Option (SessionSlot DeviceState)) → List ℕ → Type 0
 TurnsSlots n old step new buf = TurnsSessions (session_in (session_slot_of old n)) n old step new buf
 
+-- **turns (`Turns`)**: one record of what one read gave, at most as much as the buffer has room for behind four bytes, and
+-- 65,536; or the end record with the status that the read answered, or CANCELLED; or nothing.
+--
 -- and of a daemon, of which nothing else changes
 pub record Turns (n : ℕ) (old : Core) (step : DataStep) (new : Core) (buf : List ℕ) : Type 0 where
   pub slots : TurnsSlots n old.slots step new.slots buf

@@ -61,6 +61,9 @@ impl<D: Device> Daemon<D> {
     /// A daemon of these devices and users, whose challenges come from the seed. No session stands. It sends a string
     /// value as its text and a NUL.
     pub fn new(registry: Registry<D>, users: Users, seed: [u8; 32]) -> Daemon<D>
+        /// String values are sent as their text and a NUL, or as the daemon was made to send them, in each of its
+        /// sessions and in every state.
+        /// Carried by: `Daemon::new`, `Daemon::with_strings`; `one_string_size_is_kept`
         ensures registry { (core D.state result).registry ≡ table D.state registry }
         ensures users { result.users ≡ users }
         ensures strings { result.strings ≡ StringSize.OfText }
@@ -101,6 +104,8 @@ impl<D: Device> Daemon<D> {
 impl<D: Device> Daemon<D> {
     /// Where the session's frame is.
     pub fn frame(&self, id: SessionId) -> FrameState
+        /// A frame waits for its data connection, which changes nothing else; one that is lost cancels what streams.
+        /// Carried by: `Daemon::frame`, `data_connected`, `data_lost`
         ensures { result ≡ frame_in (session_of (core D.state self.now) id.number) }
     {
         frame_at(&self.sessions.slots, id.number)
@@ -134,6 +139,9 @@ impl<D: Device> Daemon<D> {
     /// has room for, is one record; a refusal of it is the end record.
     pub fn data_turn(&mut self, id: SessionId, buf: &mut [u8]) -> DataStep
         requires { 8 ≤ length buf.old }
+        /// A turn of the data connection is one read of the device, straight into all of the caller's buffer behind
+        /// the record's head, but at most 65,536 bytes of it, or the end record.
+        /// Carried by: `Daemon::data_turn`: `Turns`
         ensures { Turns id.number (core D.state self.old) result (core D.state self.new) buf.new }
     {
         turn_at(&mut self.sessions.slots, id.number, buf)
@@ -172,14 +180,25 @@ impl<D: Device> Daemon<D> {
     /// over. Its replies can still be taken, but not where it ran out of memory.
     pub fn feed(&mut self, alloc: Global, id: SessionId, piece: &[u8]) -> Fed
         requires { length piece.now ≤ 4096 }
+        /// A session that is over does nothing, and one that is ended gives its leases back.
+        /// Carried by: `idle` of `Daemon::feed`; `end_session`
         ensures idle { HasNoSession (core D.state self.old) id.number
             → (result ≡ Fed.Over) × (core D.state self.new ≡ core D.state self.old) }
+        /// `feed` answers the requests that a piece completes, in order, each as the request context does on what
+        /// stands then, and puts the replies, spelled, behind those that wait.
+        /// Carried by: `standing` of `Daemon::feed`: `AnswersWhole`; `requests_are_answered_in_order`,
+        /// `a_request_uses_bytes`
         ensures standing { result ≡ Fed.Standing
             → AnswersWhole id.number (core D.state self.old) piece.now (core D.state self.new) }
+        /// A rest that spells nothing, a reply past the wire's limits, a request that ends the session, and out of
+        /// memory end it, with all its leases given back.
+        /// Carried by: `over`, `out_of_memory` of `Daemon::feed`: `EndsWithin`, `FailsOutOfMemory`
         ensures over { result ≡ Fed.Over → HasNoSession (core D.state self.old) id.number
             ⊎ EndsWithin id.number (core D.state self.old) piece.now (core D.state self.new) }
         ensures out_of_memory { result ≡ Fed.Starved
             → FailsOutOfMemory id.number (core D.state self.old) piece.now (core D.state self.new) }
+        /// No other session changes, and no device that it does not hold, but by the table.
+        /// Carried by: `others` of `Daemon::feed`: `KeepsOtherSessions`; `sessions_are_independent`
         ensures others { KeepsOtherSessions
             id.number (core D.state self.old) (core D.state self.new) }
     {
@@ -203,6 +222,7 @@ impl<D: Device> Daemon<D> {
 
     /// Takes as many bytes of the replies as the buffer has room for, and says how many.
     pub fn take_reply(&mut self, id: SessionId, buf: &mut [u8]) -> usize
+        /// Replies are taken in order, as many as the buffer holds.
         ensures within { result ≤ length buf.old }
         ensures all { result ≤ length (replies_of (core D.state self.old) id.number) }
         ensures most { (result ≡ length buf.old)
@@ -237,6 +257,7 @@ impl<D: Device> Daemon<D> {
     /// `Inval` where none is listed under it, `DeviceBusy` where it is not at rest or has a full tray; then the page comes
     /// back.
     pub fn load(&mut self, name: &[u8], page: Source) -> Result<(), (Status, Source)>
+        /// A page is loaded where the device is, in the table or in a session's hands.
         ensures answer { without_return result
             ≡ daemon_load_answer (core D.state self.old) name.now }
         ensures after { core D.state self.new ≡ core_after_load (core D.state self.old) name.now

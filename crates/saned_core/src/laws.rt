@@ -58,6 +58,7 @@ pub fn sessions_are_independent()
 /// A new daemon has its limits, eight places and a number for each session that no other has, and every call of it, as its
 /// contract tells, leaves them. So they hold in every state.
 pub fn the_limits_are_kept()
+    /// In every state there are eight places, and each session's number is its own.
     ensures new { (d : Core)
         → d.slots ≡ None ∷ None ∷ None ∷ None ∷ None ∷ None ∷ None ∷ None ∷ [] → HasDaemonLimits d }
     ensures open_session { (d : Core) (port : ℕ)

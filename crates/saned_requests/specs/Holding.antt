@@ -14,7 +14,8 @@ seen_held f held = map (option_map (seen_lease f)) held
 abbrev pub seen_session : {D S : Type 0} → (D → S) → Session D → Session S
 seen_session f s = record { port = s.port; strings = s.strings; greeted = s.greeted; held = seen_held f s.held; awaited = s.awaited; transfer = s.transfer }
 
--- what a word of a session stands for
+-- **what a session holds (`held_by`, `on_word`, `free_word`, `given_back`)**: what a word stands for, something else in its
+-- place, the least free word, and the table once all leases are back.
 unfoldable pub held_by : {S : Type 0} → List (Option (Lease S)) → ℕ → Option (Lease S)
 held_by [] word = None
 held_by (h ∷ held) zero = h

@@ -42,7 +42,8 @@ use Rattle.saned_requests.specs.Holding.{seen_session, held_by, on_word, with_de
 abbrev pub no_mem : NoMem
 no_mem = record {}
 
--- what a request of a session may change
+-- **request context (`RequestContext`)**: what a request may change: its session, the table of devices, and whence the next
+-- challenge comes.
 pub record RequestContext : Type 0 where
   pub session : Session DeviceState
   pub registry : Table
@@ -339,6 +340,9 @@ abbrev pub AnswersBy : Bool → List Entry → RequestContext → Request → Re
 AnswersBy false users d request said new = IsContextOutcome (first_answer d request) said new
 AnswersBy true users d request said new = AnswersGreeted users d d.session.awaited request said new
 
+-- **answers (`Answers`)**: what is said to a request and what it leaves, by whether the session was greeted, whether
+-- AUTHORIZE is awaited, and the request; one definition for each request. Said is one reply, AUTHORIZE's two, or the
+-- session ends with it.
 abbrev pub Answers : List Entry → RequestContext → Request → RequestAnswer → RequestContext → Type 0
 Answers users d request said new = AnswersBy d.session.greeted users d request said new
 
@@ -365,6 +369,8 @@ abbrev pub OutOfMemoryBy : Bool → RequestContext → Request → RequestContex
 OutOfMemoryBy false d request new = ⊥
 OutOfMemoryBy true d request new = OutOfMemoryGreeted d d.session.awaited request new
 
+-- **out of memory (`OutOfMemoryAt`)**: what is left out of memory, request by request: nothing was done; of OPEN perhaps a
+-- challenge was drawn; of a SET perhaps it was made; of START the device is at rest.
 abbrev pub OutOfMemoryAt : RequestContext → Request → RequestContext → Type 0
 OutOfMemoryAt d request new = OutOfMemoryBy d.session.greeted d request new
 

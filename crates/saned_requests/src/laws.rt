@@ -15,6 +15,7 @@ ghost use Rattle.saned_requests.specs.RequestAnswers.{RequestContext, Answers, O
 /// What the words stand for are leases of the table with places of their own, and so are the leases of other sessions,
 /// before and after it, also where memory ran out for it.
 pub fn a_request_keeps_leases()
+    /// A request keeps the session's leases in order.
     ensures answered { (users : List Entry) (d new : RequestContext)
         (q : AnyRequest) (said : AnySaid) → Answers users d q said new → KeepsLeases d new }
     ensures faltered { (d new : RequestContext) (q : AnyRequest)
@@ -24,6 +25,7 @@ pub fn a_request_keeps_leases()
 /// A session that ends gives all back: each device is in its place again, cancelled, and the leases of other sessions stay
 /// leases of the table.
 pub fn an_end_gives_all_back()
+    /// The end of a session gives all its devices back, and leaves leases of others alone.
     ensures back { (t : Table) (held : List (Option (ALease DeviceState)))
         (w : ℕ) (l : ALease DeviceState) → HoldsWell t held
         → held_by held w ≡ Some l → IsIn (after_cancel l.device) l.place (given_back t held) }

@@ -25,6 +25,10 @@ pub enum StringSize {
 }
 
 /// A session that goes on.
+///
+/// **session (`Session`)**: its port; whether it was greeted; what its four device words stand for, each a lease or
+/// nothing; the OPEN that awaits AUTHORIZE, if any; where its frame is: quiet, or waiting for a connection, streaming, of a
+/// device word, or to be ended.
 pub struct Session<D> {
     /// Where its data connections are accepted.
     pub port: u16,

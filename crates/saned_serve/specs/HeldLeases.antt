@@ -23,8 +23,8 @@ leases_at [] k = []
 leases_at (slot ∷ slots) zero = held_in slot
 leases_at (slot ∷ slots) (suc k) = leases_at slots k
 
--- what a session's words stand for are leases of the table, of devices of their own, and no other
--- session has one of these
+-- **held apart (`AreHeldApart`, `HoldsApart`)**: what the device words of a daemon's sessions stand for are leases of its
+-- table, each of a device of its own.
 pub record AreHeldApart (t : Table) (slots : List (Option (SessionSlot DeviceState))) : Type 0 where
   pub sound : TableInvariant t
   pub own : (k : ℕ) → HoldsWell t (leases_at slots k)

@@ -28,7 +28,10 @@ Extends past journal = (since : List LoopAction) × (journal ≡ since ++ past)
 
 -- ---- a turn of one session's connections
 
--- how far a turn of a session is
+-- **goes, parts (`TurnPhase`, `SessionTurn`, `LinkMatches`, `JournalGoesOn`, `Attends`, `SendsRecords`, `LeavesSession`,
+-- `hung_up`)**: a session's connections tell its projection, by how far its turn is; a step of one session, from what its
+-- turn finds to what it leaves (daemon, listeners, connections), keeps that, whatever came before, and touches no other
+-- session; its end hands back its data connection, where it has one, and leaves it.
 pub data TurnPhase : Type 0 where
   -- it is over, or did not begin
   Fresh : TurnPhase
@@ -227,7 +230,10 @@ HadTurn journal l =
     × ((projection_of l.id.number journal).over ≡ true → (projection_of l.id.number journal).drained ≡ false)
     × ((projection_of l.id.number journal).tended ≡ true)
 
--- a server in a turn: the daemon, the listeners and the slots, the first so many of which had their part of the turn
+-- **stands, went on (`ServingState`, `LoopInvariant`, `WentOn`, `TookTurn`, `HasTakenTurns`)**: behind a journal, of the
+-- daemon, the listeners and the slots: each slot has one session at most, each session one slot, its connections tell its
+-- projection, those of the first slots had their turn, and as many slots are taken as sessions stand; the journal goes on
+-- (`Extends`), and so many sessions left; or it goes on by ends alone (`Shuts`; `Closing`, `Journal.antt`).
 pub record ServingState (C : Type 0) : Type 0 where
   pub daemon : Core
   pub listeners : Option ListenerTrace

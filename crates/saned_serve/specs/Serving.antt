@@ -43,8 +43,10 @@ pub record ServeLimits : Type 0 where
   pub sessions : ℕ
   pub idle_turns : ℕ
 
--- what a server's whole run did: its turns, and then nothing but the end of all that still stood;
--- nothing where there was no memory
+-- **served (`HasServed`, `NothingIsOpen`, `LoopEndsBy`)**: what a whole run did: the journal of its turns, and behind it
+-- nothing but data connections handed back and sessions left, until none stands. The journal of the turns tells why they
+-- ended: as many sessions left as were to be served, fewer than eight more; or not yet so many, and nothing moved in so
+-- many turns in a row at last; or neither, and 2^40 turns were taken.
 pub record HasServed (limits : ServeLimits) (was now : DaemonAndListeners) (end : ServeEnd) : Type 0 where
   pub turns : List LoopAction
   pub journal : List LoopAction

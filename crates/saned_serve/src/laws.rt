@@ -17,6 +17,9 @@ ghost use Rattle.saned_serve.specs.HeldLeases.{HoldsApart};
 /// one's records; and each session that was opened and does not stand was left, its control
 /// connection handed back with just those calls.
 pub fn connections_tell_their_sessions()
+    /// So of each session: it was fed nothing but what its connection read, and once it is left all of that; what
+    /// that connection took is a front of its replies, and its data connection of that one's records; and it was
+    /// left, where it does not stand.
     ensures fed { (journal : List LoopAction) (id : ℕ)
         → IsJournal journal → IsFront (projection_of id journal).heard
         (trace_bytes_read (projection_of id journal).control) }
@@ -34,9 +37,9 @@ pub fn connections_tell_their_sessions()
         → (projection_of id journal).is_open ≡ false → WasLeft id journal }
 {}
 
-/// Two clients never hold one device: in a new daemon no session holds any, and behind every front
-/// of a journal no two words of its sessions stand for one device, if none did before.
 pub fn no_device_is_held_twice()
+    /// Two clients never hold one device: behind every front of a journal no two device words of its sessions stand
+    /// for one device, if none did before, as in a new daemon none do.
     ensures new { (d : Core) → TableInvariant d.registry
         → d.slots ≡ None ∷ None ∷ None ∷ None ∷ None ∷ None ∷ None ∷ None ∷ [] → HoldsApart d }
     ensures behind { (d e : Core) (journal : List LoopAction)
@@ -45,9 +48,8 @@ pub fn no_device_is_held_twice()
         → HoldsApart d → (mid : Core) × DaemonRuns d past mid × HoldsApart mid }
 {}
 
-/// A number is one session's: behind the act that ends a session nobody does anything for that
-/// number.
 pub fn nobody_acts_for_a_session_that_left()
+    /// A number is one session's: behind the act that ends a session nothing is done for that number any more.
     ensures { (since past : List LoopAction) (id port : ℕ) (trace : Option ConnectionTrace)
         (act : SessionAction) (d e : Core)
         → IsJournal (since ++ Of id (Leaves port trace) ∷ past)
@@ -55,8 +57,8 @@ pub fn nobody_acts_for_a_session_that_left()
         → IsInJournal (Of id act) since → ⊥ }
 {}
 
-/// No more sessions stand than a journal counts, so fewer than eight where another is opened.
 pub fn no_more_stand_than_are_counted()
+    /// No more sessions stand than a journal counts, so fewer than eight where another is opened.
     ensures counted { (journal : List LoopAction) → IsJournal journal → (numbers : List ℕ)
         × AreOpenSessions journal numbers }
     ensures few { (past : List LoopAction) (id port : ℕ) → IsJournal (Of id (Opens port) ∷ past)

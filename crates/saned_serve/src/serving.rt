@@ -118,9 +118,47 @@ pub fn serve<D: Device, L: Listeners>(
     sessions: u64,
     idle_turns: u64,
 ) -> ServeEnd
+    /// There is one list, in order, of each call of the daemon, of a connection and of the listeners, and of the end
+    /// of each turn.
+    ///
+    /// The daemon behind it is what its calls make of the one before, and each connection's own list, as it is handed
+    /// back, and the listeners' are what it has of them.
+    ///
+    /// What a session's connection brings, 1 to 4,096 bytes, is fed to that session at once, whole and in order, and
+    /// the connection is read, into 4,096 bytes, only where the daemon's replies are all written.
+    ///
+    /// Each write offers all of the session's replies, or of its record, that wait, and nothing more is taken before;
+    /// a record is taken into 65,483 bytes, and none behind the end record.
+    ///
+    /// Listeners are asked to forget the connections that have ended at a port only where a frame begins with a
+    /// piece, at its session's port and before a reply is taken.
+    ///
+    /// A data connection is awaited where a frame waits, at the session's own port, and handed back where its end
+    /// record is written, where it was found lost, which the daemon was told, or with the session.
+    ///
+    /// A session is left, its port closed and its connection handed back, only where that connection was found lost,
+    /// or the session is over and all its replies are written.
+    ///
+    /// In each turn an accept is asked for, once, where fewer than eight sessions stand as it is asked, and none
+    /// where eight stand. A connection that gets no port or no session goes back, and its port is closed.
+    ///
+    /// In a turn each connection is read at most once and then written at most once, and then one data connection is
+    /// awaited or one record offered, at most.
+    ///
+    /// A turn ends only where each session that stands was read or written in it, was not found lost, and, where it
+    /// is over, had a reply; where its data connection was offered a record or there was none; and where else no
+    /// frame waited, or nobody came to its port.
+    ///
+    /// The turns end where as many sessions left as were to be served, fewer than eight more; else where nothing
+    /// moved in as many turns in a row as were to be waited; else after 2^40. Behind them sessions are left and
+    /// connections handed back, until none stands, and nothing else.
     ensures served { HasServed (record { sessions = sessions; idle_turns = idle_turns })
         (record { daemon = core D.state daemon.old; listeners = L.trace net.old })
         (record { daemon = core D.state daemon.new; listeners = L.trace net.new }) result }
+    /// Where there is no memory before the first accept, nothing was done.
+    ///
+    /// It returns, after at most 2^40 turns.
+    /// Carried by: termination of `serve`
     ensures memory { result ≡ ServeEnd.NoMem → (daemon.new ≡ daemon.old)
         × (L.trace net.new ≡ L.trace net.old) }
 {

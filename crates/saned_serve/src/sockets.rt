@@ -17,6 +17,9 @@ pub enum Got {
 }
 
 /// A connection whose calls come back at once.
+///
+/// What sockets and listeners promise.
+/// Carried by: `Socket`, `Listeners`
 pub trait Socket {
     /// All calls of it so far with what they came to, the newest first, where it tells them.
     ghost history: { Self → Option ConnectionTrace } = { λ _. None };

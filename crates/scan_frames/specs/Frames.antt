@@ -17,7 +17,9 @@ use Rattle.scan_frames.specs.declared.setup.Setup.{Setup}
 use Rattle.scan_frames.specs.declared.setup.PassOrder.{PassOrder}
 use Rattle.scan_frames.specs.declared.setup.PassOrder.TheVariants.{Rgb, Rbg, Gbr, Grb, Brg, Bgr}
 
--- the limits of what options say
+-- **setup (`Setup`, `IsSetup`)**: what the options of a scanner say: the scene, the byte order, the order of passes, the
+-- lost pixels of a line, the most bytes of a read, and what the first read of a frame answers in place of bytes; and the
+-- limits of these.
 pub record IsSetup (s : Setup) : Type 0 where
   pub depth : (s.scene.depth ≡ 1) ⊎ ((s.scene.depth ≡ 8) ⊎ (s.scene.depth ≡ 16))
   pub resolution_some : 1 ≤ s.scene.resolution
@@ -141,7 +143,9 @@ frame_of s page pass = record {
   payload = payload s page pass;
 }
 
--- all frames of a scan, in the order of its passes
+-- **frames of a scan (`frames_of`, `params_at`, `payload`)**: one frame; in color on a three-pass scanner three, a color
+-- each, in the order of passes. What is told of a pass has 0 for width, lines and bytes per line where there is no picture;
+-- a hand scanner does not tell its lines. A pass's bytes are its lines one after another.
 abbrev pub frames_of : Setup → PageView → List Frame
 frames_of s page =
     if takes_colors s.scene.kind s.scene.mode

@@ -33,6 +33,9 @@ sample_end Bits i = 0
 sample_end Bytes i = i
 sample_end Words i = 2 * i
 
+-- **sum (`sum_from`)**: 299 times a dot's red, 587 times its green and 114 times its blue; its gray is a thousandth of
+-- that.
+--
 -- the weighted sum of the three samples from there on
 abbrev pub sum_from : List ℕ → ℕ → ℕ
 sum_from row i = 299 * slice_index row i + 587 * slice_index row (i + 1) + 114 * slice_index row (i + 2)
@@ -41,7 +44,8 @@ sum_from row i = 299 * slice_index row i + 587 * slice_index row (i + 1) + 114 *
 abbrev pub gray_in : List ℕ → ℕ → ℕ
 gray_in row place = sum_from row (3 * place) / 1000
 
--- the three samples of a dot of a row are the same
+-- **gray rows (`IsGrayDot`, `IsGrayRow`)**: a dot of a row is gray where its three samples are the same, and a row where
+-- all its dots are; the gray of such a dot is its sample, so that none is summed.
 abbrev pub IsGrayDot : List ℕ → ℕ → Type 0
 IsGrayDot row p = (slice_index row (3 * p + 1) ≡ slice_index row (3 * p)) × (slice_index row (3 * p + 2) ≡ slice_index row (3 * p))
 
@@ -58,7 +62,8 @@ sample_in_row scene row place k =
 abbrev pub value_at : Scene → FrameFormat → List ℕ → Columns → ℕ → ℕ → ℕ
 value_at scene format row columns x k = sample_in_row scene row (place_at columns x) (channel_in format k)
 
--- one of a sample below half of the greatest, and zero of any other
+-- **dark dots (`dark`, `darks_from`)**: one for a sample below 32,768, and zero for any other; of eight dots a byte, the
+-- leftmost as its most significant bit.
 abbrev pub dark : ℕ → ℕ
 dark v = if nat_lt v 32768 then 1 else 0
 
@@ -200,7 +205,9 @@ pub record PutsColors (s : SourceState) (first : ℕ) (t : SourceState) (line : 
   pub here : s.steady ≡ true → (x k : ℕ) → k < 3 → 3 * x + k < length line
       → slice_index line (3 * x + k) ≡ page_sample_at s.page (first + x) s.given k / 256
 
--- one of a gamma table's entry that is black at depth 1, and zero of any other
+-- **black bytes (`black`, `black_in`, `blacks_in`)**: one for an entry of a gamma table that is black at depth 1, which is
+-- one below 128, and zero for any other; of eight bytes a byte, the leftmost as its most significant bit, with zeros behind
+-- the last byte.
 abbrev pub black : ℕ → ℕ
 black v = if nat_lt v 128 then 1 else 0
 

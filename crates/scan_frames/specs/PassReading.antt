@@ -16,7 +16,11 @@ use Rattle.scan_frames.specs.declared.faults.BeginFault.TheVariants.{NoPicture, 
 use Rattle.scan_frames.specs.declared.faults.ReadEnd.{ReadEnd}
 use Rattle.scan_frames.specs.declared.faults.ReadEnd.TheVariants.{End, SourceFailed as SourceFailedIn}
 
--- a frame that is read
+-- **a frame that is read (`FrameProgress`, `FrameAndSource`, `IsFrame`, `BeginsPass`, `ReadsFrame`)**: which pass, room for
+-- a row and how many were taken (none behind the one that the last line shows), the last line that was made, as long as
+-- some of it is left or the next line shows its row too (`IsLineNeeded`), and how many were made; of a setup over a source
+-- in its state. A read gives the bytes that follow those given before, all that are left of the frame, but no more than the
+-- buffer holds or the read limit lets; or the end, or the source's fault.
 pub record FrameProgress : Type 0 where
   pub pass : ℕ
   -- which columns of the page its pixels show

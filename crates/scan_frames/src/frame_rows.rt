@@ -43,6 +43,7 @@ impl FrameRows {
         pass: u32,
     ) -> Result<Self, BeginFault>
         requires { IsSetup setup.now }
+        /// A frame is begun with a rewind, one row, one line and a column map.
         ensures { BeginsPass (S.source source.old) setup.now pass result (S.source source.new) }
     {
         let Some((_, height)) = sides(source, setup) else {
@@ -73,6 +74,10 @@ impl FrameRows {
         requires setup { IsSetup setup.now }
         requires frame { IsFrame (S.source source.old) setup.now self.old }
         requires buf { 0 < length buf.old }
+        /// A read gives the next bytes of the frame, as many as are left of it, or the buffer holds, or the read
+        /// limit lets, over as many lines as that takes.
+        ///
+        /// The end comes just where all were given, and a source's fault only where it was counted.
         ensures { ReadsFrame setup.now
             (record { source = S.source source.old; frame = self.old }) result
             (record { source = S.source source.new; frame = self.new }) buf.new }

@@ -15,7 +15,9 @@ abbrev pub GivesBack : Option Stock → Option (Option (List ℕ)) → Bool → 
 GivesBack old None kept new = (new ≡ old) × (kept ≡ true)
 GivesBack old (Some contents) kept new = Shelves old contents kept new
 
--- the outputs that a shelf was given back since, where it is known
+-- **Taken back, left** (`TakesBack`, `AreLeft`; `page_outputs_from`): the outputs that a shelf was given back since, where
+-- it tells; an output for the file of each page, numbered on, and kept; and what is left of a file that did not come to its
+-- end, no output or one that took some of it, kept or refused.
 abbrev pub TakesBack : Option Stock → List ReturnedOutput → Option Stock → Type 0
 TakesBack None outputs new = ⊤
 TakesBack (Some old) outputs None = ⊥

@@ -10,7 +10,7 @@ use Rattle.scan_job.specs.declared.job.Task.TheVariants as tasks
 abbrev pub IsJobText : List ℕ → Type 0
 IsJobText text = length text ≤ 1023
 
--- at most 64 settings, and short texts
+-- **size of a job (`HasJobSize`)**: at most 64 settings, and no text of more than 1,023 bytes.
 pub record HasJobSize (job : Job) : Type 0 where
   pub few : length job.settings.items ≤ 64
   pub user : IsJobText job.user

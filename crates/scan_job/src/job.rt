@@ -97,6 +97,8 @@ impl Job {
 
     /// Whether the job has at most 64 settings, and no text of more than 1,023 bytes.
     pub fn has_size(&self) -> bool
+        /// How large a job may be, and which fault of its size comes first.
+        /// Carried by: `Job::has_size`, `Job::fault`
         ensures { IsTrue result ↔ HasJobSize self.now }
     {
         self.settings.len() <= MOST_SETTINGS

@@ -32,6 +32,7 @@ impl Why {
 
     /// The word for it in scanimage's line of an ending.
     pub fn word(self) -> &'static str
+        /// The words of endings.
         ensures { result.now ≡ why_word self }
     {
         match self {

@@ -19,6 +19,9 @@ pub trait Shelf {
 
     /// The output of the batch's file of that number, from 1. It is asked for at the file's first byte.
     fn open(&mut self, k: u32) -> Result<Self::Out, ShelfFault>
+        /// What a shelf of outputs promises, where it tells what it was given back: each output with its number, its
+        /// bytes, and whether the shelf kept it or refused it.
+        /// Carried by: `Shelf`: `stock` of `open`, of `close`
         ensures stock { OpensOutput (stock self.old) k (stock self.new) }
         ensures empty { IfOk result (λ out. IsEmpty (Self.Out.contents out)) }
         ensures told { IfOk result (λ out. IsNewOutput (stock self.new) (Self.Out.contents out)) };

@@ -18,6 +18,7 @@ fn has_one_value(kind: Kind, size: u32) -> bool
 /// Whether a job that shows the options reads this one's value: it is active and can be read, it has
 /// one value, and it is no button and no group.
 pub fn tells_value(desc: &Descriptor) -> bool
+    /// Which options a job that shows them reads.
     ensures { result ≡ tells_value desc.now }
 {
     !has_cap(desc.caps.0, Cap::INACTIVE)

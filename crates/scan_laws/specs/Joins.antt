@@ -10,8 +10,11 @@ abbrev pub no_frame_left : List Frame → Bool
 no_frame_left [] = true
 no_frame_left (f ∷ more) = false
 
--- Behind the frames that ended a join takes this frame: it begins, no front of its bytes is too long, all of them are a
--- full frame, and none are not; and it alone of those to come says that no frame follows, or another does.
+-- **frames that a join takes (`JoinTakes`, `TakesAll`)**: each is accepted behind those before it, all its bytes fit and
+-- are all of it, and the last makes the picture whole.
+--
+-- **takes (`JoinTakes`, `TakesAll`)**: behind the frames that ended a join takes this one: it begins, no front of its bytes
+-- is too long, all of them are full, none of them are not, and its last-frame flag stands just where no frame follows.
 pub record JoinTakes (ended : List Frame) (f : Frame) (more : List Frame) : Type 0 where
   pub unjoined : is_joined ended ≡ false
   pub accepted : is_accepted ended f.params f.order ≡ true

@@ -15,7 +15,10 @@ IsPhaseOf (Between ended) setup page = (has_picture setup page ≡ true) × (1 �
 IsPhaseOf (Reading pass given) setup page =
     (has_picture setup page ≡ true) × (pass ≤ last_pass setup) × (given ≤ pass_length setup page pass) × (setup.told ≢ None → given ≡ 0)
 
--- and while a scan is under way there is a page
+-- **in a scan (`IsInScan`), place (`ScanPlace`, `place_of`)**: a phase that a scan of this setup on this page comes to:
+-- passes counted up to the last, bytes up to their number, none where a status is told in their place, and a page while a
+-- scan is under way. Where a scanner is in the list of a scan's frames: at rest; the frame that ended last and those to be
+-- started; the frame that is read, its bytes not given yet, and the frames after it.
 pub record IsInScan (s : DeviceState) : Type 0 where
   pub phase : IsPhaseOf s.phase s.setup (page_of s)
   pub page : is_at_rest s.phase ≡ false → s.pages ≢ []

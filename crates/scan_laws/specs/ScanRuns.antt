@@ -13,6 +13,11 @@ use Rattle.scan_frames.specs.Filler.{EndsInZeros}
 use Rattle.device_api.specs.State.{DeviceState, Phase, Starts, Reads, after_cancel, after_load, after_reset, after_set, is_at_rest, page_of, params_of, set_answer, takes_page}
 use Rattle.device_api.specs.State.Phase.{AtRest, Between, Reading}
 
+-- **a run of calls (`DeviceCall`, `ScanGoesOn`), a scan in one sentence (`ShowsOne`)**: any calls in which the scanner did
+-- not come to rest. There is one list of frames and one picture, the meaning of the first start's scene on its page; the
+-- frames show it; whatever is called, what is told is of the frame started last, what was read since is a front of its
+-- bytes, and its end comes behind the last of them, or where the options tell of it in place of the first.
+--
 -- a call that may change a scanner, with what it answered; of a read also the buffer behind it
 pub data DeviceCall : Type 0 where
   Start : Result Unit Status → DeviceCall

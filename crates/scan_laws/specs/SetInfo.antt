@@ -12,7 +12,9 @@ use Rattle.device_api.specs.Values.{setup_after}
 abbrev pub has_bit : Info → ℕ → Bool
 has_bit info bit = info.0 / bit % 2 == 1
 
--- INEXACT stands just where the value given differs, and RELOAD_OPTIONS just where the descriptors changed
+-- **what a set tells (`TellsOfSet`), what is nearest (`GivesNearest`, `PutAllNearest`)**: INEXACT stands just where the
+-- value given differs, RELOAD_OPTIONS just where the descriptors changed; of an option that may be set the admitted value
+-- nearest to the one asked for was given, and so for each setting of a job, from the options that those before it left.
 pub record TellsOfSet (s : Setup) (n : ℕ) (asked given : Value) (info : Info) : Type 0 where
   pub inexact : (has_bit info 1 ≡ true) ↔ (given ≢ asked)
   pub options : (has_bit info 2 ≡ true) ↔ (descriptors_of (setup_after s n given) ≢ descriptors_of s)

@@ -24,12 +24,13 @@ ghost use Rattle.scan_laws.specs.SetInfo.{MayRefuseStart, TellsOfSet};
 /// What a set answers tells a client whether to ask for the descriptors again: they changed just where the bit
 /// RELOAD_OPTIONS stands.
 pub fn what_a_set_tells()
+    /// What a set answers tells whether the descriptors changed.
     ensures { (s : Setup) (n : ℕ) (asked given : Value) (info : Info)
         → option_set s n asked ≡ Ok (given, info) → TellsOfSet s n asked given info }
 {}
 
-/// No scanner refuses with GOOD, and only a read with EOF.
 pub fn no_refusal_is_good()
+    /// No scanner refuses with GOOD, and only a read with EOF.
     ensures set { (s : Setup) (n : ℕ) (asked : Value) (status : Status)
         → option_set s n asked ≡ Err status → status ≡ Inval }
     ensures get { (s : Setup) (n : ℕ) (status : Status)
@@ -40,8 +41,8 @@ pub fn no_refusal_is_good()
         → IsAllowed s.setup → Reads s (Err Good) t buf → ⊥ }
 {}
 
-/// The limits of a scanner last, whatever is called.
 pub fn limits_last()
+    /// The limits of a scanner last, whatever is called.
     ensures defaults { (kind : DeviceKind) (order : ByteOrder) → IsAllowed (defaults kind order) }
     ensures set { (s : Setup) (n : ℕ) (asked given : Value) (info : Info) → IsAllowed s
         → option_set s n asked ≡ Ok (given, info) → IsAllowed (setup_after s n given) }
@@ -51,8 +52,8 @@ pub fn limits_last()
     ensures scan { (s t : DeviceState) → HasLimits s → IsSameScan s t → HasLimits t }
 {}
 
-/// A scan goes on with the options and the pages with which it began; a feeder lets go of the first when it is over.
 pub fn a_scan_keeps_its_options_and_page()
+    /// A scan goes on with the options and pages with which it began; a feeder lets go of the first when it is over.
     ensures start { (s t : DeviceState) (result : Result Unit Status)
         → Starts s result t → IsSameScan s t }
     ensures read { (s t : DeviceState) (result : Result ℕ Status) (buf : List ℕ)
@@ -60,8 +61,8 @@ pub fn a_scan_keeps_its_options_and_page()
     ensures cancel { (s : DeviceState) → IsSameScan s (after_cancel s) }
 {}
 
-/// A scan's passes are counted up to its last, and a pass's bytes up to their number.
 pub fn passes_are_counted()
+    /// A scan's passes are counted up to its last, and a pass's bytes up to their number.
     ensures reset { (s : DeviceState) → IsInScan (after_reset s) }
     ensures cancel { (s : DeviceState) → IsInScan (after_cancel s) }
     ensures set { (s : DeviceState) (n : ℕ) (asked given : Value) (info : Info)
@@ -72,9 +73,9 @@ pub fn passes_are_counted()
         → IsInScan s → Reads s result t buf → IsInScan t }
 {}
 
-/// A scan goes through its frames: a start begins the first of those to come, reads give its bytes, and its end comes
-/// behind the last of them, or before the first where the options say so.
 pub fn a_scan_goes_frame_by_frame()
+    /// A scan goes frame by frame: a start begins the first of those to come, reads give its bytes, and its end comes
+    /// behind the last of them, or before the first where the options say so.
     ensures start { (s t : DeviceState) → IsInScan s → Starts s (Ok tt) t
         → BeginsFrame (place_of s) (frames_of s.setup (page_of s)) (place_of t) }
     ensures read { (s t : DeviceState) (n : ℕ) (buf : List ℕ) → IsInScan s → steady_of s ≡ true
@@ -84,8 +85,8 @@ pub fn a_scan_goes_frame_by_frame()
         ⊎ ((s.setup.told ≡ Some Eof) × EndsEmpty (place_of s) (place_of t)) }
 {}
 
-/// An option that a kind of scanner does not have keeps its default.
 pub fn only_own_options_change()
+    /// An option that a kind does not have keeps its default.
     ensures defaults { (kind : DeviceKind) (order : ByteOrder) → IsOwn (defaults kind order) }
     ensures set { (s : Setup) (n : ℕ) (given : Value) → IsOwn s → IsOwn (setup_after s n given) }
 {}
@@ -93,6 +94,7 @@ pub fn only_own_options_change()
 /// A set gives the admitted value that is nearest to the one asked for, and refuses only where there is none, or the
 /// option may not be set; and so does each setting of a job, from the options that those before it left.
 pub fn what_is_given_is_nearest()
+    /// A set gives the nearest admitted value, and so does each setting of a job.
     ensures given { (s : Setup) (n : ℕ) (asked given : Value) (info : Info)
         → option_set s n asked ≡ Ok (given, info) → GivesNearest s n asked given }
     ensures refused { (s : Setup) (n : ℕ) (asked given : Value) (status : Status)

@@ -16,8 +16,8 @@ ghost use Rattle.frame_join.specs.JoinStates.{JoinState, Represents};
 ghost use Rattle.scan_laws.specs.Joins.{IsOpenJoin, JoinTakes, TakesAll, with_frame_begun, with_bytes};
 ghost use Rattle.scan_laws.specs.Weights.{greatest_weight, weight};
 
-/// A join takes the frames of a scan one after another, to the whole picture.
 pub fn a_join_takes_the_frames_of_a_scan()
+    /// A join takes the frames of a scan one after another, to the whole picture.
     ensures { (setup : Setup) (page : PageView) → IsAllowed setup
         → IsShaped page → has_picture setup page ≡ true → TakesAll [] (frames_of setup page) }
 {}
@@ -25,6 +25,7 @@ pub fn a_join_takes_the_frames_of_a_scan()
 /// A join goes through a frame that it takes: it begins, its bytes come in whatever pieces, and it ends; and an end before
 /// its first byte is short.
 pub fn a_join_goes_through_a_frame()
+    /// It goes through each frame in whatever pieces; an end before its first byte is short.
     ensures begin { (ended more : List Frame) (f : Frame) (past : JoinHistory) (starved : Bool)
         → JoinTakes ended f more
         → IsOpenJoin ended None past → after_begin f.params f.order starved past
@@ -44,13 +45,13 @@ pub fn a_join_goes_through_a_frame()
 
 /// No scan gives more bytes than the greatest of a flatbed: its whole bed in color at depth 16, with 64 lost pixels a line.
 pub fn no_scan_is_longer()
+    /// No scan has more than 539,216,256 bytes.
     ensures { (setup : Setup) (page : PageView) → IsAllowed setup
         → has_picture setup page ≡ true → weight (frames_of setup page) ≤ greatest_weight }
 {}
 
-/// The frames of a scan, joined, are the picture that its scene means on its page: they show it, and their file
-/// denotes it.
 pub fn frames_join_to_the_meaning()
+    /// The frames of a scan, joined, are the picture that its scene means on its page, and their file denotes it.
     ensures there { (setup : Setup) (page : PageView)
         → has_picture setup page ≡ false → meaning_of page setup.scene ≡ None }
     ensures shows { (setup : Setup) (page : PageView)
@@ -67,6 +68,8 @@ pub fn frames_join_to_the_meaning()
 /// frame, what reads gave of it is a front of its bytes, and the end comes behind the last of them, or where the options
 /// tell of it in place of the first.
 pub fn a_scan_shows_its_first_picture()
+    /// From a start at rest until the scanner rests again, whatever is called, the scan shows the picture of that
+    /// start.
     ensures { (first begun : DeviceState) → HasLimits first → steady_of first ≡ true
         → is_at_rest first.phase ≡ true → Starts first (Ok tt) begun → ShowsOne first begun }
 {}

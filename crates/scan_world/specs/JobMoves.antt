@@ -8,6 +8,10 @@ use Rattle.scan_world.specs.declared.event.JobEvent.TheVariants.{Connect, ToDaem
 use Rattle.scan_world.specs.declared.endpoint.Endpoint.{Endpoint}
 use Rattle.scan_world.specs.JobEvents.{Can, job_event_of}
 
+-- **move (`in_order`, `IsFirstMove`, `IsNextMove`)**: the connection made, at most 4,096 bytes to the daemon, as many to
+-- the client, the data connection made, its bytes to the client, the daemon's turn: the first that can happen; and then the
+-- loss of a connection whose session the daemon has ended.
+--
 -- the moves of a job, in their order
 abbrev pub in_order : List JobEvent
 in_order = Connect ∷ ToDaemon 4096 ∷ ToClient 4096 ∷ DataConnect ∷ DataToClient 4096 ∷ DataTurn ∷ []

@@ -22,6 +22,10 @@ use Rattle.scan_world.specs.declared.world_fault.WorldFault.TheVariants as fault
 use Rattle.scan_world.specs.Endpoints.{IsNew}
 use Rattle.scan_world.specs.JobEvents.{Happens}
 
+-- **a world (`WorldState`, `AreNew`, `HasWorldFault`, `HasFaultAmong`, `IsInitialWorld`)**: the daemon and the endpoints;
+-- that each job has its endpoint, to which nothing has happened; why there is no world of these devices and jobs, the first
+-- fault in its order; and a new one, whose devices are reset.
+--
 -- A world whose devices are seen as S.
 pub record WorldState (S : Type 0) : Type 0 where
   pub daemon : DaemonState S
@@ -79,6 +83,10 @@ pub record IsInitialWorld (devices : List DeviceState) (users : List Entry) (see
 
 -- ---- events
 
+-- **leads, runs (`AtEndpoint`, `Leads`, `Runs`)**: an event is what happens to the endpoint of its job, and no other
+-- changes; a page that is laid in and a device that is taken out are the daemon's calls; a list of events is one after
+-- another.
+--
 -- It happens to the job of that place, by the daemon and its endpoint; no other endpoint changes. Where there is no such job nothing does.
 pub record AtEndpoint (w : WorldCore) (i : ℕ) (job_event : JobEvent) (v : WorldCore) : Type 0 where
   pub happens : (p : Endpoint) → slice_get w.endpoints i ≡ Some p → (q : Endpoint) × Happens w.daemon p job_event v.daemon q × (v.endpoints ≡ slice_set w.endpoints i q)

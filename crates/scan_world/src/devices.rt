@@ -41,6 +41,9 @@ pub fn parts_of<D: Device>(
     devices: Vec<D>,
     jobs: Vec<Job>,
 ) -> Result<(Registry<D>, Endpoints), (WorldFault, Vec<D>)>
+    /// Of what a world is made, the table of its devices and the endpoints of its jobs, is made or refused so for
+    /// devices of any type.
+    /// Carried by: `registry`, `endpoints`, `accepted`, `fault`, `back` of `parts_of`; `World::over`
     ensures registry { IfOk result (λ parts.
         table D.state parts.0 ≡ fresh_table (map D.state devices.items)) }
     ensures endpoints { IfOk result (λ parts. AreNew jobs.items parts.1) }
@@ -76,6 +79,10 @@ impl World<Box<dyn Device>> {
         seed: [u8; 32],
         jobs: Vec<Job>,
     ) -> Result<World<Box<dyn Device>>, (WorldFault, Vec<Box<dyn Device>>)>
+        /// `World::new` takes exactly up to sixteen devices of different names and up to eight jobs that a client
+        /// takes; each device is reset, and refused ones come back as they were. Its daemon sends string values as
+        /// their text, and `World::beside_daemon` takes a daemon of either kind.
+        /// Carried by: `begins`, `accepted`, `fault`, `back` of `World::new`, `World::beside_daemon`
         ensures begins { IfOk result
             (λ w. IsInitialWorld (map ⟦<Box<dyn Device> as Device>⟧.state devices.items)
             users seed jobs.items (seen_world ⟦<Box<dyn Device> as Device>⟧.state w)) }

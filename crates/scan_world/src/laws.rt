@@ -17,8 +17,8 @@ ghost use Rattle.scan_world.specs.Rounds.{RestsAt};
 ghost use Rattle.scan_world.specs.FileInvariant.{AllFilesRepresent, FilesRepresent, IsFileOf};
 ghost use Rattle.scan_world.specs.Worlds.{AreNew, Leads, MayRun, Runs, WorldCore};
 
-/// The files of jobs are those of what their clients were told: in a new world, and behind any events.
 pub fn files_are_represented()
+    /// In a new world, and behind any events, the files of each job are those of what its client was told.
     ensures new { (jobs : List Job) (endpoints : List Endpoint)
         → MayRun jobs → AreNew jobs endpoints → AllFilesRepresent endpoints }
     ensures run { (source : Source → SourceState) (events : List Event) (w v : WorldCore)
@@ -28,10 +28,14 @@ pub fn files_are_represented()
 /// What these files tell: that of a finished page is whole, and of the picture that the page's frames show, and so is that of a
 /// scan that is done. The file under way of a job that is not done is never whole. Where there is none a growth was refused.
 pub fn files_tell()
+    /// Each finished page of a batch is a whole file of the picture that the page's frames show, and so is the file
+    /// of a scan that is done.
     ensures page { (p : Endpoint) (k : ℕ) (file : List ℕ)
         → FilesRepresent p → finished_page p k ≡ Some file → IsFileOf file }
     ensures scan { (p : Endpoint) (file : List ℕ) → FilesRepresent p → p.task ≡ tasks.Scan
         → is_done p.client.outcome ≡ true → p.file ≡ Some file → IsFileOf file }
+    /// The file under way of a job that is not done is never whole, and a file is none only where the job is told as
+    /// out of memory.
     ensures short { (p : Endpoint) (file : List ℕ) → FilesRepresent p
         → is_done p.client.outcome ≡ false → p.file ≡ Some file → IsWhole file → ⊥ }
     ensures none { (p : Endpoint) → FilesRepresent p → p.file ≡ None → p.out_of_memory ≡ true }

@@ -87,6 +87,8 @@ impl<D: Device> World<D> {
     /// client, the data connection made, its bytes to the client and the daemon's turn of it; and then the loss of a control
     /// connection whose session the daemon has ended. None where the job does not run.
     pub fn next_move(&self, i: usize) -> Option<Event>
+        /// `next_move` gives the first event that can happen in the order of the moves, and none where none can or
+        /// the job does not run.
         ensures is { (p : Endpoint) → slice_get self.now.endpoints i ≡ Some p
             → IsNextMove (core D.state self.now.daemon) i p result }
         ensures none { slice_get self.now.endpoints i ≡ None → result ≡ None }
@@ -99,6 +101,9 @@ impl<D: Device> World<D> {
 
     /// More moves than job i may still take; 0 where it does not run, or there is no such job.
     pub fn moves_left(&self, i: usize) -> u64
+        /// `moves_left` is at first 2^34, or 2^36 for a batch, falls by one with each event of the job that happens,
+        /// and no event raises it.
+        /// Carried by: `World::moves_left`; `moves_fall`
         ensures is { (p : Endpoint)
             → slice_get self.now.endpoints i ≡ Some p → result ≡ moves_left_of p }
         ensures none { slice_get self.now.endpoints i ≡ None → result ≡ 0 }
@@ -140,8 +145,10 @@ impl<D: Device> World<D> {
         goes_on
     }
 
-    /// Next moves of all jobs by turns, until none has one, or may still take one.
+    /// Next moves of all jobs by turns.
     pub fn run_all(&mut self)
+        /// `run_all` makes next moves by turns until no job has one, or may still take one.
+        /// Carried by: `World::run_all`; `rest_is_quiet`
         ensures { RoundsRunOut ⟦<Source as PageSource>⟧.source
             (seen_world D.state self.old) (seen_world D.state self.new) }
     {

@@ -137,6 +137,20 @@ impl<D: Device> World<D> {
 
     /// Events in this order. One that cannot happen changes nothing.
     pub fn run(&mut self, events: Vec<Event>)
+        /// `World::run` does to daemon and clients exactly what its events say, one after another, and nothing where
+        /// an event cannot happen; but that it does not tell which data port a session is opened with (1, by the
+        /// private `connect`), which no call of a world shows.
+        /// Carried by: `World::run`: `Runs`, `Happens`
+        ///
+        /// A delivery moves the first so many bytes, at most 4,096, of those that wait, and feeds just these to the
+        /// daemon or to the client.
+        ///
+        /// A turn puts one record behind those on the way, or loses the connection where memory runs out.
+        ///
+        /// `LoseControl` takes the data connection along; a loss, a cancel, a page and a device taken out are the
+        /// calls of daemon and client.
+        ///
+        /// No event of one job touches another's endpoint.
         ensures { Runs ⟦<Source as PageSource>⟧.source events.items
             (seen_world D.state self.old) (seen_world D.state self.new) }
     {
@@ -196,6 +210,8 @@ impl<D: Device> World<D> {
 
     /// How far job i is; none where there is no such job.
     pub fn outcome(&self, i: usize) -> Option<&Outcome>
+        /// The calls tell a job's outcome, files, finished pages and whether it ran out of memory.
+        /// Carried by: `World::outcome`, `file`, `file_at`, `finished`, `starved`
         ensures { option_map (λ o. o.now) result
             ≡ option_map (λ p. p.client.outcome) (slice_get self.now.endpoints i) }
     {

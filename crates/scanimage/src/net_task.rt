@@ -71,6 +71,9 @@ pub fn run_net_task(
     settings: Vec<(Text, Text)>,
     password: Text,
 ) -> Result<(), Ending>
+    /// Where a job over the net ends well, it is the one that the options ask of that host and device, done by the
+    /// client's rules.
+    /// Carried by: `done` of the private `run_net_task`: `HasDoneThere`
     ensures done { OnOk result
         (HasDoneThere options.now settings.items password host.now device.now) }
     ensures failed { IfErr result IsFailure }

@@ -52,7 +52,12 @@ pub fn run_task(
     settings: Vec<(Text, Text)>,
     password: Text,
 ) -> Result<(), Ending>
+    /// Where a job here ends well, it is the one that the options ask for, on the named scanner where one is named,
+    /// and it is done as `do_job` or `do_batch` says; of a list here only that the options ask for one.
+    /// Carried by: `done` of the private `run_task`: `IsDoneHere`
     ensures done { OnOk result (IsDoneHere options.now settings.items password) }
+    /// No ending of any of its parts has the exit status 0.
+    /// Carried by: `failed` of the private `run_task`, `run_net_task`; the private `run`: `IsFailure`
     ensures failed { IfErr result IsFailure }
 {
     let task = task_of(options);

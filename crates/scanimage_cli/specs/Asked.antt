@@ -10,7 +10,9 @@ abbrev pub pages_asked : Option ℕ → ℕ
 pages_asked None = 16
 pages_asked (Some count) = count
 
--- a list of the devices goes before a table of options, that before the settings alone, and that before a batch
+-- **what is asked for (`task_asked`, `IsLocal`, `HasConfig`)**: a list goes before a table, that before settings alone, and
+-- those before a scan; of this machine is a list without a host, and anything else of a device that is none of the net;
+-- what is asked of this machine needs a config.
 abbrev pub task_asked : Options → Task
 task_asked options =
     if options.list_devices then ListTask
@@ -19,6 +21,10 @@ task_asked options =
     else (if options.batch then Batch (pages_asked options.batch_count)
     else Scan)))
 
+-- **what is asked of the net (`IsNetName`, `IsNetNameOf`, `IsAskedOf`, `port_asked`)**: `net:`, and a colon further on; its
+-- host is what stands before the first such colon, the device's own name what stands behind it; a list asks the host of
+-- `--net` for no device, all else the host of the named device for that device; the port is the one that is said, or 6566.
+--
 -- `net:`, and then a host and a name with a colon between them
 abbrev pub IsNetName : List ℕ → Type 0
 IsNetName name = (rest : List ℕ) × (name ≡ codes "net:" ++ rest) × Contains rest 58

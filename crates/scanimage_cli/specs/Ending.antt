@@ -13,7 +13,8 @@ use Rattle.config_pages.specs.Texts.{no_page_text}
 use Rattle.scanimage_cli.specs.declared.ending.Ending.{Ending}
 use Rattle.scanimage_cli.specs.declared.ending.Ending.TheVariants.{BadCommandLine, CannotRead, Config, Page, Ended}
 
--- 64 for the command line, 65 for files that it names, and else the number of the status
+-- **exit statuses (`exit_status`)**: 64 for the command line, 65 for files that it names, and else the number of the
+-- status.
 abbrev pub exit_status : Ending → ℕ
 exit_status BadCommandLine = 64
 exit_status (CannotRead path) = 65
@@ -25,6 +26,9 @@ exit_status (Ended status why) = status_code status
 abbrev pub ended_by : Stop → Ending
 ended_by stop = Ended stop.status stop.why
 
+-- **refused for its size (`JobIsRefusedAs`)**: a job with a fault of its size ends as INVAL, setting, and no other is
+-- refused so.
+--
 -- a job that is too large, or a batch of none or too many pages, ends as a setting that is refused
 abbrev pub JobIsRefusedAs : Job → Option Ending → Type 0
 JobIsRefusedAs job None = HasJobFault job None
@@ -34,6 +38,8 @@ JobIsRefusedAs job (Some ending) = (ending ≡ Ended Inval Setting) × (HasJobFa
 abbrev pub config_line_text : ℕ → List ℕ → List ℕ
 config_line_text line reason = concat (codes "scanimage: config line " ∷ decimal line ∷ codes ": " ∷ reason ∷ codes "\n" ∷ [])
 
+-- **the line of an ending (`ending_line`)**: that the command line is bad; the file that cannot be read; the line of the
+-- config and why it is refused or its page not there; or the status and its cause.
 abbrev pub ending_line : Ending → List ℕ
 ending_line BadCommandLine = codes "scanimage: bad command line\n"
 ending_line (CannotRead path) = concat (codes "scanimage: cannot read " ∷ path ∷ codes "\n" ∷ [])

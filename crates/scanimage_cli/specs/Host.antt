@@ -4,6 +4,6 @@ use Rattle.std.specs.Net.Addr.{ipv4_octets}
 use Rattle.std.specs.Net.Grammar.{IsIpv4Text}
 use Rattle.std.specs.declared.net.ipv4_addr.Ipv4Addr.{Ipv4Addr}
 
--- `localhost` is 127.0.0.1, and the text of an IPv4 address is that address; no other host has one
+-- **the address of a host (`IsAddressOf`)**: `localhost` is 127.0.0.1, and the text of an IPv4 address that address.
 abbrev pub IsAddressOf : List ℕ → Ipv4Addr → Type 0
 IsAddressOf host address = ((host ≡ codes "localhost") × (ipv4_octets address ≡ 127 ∷ 0 ∷ 0 ∷ 1 ∷ [])) ⊎ IsIpv4Text host address

@@ -6,7 +6,7 @@ use Rattle.scanimage_cli.specs.declared.word_cut.Item.{Item}
 
 -- The files of a batch.
 
--- `out1.pnm`, `out2.pnm` and so on
+-- **the name of a batch's file (`file_name`)**: `out`, the number, `.pnm`.
 abbrev pub file_name : ℕ → List ℕ
 file_name number = concat (codes "out" ∷ decimal number ∷ codes ".pnm" ∷ [])
 

@@ -29,6 +29,10 @@ pub record StreamViews (C D W O : Type 0) : Type 0 where
 abbrev pub stream_views : {C D W O : Type 0} → LinkViews (JobLinks C D) → (D → Option (List (List ℕ))) → (W → O) → StreamViews C D W O
 stream_views links coming output = record { links = links; coming = coming; output = output }
 
+-- **doing a job over the net (`DoesNetJob`, `EndsNetJob`, `DoesNetBatch`, `EndsNetBatch`)**: the same of what passed over
+-- the streams of a job that a host does (`HostJob`), as far as it is seen (`StreamViews`); one that stopped may have
+-- touched none.
+--
 -- the job is done over its streams, its file at the output, and what its reports come to is to be printed
 pub record DoesNetJob {L : Type 0} (views : LinkViews L) (asked : HostJob) (was now : SeenStreams L (Option (List ℕ))) (printed : Printout) : Type 0 where
   pub reports : Reports

@@ -116,6 +116,10 @@ line_of_kind kinds.String desc value = valued_line desc value
 abbrev pub option_line : Descriptor × Option Value → List ℕ
 option_line option = line_of_kind option.0.kind option.0 option.1
 
--- the device's name, and the line of each option but the first, which tells how many there are
+-- **the table (`table_text`, `option_line`)**: a line with the device's name, then a line for each option but the first: a
+-- group's title; an action's name; else the name, the values that it may have, and in brackets the one that it has
+-- (`inactive`; the count of a vector that can be read; `unknown` where none is told), and `[read-only]` where it cannot be
+-- set. The values are a range with its unit and steps, or a list joined by `|` with its unit, or a word for all values of
+-- the kind, `,...` behind those of a vector; a constraint of another kind binds nothing.
 abbrev pub table_text : List ℕ → List (Descriptor × Option Value) → List ℕ
 table_text name options = concat (codes "All options specific to device `" ∷ name ∷ codes "':\n" ∷ map option_line (drop 1 options))

@@ -6,6 +6,6 @@ abbrev pub head_or_none : List (List ℕ) → List ℕ
 head_or_none [] = []
 head_or_none (line ∷ lines) = line
 
--- the first line of a text, and nothing of an empty one
+-- **the password in a file (`first_line_of`)**: the first line of its first 1,026 bytes, and nothing of an empty file.
 abbrev pub first_line_of : List ℕ → List ℕ
 first_line_of text = head_or_none (lines_of text)

@@ -16,6 +16,9 @@ printed_table SetOnly prefix device reports = []
 printed_table Scan prefix device reports = []
 printed_table (Batch count) prefix device reports = []
 
+-- **prints (`Prints`, `printed_table`)**: the list of devices of a job that lists, the table of options of one that shows
+-- them, nothing else on standard output; and a line for each report whose info has INEXACT.
+--
 -- and beside it a line of each setting that was rounded
 pub record Prints (task : Task) (prefix device : List ℕ) (reports : Reports) (printed : Printout) : Type 0 where
   pub table : printed.table.items ≡ printed_table task prefix device reports

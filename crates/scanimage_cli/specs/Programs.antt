@@ -62,6 +62,8 @@ pub record HasDoneThere (options : Options) (settings : List (List ℕ × List �
   pub printed : Printout
   pub ran : RanThere job host printed
 
--- the options ask this machine for a list, or the job that they ask for was done here
+-- **done by the program (`IsDoneHere`, `IsJobAsked`, `HasDoneHere`, `HasDoneThere`)**: a list is asked of this machine; or
+-- a job with the user, password, device, settings and task that the options ask for, done on a scanner here, or by the
+-- client's rules on a daemon of the host that was asked.
 abbrev pub IsDoneHere : Options → List (List ℕ × List ℕ) → List ℕ → Type 0
 IsDoneHere options settings password = (options.list_devices ≡ true) ⊎ HasDoneHere options settings password

@@ -20,6 +20,9 @@ reported_option report = record { name = report.name; title = []; about = []; ki
 abbrev pub report_line : Report → List ℕ
 report_line report = if is_rounded report then rounded_line report (reported_option report) else []
 
+-- **rounded values (`rounded_text`, `rounded_line`)**: for each report of a setting with INEXACT, in their order, a line
+-- with the name and both values, as an option of the kind that the report keeps shows them.
+--
 -- the lines of all
 abbrev pub rounded_text : List Report → List ℕ
 rounded_text reports = concat (map report_line reports)

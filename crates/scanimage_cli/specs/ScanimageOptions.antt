@@ -37,7 +37,8 @@ count_named (d ∷ []) = if d == 48 then None else digit_to 57 d
 count_named (d ∷ e ∷ []) = if d == 49 then option_map (λ n. 10 + n) (digit_to 54 e) else None
 count_named (_ ∷ _ ∷ _ ∷ _) = None
 
--- each option has the value that the words give it
+-- **the options' values (`AreScanimageOptions`)**: each option has the value that the program's words give it; a port and a
+-- count the number whose decimal text that is.
 pub record AreScanimageOptions (words : List (List ℕ)) (options : Options) : Type 0 where
   pub list_devices : options.list_devices ≡ has_flag ListDevices words
   pub all_options : options.all_options ≡ has_flag AllOptions words

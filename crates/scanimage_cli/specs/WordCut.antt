@@ -132,6 +132,12 @@ abbrev pub cut_from : Option AwaitedValue → List (List ℕ) → Option (List I
 cut_from awaited [] = if is_none awaited then Some [] else None
 cut_from awaited (word ∷ words) = option_and_then (λ step. option_map (λ more. step.0 ++ more) (cut_from step.1 words)) (cut_step awaited word)
 
+-- **word cut (`cut`, `split_of`)**: the one way to cut the words of a command line from the left: a flag alone; an option
+-- of the program with its value, in the next word or behind `=`; a measure (`-l -t -x -y`) with the next word; any other
+-- `--NAME` with the next word or `--NAME=VALUE` as a setting. None where a word is anything else, a flag has a value, a
+-- value is missing, a name or an option's value is empty, an option stands twice, a measure does not read as a decimal
+-- number, or a far side is no 32-bit word. The settings are the named ones in their order, then tl-x, tl-y, br-x, br-y of
+-- the last measures, `-x` and `-y` added to the last `-l` and `-t`.
 abbrev pub cut : List (List ℕ) → Option (List Item)
 cut words = cut_from None words
 

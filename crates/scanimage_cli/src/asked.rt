@@ -11,6 +11,9 @@ const SANE_PORT: u16 = 6566;
 /// What the options ask for: a list goes before a table of options, that before the settings alone, and that before
 /// a batch, which is one of 16 pages where no count is said.
 pub fn task_of(options: &Options) -> Task
+    /// Which task the options ask for, of this machine or of which host and port, for which device there, and where a
+    /// config is needed.
+    /// Carried by: `task_of`, `is_local`, `is_net_name`, `net_parts`, `asked_of_net`, `port_of`, `has_config`
     ensures { result ≡ task_asked options.now }
 {
     if options.list_devices {

@@ -8,6 +8,8 @@ const MOST_READ: u64 = 64 * (65_536 + 2) + 1;
 
 /// The bytes of a config, of a longer text so many that it is one line too many or too long.
 pub fn config_text<R: Read + Drop>(alloc: Global, reader: R) -> io::Result<Vec<u8>>
+    /// Of a config at most one byte more than it may have is read; of a password file the first line.
+    /// Carried by: `config_text`, `password_line`
     ensures { IfOk result
         (λ text. IfSome (R.remaining reader) (λ all. text.items ≡ take 4194433 all)) }
 {

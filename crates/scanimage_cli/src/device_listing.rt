@@ -36,6 +36,8 @@ fn add_device(lines: &mut Vec<u8>, prefix: &[u8], info: &DeviceInfo) -> Result<(
 /// The lines of `-L`, one for each device, with these bytes before each name: none for devices of this machine. The only
 /// error is out of memory.
 pub fn device_list(alloc: Global, prefix: &[u8], devices: &[DeviceInfo]) -> Result<Vec<u8>, NoMem>
+    /// The text of a list, also over the net, and of an option table.
+    /// Carried by: `device_list`, `net_prefix`, `options_table`
     ensures { IfOk result (λ lines. lines.items ≡ device_lines prefix.now devices.now) }
 {
     let mut lines = Vec::new(alloc);

@@ -20,13 +20,27 @@ pub fn do_job<W: Write>(
     job: &Job,
     output: &mut W,
 ) -> Result<Printout, Ending>
+    /// `do_job` gives what is to be printed just where the job is done: an output that tells its bytes then took the
+    /// whole file of the picture that the settings in force mean on the scanner's page (where the page's source is
+    /// steady), or nothing, where the job is no scan.
+    /// Carried by: `done` of `do_job`: `DoesJob`
+    ///
+    /// What is to be printed is the list or the table of the job's reports, and a line for each setting that was
+    /// rounded, and no more.
+    /// Carried by: `done` of `do_job`: `Prints`
     ensures done { IfOk result (λ printed.
         DoesJob job.now (record { device = state device.old; output = W.contents output.old })
         (record { device = state device.new; output = W.contents output.new }) printed) }
+    /// Where it gives an ending instead, an output that tells its bytes took no whole file.
     ensures no_file { OnErr result (LeavesNoFile (W.contents output.old) (W.contents output.new)) }
+    /// That ending is the status and the why with which the job stopped, neither GOOD nor EOF, for a reason that
+    /// `run_local` names; and the scanner is at rest in each case.
+    /// Carried by: `ended`, `rest` of `do_job`
     ensures ended { IfErr result
         (λ ending. EndsJob (state device.old) job.now (state device.new) ending) }
+    // Its exit status is not 0.
     ensures failed { IfErr result IsFailure }
+    // Of the scanner only options, phase and count of failures changed, and a feeder let go of a page.
     ensures runs { ChangesDevice (state device.old) (state device.new) }
     ensures rest { is_at_rest (state device.new).phase ≡ true }
 {
@@ -49,12 +63,16 @@ pub fn do_batch<S: Shelf>(
     job: &Job,
     shelf: &mut S,
 ) -> Result<Printout, Ending>
+    /// `do_batch` keeps the same of a batch and the shelf that its pages go to: what is to be printed comes only
+    /// where the shelf kept every page.
+    /// Carried by: `done`, `ended`, `rest` of `do_batch`
     ensures done { IfOk result (λ printed.
         DoesBatch job.now (record { device = state device.old; stock = S.stock shelf.old })
         (record { device = state device.new; stock = S.stock shelf.new }) printed) }
     ensures ended { IfErr result (λ ending.
         EndsBatch job.now (record { device = state device.old; stock = S.stock shelf.old })
         (record { device = state device.new; stock = S.stock shelf.new }) ending) }
+    // Its exit status is not 0.
     ensures failed { IfErr result IsFailure }
     ensures rest { is_at_rest (state device.new).phase ≡ true }
 {

@@ -60,6 +60,8 @@ impl Ending {
 
     /// How a job ends that is refused before anything is done for it.
     pub fn of_refused(job: &Job) -> Option<Ending>
+        /// Which job is refused for its size, before a connection is tried, and the exit status of each ending.
+        /// Carried by: `Ending::of_refused`, `Ending::exit_status`
         ensures { JobIsRefusedAs job.now result }
     {
         match job.fault() {

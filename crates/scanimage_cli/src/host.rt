@@ -30,6 +30,9 @@ impl<'a> HostDial<'a> {
 
     /// Those to an IPv4 address or to `localhost`; `None` where the host is neither.
     pub fn new(rt: &'a HostRuntime, host: &[u8]) -> Option<HostDial<'a>>
+        /// The address of a host is 127.0.0.1 for `localhost`, that of the text of an IPv4 address, and none of any
+        /// other text.
+        /// Carried by: `HostDial::new`: `IsAddressOf`
         ensures known { IfSome result (λ dial. IsAddressOf host.now dial.address) }
         ensures unknown { result ≡ None → (address : Address) → ¬ (IsAddressOf host.now address) }
     {

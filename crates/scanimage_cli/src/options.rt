@@ -287,6 +287,9 @@ fn options_found(alloc: Global, found: &ArgMatches, words: &[Text]) -> Result<Op
 /// has. `Bad` where `clap` refuses the words (a port that is not 1 to 65,535, a count that is not 1 to 16, a word that is not UTF-8)
 /// or reads another value, and where a port or a count has leading zeros or a sign; `NoMem` where there is no memory.
 pub fn read_options(alloc: Global, words: &[Text]) -> Result<Options, OptionsFault>
+    /// Where `clap` reads the program's words, the options' values are those of the words, and these are the values
+    /// that stand for them among the pieces of the cut.
+    /// Carried by: `read_options`; `options_are_those_of_the_cut`
     ensures { IfOk result (AreScanimageOptions words.now) }
 {
     let strs = as_strs(alloc, words)?;

@@ -300,6 +300,8 @@ fn add_window(
 /// that is no decimal number, or a far side that is no 32-bit word. `NoMem` where there is no memory.
 #[tactic(auto, unfolding(crate::specs::WordCut::split_of))]
 pub fn split_words(alloc: Global, words: &[Text]) -> Result<Split, SplitFault>
+    /// `split_words` is the word cut, whole, and `Bad` comes exactly where there is none.
+    /// Carried by: `found`, `bad` of `split_words`
     ensures found { IfOk result (λ split. split_of words.now
         ≡ Some (split.program.items, split.settings.items)) }
     ensures bad { result ≡ Err SplitFault.Bad → split_of words.now ≡ None }

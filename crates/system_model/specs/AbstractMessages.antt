@@ -60,6 +60,9 @@ pub record Report : Type 0 where
   pub given : Value
   pub info : Info
 
+-- **words (`AbstractRequest`, `AbstractReply`, `Status`, `Why`, `Report`)**: what clients and daemon say to each other: an
+-- answer, not its spelling.
+--
 -- the requests of the client's rules; those about a device are about the one that the session opened
 pub data AbstractRequest : Type 0 where
   Init : AbstractRequest

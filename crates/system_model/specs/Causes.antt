@@ -2,6 +2,8 @@
 use Rattle.std.specs.Prelude.{◌≡◌, ◌≢◌, ◌⊎◌, List, [], ◌∷◌}
 use Rattle.system_model.specs.AbstractMessages.{Status, GivenUp, Busy, Inval, Eof, NoDocs, IoError, NoMem, AccessDenied, Why, Answer, Cancelled, Lost, Short, Setting, Memory}
 
+-- **causes (`Cause`, `Explains`, `HaveGrounds`)**: why a job may end: the table of statuses and whys, and what a cause
+-- means where a request is answered.
 pub data Cause : Type 0 where
   -- the job was cancelled; a link was lost; a growth was refused on a link, in the session or for the file
   GaveUp : Cause

@@ -9,6 +9,9 @@ use Rattle.option_desc.specs.declared.descriptor.Descriptor.{Descriptor}
 use Rattle.system_model.specs.AbstractMessages.{Status, Inval, Why, Setting, IoError, Malformed, RequestedSetting, Challenge, Report, AbstractRequest, Init, GetDevices, Open, Authorize, Describe, Get, Set, Parameters, Start, Cancel, Close, Exit}
 use Rattle.system_model.specs.Devices.{resolve_setting, readable_options}
 
+-- **client (`Task`, `AbstractJob`, `AbstractProgress`, `ClientView`), hearing (`hear_at`, `client_after_bytes`,
+-- `end_frame`)**: what a client is to do, what it waits for, what it knows; what it makes of a reply, of bytes, of a
+-- frame's end.
 pub data Task : Type 0 where
   List_ : Task
   Show : Task

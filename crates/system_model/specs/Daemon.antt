@@ -183,6 +183,9 @@ abbrev pub answer_awaited : ℕ → Make → AbstractDevice → TransferState �
 answer_awaited i k dev c x sent (Authorize challenge) = allow i k dev c (same_text challenge sent) (x.allows sent)
 answer_awaited i k dev c x sent q = session_over_effect (device_let_go i dev)
 
+-- **answer (`answer`), answer in full (`answer_call`)**: the daemon's reply to a request and what it does to the device,
+-- for a session that opens one device; the same with four device words.
+--
 -- the daemon's rules: the answer to client i's request, where this is the device that its job names
 abbrev pub answer : ℕ → Make → AbstractDevice → TransferState → Option Challenge → Environment → AbstractRequest → AnswerEffect
 answer i k dev c None x q = answer_if (is_held_by i dev.holder) i k dev c x q

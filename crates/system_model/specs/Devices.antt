@@ -92,6 +92,9 @@ abstract_info bits = record { inexact = has_bit bits 1; reload_options = has_bit
 abbrev pub abstract_accepted_set : rules.AcceptedSet → AbstractAcceptedSet
 abstract_accepted_set put = record { given = put.given; info = abstract_info put.info; options = put.setup }
 
+-- **devices below (`defaults`, `descriptors_of`, `accept_value`, `picture_frames`, `accepts` ..)**: each word that the
+-- model uses of devices and joins, by the definitions of their crates.
+--
 -- a value put in: None where the option or the value is refused
 unfoldable pub accept_value : Make → OptionsInForce → ℕ → Value → Option AbstractAcceptedSet
 accept_value make o n asked = option_map abstract_accepted_set (rules.accept_set o n asked)

@@ -11,6 +11,9 @@ use Rattle.system_model.specs.Actions
 use Rattle.system_model.specs.Actions.{Action, environment_of}
 use Rattle.system_model.specs.Transitions.{Transition, By, Loads, Unplugs}
 
+-- **marks (`Mark`, `marks`, `MayMark`, `MarksLead`)**: what a user can see happen to a device: handed out, a page started,
+-- at rest again, given back, a page laid in, listed no more. A mark may come only where the device stands so: handed out
+-- only where listed and held by nobody, a start takes the next page, no page is laid in within a scan.
 pub data Mark : Type 0 where
   -- client i is handed device d; it starts this page of it; the device is at rest again; it is given back
   Took : (i d : ℕ) → Mark

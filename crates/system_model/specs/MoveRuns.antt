@@ -7,7 +7,8 @@ use Rattle.system_model.specs.Marks.{Mark, MarksLead, marks, device_view, touche
 use Rattle.system_model.specs.Moves.{IsMove}
 use Rattle.system_model.specs.Variant.{job_variant}
 
--- each step is a move of one of the first n jobs, which is under way
+-- **round robin (`AreMoves`, `RunsToTheEnd`)**: moves of the first n jobs one after another, to where none of them is under
+-- way.
 abbrev pub AreMoves : ℕ → SystemState → List Transition → Type 0
 AreMoves n s [] = Unit {0}
 AreMoves n s (By i x ∷ xs) = (i < n) × IsUnderWay (s.job i).client.stage × IsMove (s.job i) x × AreMoves n (after_transition s (By i x)) xs
@@ -43,6 +44,8 @@ RunsEnd = (n : ℕ) (s : SystemState) → Invariant s → (xs : List Transition)
 abbrev pub marks_at : ℕ → SystemState → Transition → List Mark
 marks_at d s x = cond (eqb d (touched_device s x)) (marks s x) []
 
+-- **marks of a history (`all_marks`), of a delivery (`delivery_marks`)**: those of its steps, one after another; those of
+-- the requests that become whole when so many more bytes have come.
 abbrev pub all_marks : ℕ → SystemState → List Transition → List Mark
 all_marks d s [] = []
 all_marks d s (x ∷ xs) = marks_at d s x ++ all_marks d (after_transition s x) xs

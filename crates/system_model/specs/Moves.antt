@@ -4,7 +4,9 @@ use Rattle.system_model.specs.SystemStates.{JobState}
 use Rattle.system_model.specs.Actions
 use Rattle.system_model.specs.Actions.{Action}
 
--- an action that no user, no failure and no lack of memory does; a loss only where the session is over
+-- **next move (`IsMove`, `turn_of`)**: an action that no user, no failure and no lack of memory does; a loss only where the
+-- session is over. They are looked for in the order connect, to the daemon, to the client, connect for data, data to the
+-- client, data turn, loss.
 abbrev pub IsMove : JobState → Action → Type 0
 IsMove p Actions.Connects = Unit {0}
 IsMove p (Actions.Answers challenge fault) = fault ≡ None

@@ -37,6 +37,9 @@ Scans (Batch n) = Unit {0}
 abbrev pub IsPermitted : AbstractJob → Option Challenge → Type 0
 IsPermitted job sent = (job.guarded ≡ false) ⊎ ((c : Challenge) × (sent ≡ Some c) × (job.allows c ≡ true))
 
+-- **a picture of a start (`IsPictureOfStart`, `ArePictures`, `PagesAreOfStarts`)**: frames that are those of the start's
+-- options, the settings in force, on its page; each finished page is that of its start.
+--
 -- There are frames, and where the device's sources are steady they are those of the picture that the job's settings mean on the page
 -- of this start.
 abbrev pub IsPictureOfStart : Make → List RequestedSetting → Begin → List Frame → Type 0
@@ -209,6 +212,9 @@ pub record Images (i : ℕ) (k : Make) (b : SessionView) (m : ClientView) (dev :
   pub payload : heard ++ (b.flight ++ rest) ≡ frame.payload
   pub carries : DataUnderWay i k b dev continues.begin.options more heard rest
 
+-- **in step (`InSync`), invariant (`Invariant`)**: what is so while a job runs, for each thing that its client may wait
+-- for; what is always so, of each job, of its finished pages, of each device.
+--
 -- what a client that waits for this knows is so
 abbrev pub InSync : ℕ → Make → SessionView → ClientView → AbstractDevice → AbstractProgress → Type 0
 InSync i k b m dev Greeting = NotYet i b m dev None

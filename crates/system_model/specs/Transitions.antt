@@ -107,6 +107,7 @@ IsEnabled s (By i x) = IsActionEnabled i (make_for s i) (s.job i) (device_for s 
 IsEnabled s (Loads d page) = ((s.device d).listed ≡ true) × ((s.device d).phase ≡ Resting) × (has_room (s.make d).model (s.device d).tray ≡ true) × IsPageShaped page
 IsEnabled s (Unplugs d) = ((s.device d).listed ≡ true) × ((s.device d).holder ≡ None)
 
+-- **history (`IsHistory`, `after_all`)**: enabled transitions one after another, from any client in any order.
 abbrev pub IsHistory : SystemState → List Transition → Type 0
 IsHistory s [] = Unit {0}
 IsHistory s (x ∷ xs) = IsEnabled s x × IsHistory (after_transition s x) xs

@@ -114,6 +114,8 @@ variant_of p dev = control_variant_of p dev + flight_variant_at p.client.stage p
 abbrev pub control_variant : SystemState → ℕ → ℕ
 control_variant s i = control_variant_of (s.job i) (device_for s i)
 
+-- **variant (`job_variant`, `control_variant`, `action_cost`)**: what a running job may still do; each action lowers it by
+-- what it puts on the way. At most 2^34 for one page, 2^36 for a batch.
 abbrev pub job_variant : SystemState → ℕ → ℕ
 job_variant s i = variant_of (s.job i) (device_for s i)
 

@@ -8,8 +8,9 @@ ghost use Rattle.system_model.specs.MoveRuns.{HistoryMarksAreEnabled, RunsAreBou
 ghost use Rattle.system_model.specs.Deliveries.{PiecesComplete, PiecesShowTheSame};
 ghost use Rattle.system_model.specs.ModelPromises.{BatchPagesAreCounted, InitialStateIsInvariant, CausesAreGrounded, DoneIsAllowed, EndsAreCaused, EndsEnd, HistoriesKeepInvariant, ListingsAreTrue, ListsAreRight, MarksAreEnabled, NoDeadlock, NotesAreTrue, VariantIsBounded, VariantEndsAtZero, VariantDecreases, OutcomesLast, OthersKeepVariant, PagesAreRight, ScansAreRight, SettingsAreAnswered, ShowsAreRight, StepsArePaid};
 
-/// The invariant holds before anything has happened.
 pub fn the_initial_state_is_invariant()
+    /// The invariant holds before anything has happened, and whatever enabled transitions come, it holds.
+    /// Carried by: `the_initial_state_is_invariant`, `every_history_keeps_the_invariant`
     ensures { InitialStateIsInvariant }
 {}
 
@@ -18,8 +19,10 @@ pub fn every_history_keeps_the_invariant()
     ensures { HistoriesKeepInvariant }
 {}
 
-/// A scan that is done has the picture that its settings mean on the page of its first start.
 pub fn what_is_scanned_is_right()
+    /// A scan that is done has the picture that its settings mean on the page of its first start; so has each
+    /// finished page of a batch, whatever became of the job.
+    /// Carried by: `what_is_scanned_is_right`, `what_is_finished_is_right`, `pictures_are_meant`
     ensures { ScansAreRight }
 {}
 
@@ -28,23 +31,26 @@ pub fn what_is_finished_is_right()
     ensures { PagesAreRight }
 {}
 
-/// A batch that is done has all its pages, or the tray ran out.
 pub fn batch_pages_are_counted()
+    /// A batch that is done has all its pages, or the tray ran out.
     ensures { BatchPagesAreCounted }
 {}
 
 /// Each setting of a job that is done is answered with the nearest admitted value.
 pub fn settings_are_answered()
+    /// Each setting of a job that is done is answered with the nearest admitted value.
+    /// Carried by: `settings_are_answered`, `settings_mean_the_same`
     ensures { SettingsAreAnswered }
 {}
 
-/// A job that opened a device is done only where that was allowed.
 pub fn what_is_done_is_allowed()
+    /// A job that opened a device is done only where that was allowed.
     ensures { DoneIsAllowed }
 {}
 
-/// A list that is done has the devices that were listed when the daemon read the request.
 pub fn what_is_listed_is_right()
+    /// A list that is done has the devices that were listed when the daemon read the request, in their order.
+    /// Carried by: `what_is_listed_is_right`, `listings_are_true`
     ensures { ListsAreRight }
 {}
 
@@ -53,18 +59,20 @@ pub fn listings_are_true()
     ensures { ListingsAreTrue }
 {}
 
-/// A show that is done has the descriptors and the values in force.
 pub fn what_is_shown_is_right()
+    /// A show that is done has the descriptors and values in force.
     ensures { ShowsAreRight }
 {}
 
-/// A job that ended otherwise has its cause.
 pub fn every_ending_has_its_cause()
+    /// A job that ended otherwise has its cause, and each cause that the daemon's answer adds is so.
+    /// Carried by: `every_ending_has_its_cause`, `causes_are_grounded`
     ensures { EndsAreCaused }
 {}
 
-/// A cancel, a loss, and out of memory at the client end a job.
 pub fn what_ends_a_job()
+    /// A cancel, a loss, and out of memory at the client end a job; what a client has once it is over stays.
+    /// Carried by: `what_ends_a_job`, `outcomes_last`
     ensures { EndsEnd }
 {}
 
@@ -78,8 +86,9 @@ pub fn causes_are_grounded()
     ensures { CausesAreGrounded }
 {}
 
-/// Two clients never hold one device, and no page changes within a scan.
 pub fn marks_are_enabled()
+    /// Two clients never hold one device, and no page changes within a scan, over every history.
+    /// Carried by: `marks_are_enabled`, `history_marks_are_enabled`, `notes_are_true`
     ensures { MarksAreEnabled }
 {}
 
@@ -90,6 +99,7 @@ pub fn notes_are_true()
 
 /// A job that is not over has a next move, and none comes before it.
 pub fn no_deadlock()
+    /// A job that is not over has a next move.
     ensures { NoDeadlock }
 {}
 
@@ -98,8 +108,11 @@ pub fn steps_are_paid()
     ensures { StepsArePaid }
 {}
 
-/// Each step of a running job lowers its number.
 pub fn the_variant_decreases()
+    /// Each action of a running job lowers its variant, no action of another raises it, it is bounded from the
+    /// beginning, and is 0 just where the job is over.
+    /// Carried by: `the_variant_decreases`, `others_keep_the_variant`, `the_variant_is_bounded`,
+    /// `the_variant_ends_at_zero`, `steps_are_paid`
     ensures { VariantDecreases }
 {}
 
@@ -118,8 +131,10 @@ pub fn the_variant_is_bounded()
     ensures { VariantIsBounded }
 {}
 
-/// A session has four device words at most.
 pub fn words_are_four()
+    /// A session has four device words, CANCEL and CLOSE of one leave another's frame alone, and a session of a world
+    /// is answered by the model for one device.
+    /// Carried by: `words_are_four`, `frames_of_other_words_stay`, `one_word_is_enough`
     ensures { WordsAreFour }
 {}
 
@@ -146,6 +161,7 @@ pub fn frames_of_other_words_stay()
 /// Moves taken in turn are no more than the numbers of the jobs together, and while a job is under way there is one.
 /// So the round robin ends with every job over.
 pub fn the_round_robin_ends()
+    /// Moves taken in turn end with every job over.
     ensures bounded { RunsAreBounded }
     ensures goes_on { RunsGoOn }
     ensures ends { RunsEnd }
@@ -156,8 +172,8 @@ pub fn history_marks_are_enabled()
     ensures { HistoryMarksAreEnabled }
 {}
 
-/// The pieces in which bytes are delivered change no mark.
 pub fn pieces_show_the_same()
+    /// The pieces in which bytes are delivered change no mark.
     ensures complete { PiecesComplete }
     ensures marks { PiecesShowTheSame }
 {}

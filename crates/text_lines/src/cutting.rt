@@ -23,6 +23,8 @@ fn without_cr(line: &[u8]) -> &[u8]
 
 /// The first line and what follows it, without what ends the line. `None` where the text is empty.
 pub fn first_line(text: &[u8]) -> Option<(&[u8], &[u8])>
+    /// `first_line` gives the first line and what follows, or nothing where nothing is left.
+    /// Carried by: `first_line`
     ensures found { IfSome result (λ cut. IsFirstLine text.now cut.0.now cut.1.now) }
     ensures none { IfNone result (text.now ≡ []) }
     // The same by the whole list of lines, for definitions that go on from it.

@@ -29,6 +29,7 @@ impl Limits {
     /// Tests the line of that number, counted from 1: first the number, then the length, which is
     /// counted without what ends the line.
     pub fn admit(&self, number: u32, line: &[u8]) -> Result<(), LimitFault>
+        /// Limits on a line are tested in their order.
         ensures within { OnOk result (IsWithin self.now number line.now) }
         ensures fault { IfErr result (λ fault. BreaksLimit fault self.now number line.now) }
     {

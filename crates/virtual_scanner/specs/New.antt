@@ -12,7 +12,8 @@ use Rattle.sane_fixed.specs.declared.device_info.DeviceInfo.{DeviceInfo}
 abbrev pub device_info_of : DeviceKind → List ℕ → DeviceInfo
 device_info_of kind name = record { name = name; vendor = codes "Virtual"; model = model_of kind; class = class_of kind }
 
--- a scanner with these pages at rest, its options at their defaults
+-- **a new scanner (`new_device`, `new_scanner`)**: of a kind and a name, at rest, its options at their defaults, with the
+-- pages of sources, or with one.
 abbrev pub new_device : DeviceKind → List ℕ → List SourceState → ByteOrder → DeviceState
 new_device kind name sources order = record {
   info = device_info_of kind name;

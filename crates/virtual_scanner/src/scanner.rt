@@ -17,6 +17,9 @@ use std::marker::Model;
 
 /// A virtual scanner: it keeps of its pages the sources alone, and while a frame is read one row and one line. Contracts
 /// see a `DeviceState`.
+///
+/// A scanner of any of the four kinds meets the trait.
+/// Carried by: `impl Device for VirtualScanner`
 #[derive(Drop)]
 pub struct VirtualScanner {
     info: DeviceInfo,
@@ -51,8 +54,7 @@ fn device_info(alloc: Global, kind: DeviceKind, name: Text) -> Result<DeviceInfo
 }
 
 impl VirtualScanner {
-    /// A scanner of that kind and name at rest, its options at their defaults, on the page of a source. The source comes
-    /// back for lack of memory.
+    /// A scanner of that kind and name.
     pub fn new(
         alloc: Global,
         kind: DeviceKind,
@@ -61,6 +63,9 @@ impl VirtualScanner {
         order: ByteOrder,
     ) -> Result<Self, Source>
         requires { is_feeder kind ≡ false }
+        /// It is made at rest, with its options at their defaults, on the page of a source, which comes back for lack
+        /// of memory.
+        /// Carried by: `ok`, `err` of `VirtualScanner::new`
         ensures ok { IfOk result (λ scanner. scanner
             ≡ new_scanner kind name (source_state source) order) }
         ensures err { IfErr result (λ back. back ≡ source) }
@@ -89,6 +94,8 @@ impl VirtualScanner {
         order: ByteOrder,
     ) -> Result<Self, Vec<Source>>
         requires { vec_len pages ≤ tray_room }
+        /// A feeder has a tray of at most 16 pages, whose room is reserved as it is made, and lets go of the first
+        /// when its scan is over.
         ensures ok { IfOk result (λ scanner. scanner
             ≡ new_device Feeder name (map source_state pages.items) order) }
         ensures err { IfErr result (λ back. back.items ≡ pages.items) }

@@ -17,7 +17,8 @@ use Rattle.wire_message.specs.declared.message.Reply.{Reply}
 use Rattle.wire_message.specs.Faults.{wire_fault}
 use Rattle.wire_message.specs.Message.{message_limit, request, reply}
 
--- the bytes no message was taken from, and the fault from which on it gives none
+-- **what a decoder stands for (`DecoderState`, `HasDecoded`)**: the bytes no message was taken from and the fault; the
+-- bytes fed are the spellings of the messages taken, and then these.
 pub record DecoderState : Type 0 where
   pub rest : List ℕ
   pub fault : Option WireFault

@@ -12,7 +12,8 @@ abbrev pub StopsForMore : Option Procedure → List ℕ → MissingBytes → Typ
 StopsForMore None bytes wanted = (limited_format message_limit request).read bytes ≡ Err (More wanted)
 StopsForMore (Some procedure) bytes wanted = (limited_format message_limit (reply procedure)).read bytes ≡ Err (More wanted)
 
--- the front of the rest that was seen wanted that
+-- **pending (`IsPending`, `StopsForMore`)**: the front of the rest that was read last, for which message, and what was
+-- wanted then.
 pub record IsPending (rest : List ℕ) (p : Pending) : Type 0 where
   pub within : p.seen ≤ length rest
   pub stops : StopsForMore p.procedure (take p.seen rest) p.wanted

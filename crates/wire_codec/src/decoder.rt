@@ -168,14 +168,18 @@ impl Decoder {
 
     /// Takes the next piece of the stream. A fault that was answered is answered again.
     pub fn feed(&mut self, piece: &[u8]) -> Result<(), WireFault>
+        // A piece is laid behind the rest. A fault that was answered is answered again, and a first one is for want of memory.
         ensures ok { OnOk result (self.new
             ≡ record { rest = self.old.rest ++ piece.now; fault = None }) }
         ensures kept { IfSome self.old.fault (λ f. (result ≡ Err f) × (self.new ≡ self.old)) }
         ensures err { IfErr result (λ f. self.new.fault ≡ Some f) }
         ensures first { self.old.fault ≡ None → IfErr result (λ f. f ≡ WireFault.NoMem) }
-        // What was fed are the spellings of what was taken, and then the rest; a piece that is refused was not fed.
+        /// The bytes fed to a decoder are the spellings of the messages taken from it, then a rest, over any cut into
+        /// pieces, requests and replies alike.
+        /// Carried by: `history` of `Decoder::feed`, `next_request`, `next_reply`
         ensures history { (fed : List ℕ) (taken : List TakenMessage) → HasDecoded fed taken self.old
             → OnOk result (HasDecoded (fed ++ piece.now) taken self.new) }
+        // A piece that is refused was not fed.
         ensures refused { (fed : List ℕ) (taken : List TakenMessage)
             → HasDecoded fed taken self.old → OnErr result (HasDecoded fed taken self.new) }
     {
@@ -306,14 +310,20 @@ impl Decoder {
         ensures taken { IfOk result (λ m. IfSome m (λ r. (self.new.fault ≡ None) × SpellsFront
             (limited_format message_limit request_format) self.old.rest self.new.rest r)) }
         // More bytes are wanted where a spelling has begun, within the limit.
+        /// There is no message only where the rest is at most 1,048,576 bytes and a proper prefix of a spelling.
+        /// Carried by: `none` of `next_request`, `next_reply`
         ensures none { result ≡ Ok None
             → (self.new ≡ self.old) × NeedsMore message_limit request_format self.old.rest }
         // A first fault comes where no spelling stands and none has begun, or memory ran out.
+        /// The first fault is that of the first word or byte at which no spelling stands, and is answered from then
+        /// on.
+        /// Carried by: `first`, `which` of `next_request`, `next_reply`
         ensures first { self.old.fault ≡ None → IfErr result (λ f. f ≢ WireFault.NoMem
             → IsNoStart message_limit request_format self.old.rest) }
         // It is that of the first word or byte at which no spelling stands.
         ensures which { self.old.fault ≡ None → IfErr result (λ f. f ≢ WireFault.NoMem
             → IsFaultOf message_limit request_format self.old.rest f) }
+        // A fault that is answered stands, and is answered again.
         ensures err { IfErr result (λ f. self.new ≡ with_decoder_fault self.old f) }
         ensures kept { IfSome self.old.fault (λ f. result ≡ Err f) }
         // What was fed are the spellings of what was taken, and then the rest.

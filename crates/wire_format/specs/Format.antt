@@ -9,6 +9,8 @@ use Rattle.wire_format.specs.declared.fault.ReadStop.TheVariants.{More, Bad}
 use Rattle.wire_format.specs.declared.fault.ReadError.{ReadError}
 use Rattle.wire_format.specs.declared.fault.ReadError.TheVariants as errors
 
+-- **format (`Format`)**: which texts spell which values; which texts end in the first word or byte at which no spelling
+-- stands, with what fault; and its reading from the left: a value and the rest, that more is wanted, or a fault.
 pub record Format (A : Type 0) : Type 1 where
   -- the text is a spelling of the value
   pub spells : List ℕ → A → Type 0

@@ -25,6 +25,9 @@ pub record HasSpoiledFront {A : Type 0} (F : Format A) (bytes : List ℕ) (fault
   pub whole : bytes ≡ front ++ rest
   pub spoiled : F.spoils front fault
 
+-- **wanted (`MissingBytes`, `IsStillWaiting`)**: a number of bytes without which there is no value, and a least byte: until
+-- as many have come, only a byte below it changes what reading tells.
+--
 -- fewer bytes than are wanted, none of them below the least
 pub record IsStillWaiting (wanted : MissingBytes) (more : List ℕ) : Type 0 where
   pub fewer : length more < wanted.count
@@ -34,6 +37,9 @@ pub record IsStillWaiting (wanted : MissingBytes) (more : List ℕ) : Type 0 whe
 abbrev pub still_missing : MissingBytes → ℕ → MissingBytes
 still_missing wanted count = record { count = wanted.count - count; least = wanted.least }
 
+-- **the laws of reading (`ReaderIsExact`, `Lawful`)**: what is read is spelled and what is spelled is read, whatever
+-- follows; more is wanted only where a spelling has begun; a fault is that of the first unit at which none stands, and
+-- stays.
 pub record ReaderIsExact {A : Type 0} (F : Format A) : Type 0 where
   -- what is read is spelled, and the rest stands behind it
   pub sound : (bytes rest : List ℕ) (a : A) → IsBytes bytes → F.read bytes ≡ Ok (a, rest) → SpellsFront F bytes rest a

@@ -22,7 +22,8 @@ abbrev pub on_rest : {A : Type 0} → List ℕ → Bool → Result (A × List �
 on_rest behind past (Ok x) = Ok (x.0, x.1 ++ behind)
 on_rest behind past (Err stop) = Err (past_limit past stop)
 
--- the texts of at most n bytes; reading looks at no byte behind the first n
+-- **limit (`limited_format`, `NeedsMore`, `IsNoStart`, `IsFirstFault`)**: the spellings of at most so many bytes; reading
+-- looks at no byte behind them; past the limit to want more is `TooLong`.
 unfoldable pub limited_format : {A : Type 0} → ℕ → Format A → Format A
 limited_format n F = record {
   spells = λ text a. (length text ≤ n) × F.spells text a;

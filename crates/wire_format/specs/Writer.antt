@@ -9,6 +9,8 @@ use Rattle.wire_format.specs.declared.fault.WriteError.TheVariants as errors
 use Rattle.wire_format.specs.Format.{Format, is_from}
 use Rattle.wire_format.specs.WordKinds.{WordKind}
 
+-- **writer (`Writer`, `WritesFormat`, `encoding_or_fault`, `IsLong`)**: whether a value passes a limit, and the one text of
+-- it that is written, if there is one.
 pub record Writer (A : Type 0) : Type 0 where
   -- whether the value passes a limit
   pub long : A → Bool

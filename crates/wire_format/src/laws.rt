@@ -39,19 +39,24 @@ pub trait KindOfWord: Sized {
     ghost lawful: { IsKind kind };
 }
 
-/// One text spells at most one value.
 pub fn one_text_spells_one_value<A: Readable>()
+    /// What is read is spelled; what is spelled is read, whatever follows; and more is wanted only where a spelling
+    /// has begun: each format keeps this.
+    /// Carried by: `ReaderIsExact`, `Lawful`, as the laws of `crates/wire_format/src/laws.rt` have them of any format
+    ///
+    /// One text spells at most one value.
     ensures { (text : List ℕ) (a b : A) → A.format.spells text a → A.format.spells text b → a ≡ b }
 {}
 
-/// No spelling is a proper prefix of another.
 pub fn no_spelling_is_a_proper_prefix<A: Readable>()
+    /// No spelling is a proper prefix of another.
     ensures { (text more : List ℕ) (a b : A)
         → A.format.spells text a → A.format.spells (text ++ more) b → more ≡ [] }
 {}
 
 /// Fronts of the same bytes have the same fault.
 pub fn one_fault_stands_first<A: Readable>()
+    /// The fault is that of the first word or byte at which no spelling stands.
     ensures { (front rest other left : List ℕ) (f g : AnyFault) → IsBytes (front ++ rest) → front
         ++ rest ≡ other ++ left → A.format.spoils front f → A.format.spoils other g → f ≡ g }
 {}
@@ -68,6 +73,10 @@ pub fn what_is_refused_reads<A>(fault: Fault)
 
 /// One after another is a lawful format, where both are.
 pub fn one_after_another_is_lawful<A: HasSpelling, B: HasSpellingBehind<A>>()
+    /// Formats made of others keep these laws: one after another, at places, words and bytes between bounds, runs,
+    /// and all within a limit.
+    /// Carried by: `one_after_another_is_lawful`, `values_at_places_are_lawful`, `words_between_are_lawful`,
+    /// `bytes_between_are_lawful`, `runs_are_lawful`, `reading_keeps_a_limit`
     ensures { Lawful (after A.format B.formats) }
 {}
 

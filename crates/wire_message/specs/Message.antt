@@ -269,6 +269,7 @@ arguments procedures.Cancel = map_format (λ device. requests.Cancel device) wor
 arguments procedures.Authorize = after string (λ resource. after string (λ user. map_format (λ password. requests.Authorize resource user password) string))
 arguments procedures.Exit = pure_format requests.Exit
 
+-- **spelling of a message (`request`, `reply`)**: the formats of each request and each reply to a procedure.
 unfoldable pub request : Format Request
 request = after (word_of_kind (between 0 10 BadCode)) (λ code. arguments (procedure_at code))
 

@@ -7,8 +7,10 @@ ghost use Rattle.wire_message.specs.Message.{request, reply};
 
 use crate::message::Procedure;
 
-/// One text spells at most one request, and no spelling of a request is a proper prefix of another.
 pub fn requests_are_spelled_apart()
+    /// A text spells at most one request, and at most one reply to a procedure; no spelling of one is a proper prefix
+    /// of another's.
+    /// Carried by: `requests_are_spelled_apart`, `replies_are_spelled_apart`
     ensures value { (text : List ℕ) (a b : AnyRequest)
         → request.spells text a → request.spells text b → a ≡ b }
     ensures prefix { (text more : List ℕ) (a b : AnyRequest)

@@ -115,6 +115,8 @@ request_text (requests.Cancel device) = code_and_word_text 8 device
 request_text (requests.Authorize resource user password) = append_text (code_text 9) (append_text (write_resource.text resource) (append_text (write_string.text user) (write_string.text password)))
 request_text requests.Exit = code_text 10
 
+-- **the text of a request or a reply (`write_request`, `write_reply`, `replied_procedure`)**: the one way of writing it,
+-- and whether it passes a limit; the procedure that a reply answers.
 abbrev pub write_request : Writer Request
 write_request = record { long = request_long; text = request_text }
 

@@ -70,6 +70,8 @@ reply_passes replies.Cancel = false
 reply_passes replies.Authorize = false
 reply_passes replies.Exit = false
 
--- a limit is passed: by a string or an array of the message, or by the whole text that is written of it
+-- **passes a limit (`PassesLimit`, `request_passes`, `reply_passes`)**: a string of the message has more than 1,023 bytes
+-- beside its NUL, or an array more than 1,024 elements with what ends it; or the whole text that is written has more than
+-- 1,048,576 bytes.
 abbrev pub PassesLimit : Bool → Option (List ℕ) → Type 0
 PassesLimit part text = (part ≡ true) ⊎ ((whole : List ℕ) × (text ≡ Some whole) × (1048576 < length whole))

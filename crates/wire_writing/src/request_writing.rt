@@ -255,11 +255,16 @@ pub(crate) fn encode<E: Encoder>(alloc: Global, message: &E::Value) -> Result<Ve
 /// The bytes of a request: its text, `TooLong` exactly where a limit is passed, else `BadValue` exactly where
 /// nothing spells it.
 pub fn encode_request(alloc: Global, request: &Request) -> Result<Vec<u8>, WireFault>
+    /// What is written of a request, or of a reply, is a spelling of it.
+    /// Carried by: `ok`, `text` of `encode_request`, `encode_reply`
     ensures ok { IfOk result
         (λ v. (limited_format message_limit request_format).spells v.items request.now) }
     ensures text { IfOk result (λ v. write_request.text request.now ≡ Some v.items) }
+    /// `TooLong` comes exactly where a limit is passed (of a string, an array or the message), said apart from the
+    /// writer.
     ensures long { result ≢ Err WireFault.NoMem → (result ≡ Err WireFault.TooLong)
         ↔ PassesLimit (request_passes request.now) (write_request.text request.now) }
+    /// Else `BadValue` comes exactly where nothing spells it.
     ensures bad { IfErr result (λ e. e ≢ WireFault.NoMem
         → e ≢ WireFault.TooLong → (e ≡ WireFault.BadValue)
         × (¬ PassesLimit (request_passes request.now) (write_request.text request.now))

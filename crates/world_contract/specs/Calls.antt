@@ -79,7 +79,8 @@ pub record AnswersAre (w : WorldCore) (i : ℕ) (a : JobAnswers) : Type 0 where
 
 -- ---- what they promise of it
 
--- the history led to the world, and the job is the one of that place
+-- **for each history (`IsJobAt`, `ForEach`, `KeepsOutcome`, `KeepsScanFile`, `KeepsPage`, `KeepsPageCount`, `KeepsMemory`,
+-- `KeepsMove`, `KeepsMoves`)**: that an answer is kept for whatever history led to the world and has the job in that place.
 pub record IsJobAt (h : History) (w : WorldCore) (i : ℕ) (job : Job) : Type 0 where
   pub led : LedTo h w
   pub job_at : slice_get h.jobs i ≡ Some job
@@ -96,8 +97,9 @@ KeepsOutcome w i given = ForEach w i (λ h job. (outcome : Outcome) × (given �
 abbrev pub history_up_to : History → List Event → History
 history_up_to h events = record h { events = events }
 
--- A source of its device failed in one of the events: in the world that those in front of it led to its session held the device, and the
--- daemon behind it has the device stopped, with one failure more.
+-- **had a failure (`HadFailure`, `NamesIoError`)**: a source of the job's device failed in one of the events of a history:
+-- of a world to which those in front of it led, and the daemon that it led to; the settings of a job in force on its device
+-- say IO_ERROR.
 pub record HadFailure (h : History) (i : ℕ) (job : Job) : Type 0 where
   pub front : List Event
   pub event : Event
@@ -113,8 +115,9 @@ pub record HadFailure (h : History) (i : ℕ) (job : Job) : Type 0 where
 abbrev pub NamesIoError : History → Job → Type 0
 NamesIoError h job = (s : Settled h job) × (s.setup.told ≡ Some statuses.IoError)
 
--- It ended in one of the events: the world that those in front of it led to had it running, and the world behind it had it ended so, by a
--- cause among the events up to it.
+-- **ended in (`EndedIn`, `history_up_to`, `KeepsEnding`)**: a job ended in one of the events of a history: a world to which
+-- those in front of it led had it running, and that to which it led from there had it ended so, by a cause among the events
+-- up to it; and where IO_ERROR was answered, by a failure in one of these, unless `read-return-value` says it.
 pub record EndedIn (h : History) (w : WorldCore) (i : ℕ) (job : Job) (status : Status) (why : Why) : Type 0 where
   pub front : List Event
   pub event : Event
@@ -152,7 +155,9 @@ KeepsMemory w i given = ForEach w i (λ h job. given ≡ false → (file_answere
 abbrev pub HadUnsaidReply : History → Job → Type 0
 HadUnsaidReply h job = HasUnsaidReply h.users (map info_of_state h.devices) job
 
--- `next_move`: it is the loss of the control connection only where the job is told as out of memory, or had such a reply
+-- **good move (`IsGoodMove`, `HadUnsaidReply`)**: a job has a next move just where it runs, and it is the loss of the
+-- control connection only where the job is told as out of memory, or where a reply to something that it asks cannot be said
+-- on the wire.
 pub record IsGoodMove (h : History) (w : WorldCore) (i : ℕ) (job : Job) (given : Option Event) : Type 0 where
   pub move : (outcome : Outcome) → outcome_at w i ≡ Some outcome → MoveIsKept outcome given
   pub loss : given ≡ Some (LoseControl i) → (starved_at w i ≡ true) ⊎ HadUnsaidReply h job
@@ -204,7 +209,8 @@ LoadsNothing (Load name source) = ⊥
 LoadsNothing (Unplug name) = ⊥
 LoadsNothing event = Unit {0}
 
--- `run_all`: moves came, at most as many as all jobs had left, which led to the new world; and then no job runs
+-- **ran out (`RunsOut`, `LoadsNothing`, `NoneRuns`, `KeepsRunning`)**: moves came, at most as many as all jobs had left,
+-- none of which lays a page in or takes a device out, and then no job runs.
 pub record RunsOut (h : History) (old new : WorldCore) : Type 0 where
   pub moves : List Event
   pub few : length moves ≤ total_left old.endpoints

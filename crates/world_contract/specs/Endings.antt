@@ -45,6 +45,12 @@ IsShared h i job = (j : ℕ) × (other : Job) × (j ≢ i) × (slice_get h.jobs 
 abbrev pub JobIsPermitted : History → Job → Type 0
 JobIsPermitted h job = (is_guarded h.users (backend_of job.device) ≡ false) ⊎ ((sent : List ℕ) × (is_allowed_for h.users job.user job.password (backend_of job.device) (challenge_of sent) ≡ true))
 
+-- **caused (`IsEndingExplained`, `Came`, `IsUnlisted`, `IsUnforced`, `MeansNoPicture`, `AreFeeders`, `IsShared`,
+-- `JobIsPermitted`)**: the table of endings: a status and a why, with what among the devices, users, jobs and events
+-- explains it, where an event of the job but a cancel came behind its connection, and a request that found its device not
+-- listed behind the events that took out each of its name; so where no page source for a device can fail, a job there is
+-- answered IO_ERROR only as its `read-return-value` says.
+--
 -- THE TABLE: by each of these a job may end so
 pub data IsEndingExplained (h : History) (i : ℕ) (job : Job) (starved : Bool) (status : Status) (why : Why) : Type 0 where
   GaveUp : (status ≡ Cancelled) × (why ≡ whys.Cancelled) → Contains h.events (Cancel i) → IsEndingExplained h i job starved status why

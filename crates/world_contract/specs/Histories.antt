@@ -11,7 +11,9 @@ use Rattle.scan_world.specs.Worlds.{AreNew, IsFitJob, Runs, WorldCore}
 use Rattle.world_refines.specs.NewWorlds.{IsNewDaemon}
 use Rattle.world_refines.specs.MainTheorem.{AreTrueLoads}
 
--- the devices, users and jobs that a world was made of, and all events since
+-- **history (`History`, `begun`, `and_then`, `LedTo`)**: the devices, users and jobs that a world was made of, and all
+-- events since; nothing has happened yet; and then these events; a new world of them, and then its events, led to this one,
+-- and each device and page was within its limits.
 pub record History : Type 0 where
   pub devices : List DeviceState
   pub users : List Entry

@@ -31,7 +31,10 @@ abbrev pub IsRest : ℕ → Mark → Type 0
 IsRest i (Rested j d) = j ≡ i
 IsRest i m = ⊥
 
--- the marks that an event may show of the device of that name, behind these events: a job's come behind its connection
+-- **marks of a history (`MayShow`, `IsMarkOf`, `IsLeft`, `IsRest`, `ShowsMarks`, `HasMarks`, `new_view`, `starts_by`,
+-- `IsOfStart`)**: the marks that an event may show of the device of a name, behind the events before it: a job's own only
+-- where one of these is its connection, and a connection shows none; each mark in its event; all of them enabled, from a
+-- device that is listed, held by nobody and at rest; the starts of a job, and a file of its k-th.
 abbrev pub MayShow : List ℕ → List Event → Event → Mark → Type 0
 MayShow name front (ToDaemon i n) m = IsMarkOf i m × Contains front (Connect i)
 MayShow name front (LoseControl i) m = IsLeft i m × Contains front (Connect i)

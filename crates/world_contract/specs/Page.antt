@@ -14,7 +14,10 @@ use Rattle.scan_world.specs.declared.event.Event.TheVariants.{Load}
 use Rattle.world_contract.specs.Histories.{History}
 use Rattle.world_contract.specs.Settings.{AreSettingsPut}
 
--- a page that was in a device of the name as the world was made, or came for one with an event, taken or not
+-- **scan (`CameFor`, `IsSteady`, `AreInForce`, `Settled`, `IsScan`)**: a page that was in a device of a name as the world
+-- was made, or came for one with an event, taken or not; that each of them is steady; the settings of a job in force on a
+-- device, each given the nearest admitted value; the device that a job names, with the options that its settings put in
+-- force there; a file that denotes exactly what these mean on such a page.
 pub data CameFor (h : History) (name : List ℕ) (held : HeldPage) : Type 0 where
   AtFirst : (device : DeviceState) → Contains h.devices device → device.info.name ≡ name → Contains device.pages held → CameFor h name held
   WithEvent : (source : Source) → Contains h.events (Load name source) → held_from (source_state source) ≡ held → CameFor h name held

@@ -32,6 +32,9 @@ pub record JobHasEnded (h : History) (i : ℕ) (job : Job) (starved : Bool) (sta
   pub not_eof : status ≢ Eof
   pub caused : IsEndingExplained h i job starved status why
 
+-- **kept (`OutcomeIsKept`, `JobIsDone`, `JobHasEnded`, `FileIsKept`, `PageIsKept`, `CountIsKept`, `MoveIsKept`,
+-- `MovesAreKept`, `JobAnswers`, `JobIsKept`)**: what each call answers of a job is right, and all of them together.
+--
 -- `outcome`
 pub record OutcomeIsKept (h : History) (i : ℕ) (job : Job) (starved : Bool) (outcome : Outcome) : Type 0 where
   pub done : (reports : Reports) → outcome ≡ Done reports → JobIsDone h job reports

@@ -8,7 +8,9 @@ use Rattle.scan_job.specs.declared.job.Job.{Job}
 use Rattle.scan_job.specs.declared.report.Report.{Report}
 use Rattle.world_contract.specs.Page.{AreInForce}
 
--- a report has what the setting's text reads as and the value that its option was given, and INEXACT just where the two differ
+-- **answered (`IsSettingReported`, `AreSettingsReported`, `AreSettingsAnswered`)**: one report for each setting in their
+-- order: what its text reads as, the value that its option was given, and INEXACT just where the two differ; each the
+-- nearest admitted value.
 pub record IsSettingReported (setting : List ℕ × List ℕ) (placed : Placement) (report : Report) : Type 0 where
   pub name : report.name ≡ setting.0
   pub asked : report.asked ≡ placed.asked

@@ -10,8 +10,9 @@ use Rattle.device_api.specs.InForce.{Placement}
 use Rattle.device_api.specs.Values.{with_value}
 use Rattle.sane_fixed.specs.Cap.{has_cap}
 
--- a setting was put in: the option of its name, active and with SOFT_SELECT, was given the admitted value nearest to what the text
--- reads as
+-- **put (`IsSettingPut`, `AreSettingsPut`)**: a setting was put in: the option of its name, which is active and has
+-- SOFT_SELECT, was given the admitted value nearest to what the setting's text reads as; each of some settings, from the
+-- options that those before it left.
 pub record IsSettingPut (s : Setup) (setting : List ℕ × List ℕ) (p : Placement) : Type 0 where
   pub option : ScanOption
   pub has : Contains (options_of s.scene.kind) option

@@ -56,6 +56,8 @@ fn is_busy(outcome: &Outcome) -> bool
 /// Does one scan on a flatbed with this page, over the net: next moves until no client runs. Where the scan is done, its bytes
 /// are the file of the picture that the job's settings mean on this very page.
 pub fn scan_once(alloc: Global, name: Text, page: Page, users: Users, job: Job) -> Option<Vec<u8>>
+    /// From a box with a page in memory to the bytes of a file: these are of the picture that the job's settings mean
+    /// on that very page.
     ensures { IfSome result (λ bytes. job.task ≡ tasks.Scan → IsScanOf page job bytes.items) }
 {
     let source = Source::Memory(MemoryPage::new(page));
@@ -98,6 +100,7 @@ pub fn scan_with_another(
     users: Users,
     job: Job,
 ) -> Option<Vec<u8>>
+    /// So it is beside another box whose page is of whatever source, for a job that names the first.
     ensures { IfSome result
         (λ bytes. job.device ≡ name → job.task ≡ tasks.Scan → IsScanOf page job bytes.items) }
 {
@@ -149,6 +152,9 @@ pub fn scan_beside(
     first: Job,
     second: Job,
 ) -> Option<(Vec<u8>, bool)>
+    /// So it is where a second client asks for the device meanwhile; where it ends as told that it is busy, its cause
+    /// is in the table.
+    /// Carried by: `scanned`, `busy` of `scan_beside`
     ensures scanned { IfSome result
         (λ both. first.task ≡ tasks.Scan → IsScanOf page first both.0.items) }
     ensures busy { IfSome result (λ both. both.1 ≡ true → HasExplanation first second) }

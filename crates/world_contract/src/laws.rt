@@ -43,6 +43,8 @@ pub(crate) fn what_stands_below()
 /// ALL IS KEPT: what the calls of a world answer of each job is right, whatever was handed to it, in whatever order and pieces.
 #[tactic(none)]
 pub fn all_is_right()
+    /// All of it at once, of what the calls answer of one job.
+    /// Carried by: `all_is_right`: `JobIsKept`
     ensures { AllIsRight }
 {
     what_stands_below();
@@ -51,6 +53,14 @@ pub fn all_is_right()
 /// The marks of each device are enabled, each in its event, and each file is that of its start.
 #[tactic(none)]
 pub fn marks_are_true()
+    /// Each device of a world has its marks: each is shown by the event that made it, which of a job came behind its
+    /// connection, and a connection shows none; one job at a time holds the device, a start takes the page that is
+    /// next, and no page is laid in within a scan.
+    /// Carried by: `marks_are_true`: `HasMarks`
+    ///
+    /// Where the pages that came for its device are steady, the file of a scan that is done is of the page of the
+    /// job's first start, and that of page k of a batch of its k-th.
+    /// Carried by: `marks_are_true`: `IsOfStart`
     ensures { MarksAreTrue }
 {
     what_stands_below();

@@ -76,8 +76,11 @@ IsCutShort false users infos job = HasUnsaidReply users infos job
 abbrev pub replies_kept : Bool → List ℕ → List ℕ
 replies_kept memory replies = cond memory [] replies
 
--- By what becomes of the session: it goes on, and what is left is no whole request; the last of them ended it; or it breaks off, for lack
--- of memory or at a reply past the limits of the wire; or it was over before.
+-- **a delivery to the daemon (`AnswersSome`, `Completes`, `AnswersEach`, `IsCutShort`, `HasUnsaidReply`,
+-- `HasAllowedOptions`)**: the requests that are whole with the piece, the first of those that were sent, are answered one
+-- after another; then the session goes on and what is left is no whole request, or the last of them ended it, or it breaks
+-- off, for lack of memory or at a reply to something that its job asks, of devices whose options are within their limits,
+-- which is past the limits of the wire or has no spelling; a session that was over lets the piece go by.
 pub data AnswersSome (n : ℕ) (t : Ghost) (i : ℕ) (steps : List Transition) (u : Ghost) : Type 0 where
   GoesOn : (asked : List AbstractRequest) (rest told : List ℕ) → Completes t i n asked rest → NeedsMore message_limit request_format rest → AnswersEach i asked steps →
       GhostTakes t i steps (record (wires t i) { up = bytes_not_delivered n (wires t i).up; asking = rest; down = (wires t i).down ++ told }) u → (job_state u i).served ≡ true → AnswersSome n t i steps u

@@ -25,8 +25,11 @@ pub record HoldsLease (core : Core) (n word : ℕ) (lease : Lease DeviceState) :
   pub stands : session_of core n ≡ Some session
   pub held : held_by session.held word ≡ Some lease
 
--- The session of job i held the device of that name in the world in front of the event. The source of the device's first page failed, and
--- counted that: in the daemon behind the event the session holds the device stopped, or the device lies so in its place again.
+-- **failed in (`FailedIn`, `HoldsLease`, `IsInSome`, `HasFailed`, `AllAlong`, `FailsSo`, `FailsIn`, `FailsInSome`)**: the
+-- session of a job held the device of a name in a world, its page's source failed and counted that, and in the daemon
+-- behind the event it holds the device stopped, or the device lies so in its place; that is so of one of some events, of
+-- the world in front of it and the daemon behind; along steps, each of the state that it is taken in; of a turn that fails
+-- by the model, and of a START, where its job is under way.
 pub record FailedIn (before : WorldCore) (behind : Core) (i : ℕ) (name : List ℕ) : Type 0 where
   pub endpoint : Endpoint
   pub is_there : slice_get before.endpoints i ≡ Some endpoint

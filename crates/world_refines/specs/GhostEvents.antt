@@ -31,6 +31,9 @@ abbrev pub HasSomeBytes : Option (List ℕ) → Type 0
 HasSomeBytes None = ⊥
 HasSomeBytes (Some bytes) = bytes ≢ []
 
+-- **can, takes, leads (`GhostCan`, `GhostTakes`, `EventRefines`)**: when an event can happen, in the words of the model;
+-- its steps, which are enabled, and the bytes that it moves; whatever a world stands for, what the event makes of it stands
+-- for what these steps lead to.
 abbrev pub GhostCan : Ghost → ℕ → JobEvent → Type 0
 GhostCan t i Connect = (i < t.count) × ((job_state t i).client.stage ≡ Idle)
 GhostCan t i (ToDaemon n) = ((job_state t i).linked ≡ true) × ((wires t i).up ≢ []) × (0 < n)
@@ -145,7 +148,8 @@ abbrev pub UnplugsFollow : Type 0
 UnplugsFollow =
     (t : Ghost) (w : WorldCore) (name : List ℕ) → WorldRefines t w → GhostLeadsTo (CanUnplug t name) (TakesOut t name) t (record w { daemon = record w.daemon { registry = after_unplug w.daemon.registry name } })
 
--- the place of that name has a device that is listed, at rest, and has room for a page
+-- **a page is laid in (`CanLoad`, `LaysIn`)**: the place of that name has a device that is listed, at rest and has room;
+-- then it has the page.
 pub record CanLoad (t : Ghost) (name : List ℕ) : Type 0 where
   pub place : ℕ
   pub named : name_at t.infos place ≡ Some name

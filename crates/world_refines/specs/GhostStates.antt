@@ -23,7 +23,9 @@ pub record Wires : Type 0 where
   pub telling : List ℕ
   pub image : Option (List ℕ)
 
--- what never changes: the users, the infos of all places (name, vendor, model and class), and the jobs
+-- **ghost state (`Ghost`, `Wires`)**: the system state of the model; the users, the infos of all places (name, vendor,
+-- model, class) and the jobs, which never change; of each job the bytes on its connections, and what its joins were told
+-- and gave.
 pub record Ghost : Type 0 where
   pub system : SystemState
   pub users : List Entry
@@ -75,6 +77,10 @@ abbrev pub is_allowed_for : List Entry → List ℕ → List ℕ → List ℕ �
 is_allowed_for users user password backend None = false
 is_allowed_for users user password backend (Some challenge) = is_allowed users user password backend challenge
 
+-- **a job of the model (`abstract_job`, `place_named`, `is_guarded`, `is_allowed`)**: it wants the place of its device's
+-- name, or the place behind all; its backend is guarded where a line of the users names it; it is allowed where a line of
+-- its user and backend has a password of the same digest behind the challenge that is read in the resource that was sent
+-- (the model calls the whole resource a challenge).
 abbrev pub abstract_job : List Entry → List DeviceInfo → Job → rules.AbstractJob
 abstract_job users infos job =
     record {

@@ -40,7 +40,10 @@ use Rattle.world_refines.specs.NewWorlds.{HaveSourcesAt, IsNewDaemon, PageSource
 use Rattle.world_refines.specs.WorldPromises.{FileIsOfFirstStart, HasScannedPage, PagesAreCounted, IsOutcome}
 use Rattle.system_model.specs.Causes.{IsCauseAmong, WasUnsaid}
 
--- an event takes its steps of the model where it can happen, and changes nothing where it cannot
+-- **events one after another (`GhostComes`, `GhostComesAll`, `EventsFollow`)**: each takes its steps of the model where it
+-- can happen, and changes nothing where it cannot, on what those before it left; a page that is laid in is within its
+-- limits. Their transitions are a history, its marks are enabled at each device, and what fails in them failed in one of
+-- the events.
 abbrev pub GhostComes : (Source → SourceState) → Event → Ghost → List Transition → Ghost → Type 0
 GhostComes source (Connect i) t steps u = GhostHappens (GhostCan t i actions.Connect) (GhostConnects t i steps u) t steps u
 GhostComes source (ToDaemon i n) t steps u = GhostHappens (GhostCan t i (actions.ToDaemon n)) (AnswersSome n t i steps u) t steps u
@@ -97,6 +100,11 @@ EventsFollow = (source : Source → SourceState) (events : List Event) (t : Ghos
 
 -- ---- the headline
 
+-- **kept (`Promises`, `AllIsKept`)**: the headline: from a new world on, behind any events, what they did is such that each
+-- outcome is right, and no refusal has the status GOOD or EOF; each file of a scan that is done and of a finished page is
+-- meant, that of a job that is not done is never whole, and a file is none only where the job is told as out of memory; and
+-- no job that is not over runs out of moves.
+--
 -- Of each job: its outcome is the model's, and one that is refused names a status; the file of a scan that is done and those of a
 -- batch's finished pages denote what the job's settings mean on the pages of its starts, the file of a job that is not done is never
 -- whole, and a file is none only where the job is told as out of memory; a batch has its pages, and a job that runs has a next move.

@@ -49,6 +49,10 @@ wires_of (Some p) = record { up = p.client.out; asking = []; down = []; telling 
 abbrev pub info_of_state : DeviceState → DeviceInfo
 info_of_state s = s.info
 
+-- **a new world (`initial_ghost`, `NewWorldsRefine`, `NewWorldsPay`)**: of each job nothing is told: all clients are as at
+-- first, all devices lie in their places, and nothing is on the way but what clients have written before they are
+-- connected; and its jobs have moves enough for all that is to come.
+--
 -- Of these jobs nothing is told yet. (The other job stands for those that there are not.)
 abbrev pub initial_ghost : (ℕ → PageSources) → List Job → Job → List DeviceState → List Entry → List Endpoint → Ghost
 initial_ghost sources jobs other devices users endpoints =

@@ -23,6 +23,9 @@ abbrev pub Awaits : List ℕ → Option AwaitedAuthorization → Option Challeng
 Awaits name None sent = sent ≡ None
 Awaits name (Some awaited) sent = (awaited.name ≡ name) × (sent ≡ Some awaited.resource)
 
+-- **what a session and a device have of requests (`SpeaksAs`, `Awaits`, `SetsAsHeld`)**: a session was greeted, or INIT is
+-- its next request; it awaits AUTHORIZE just where it does by the model, for the job's device and with the resource that
+-- was sent; a SET comes first among the requests on the way, and is of an option as the client's device has it.
 pub record SpeaksAs (name : List ℕ) (p : JobState) (session : Session DeviceState) : Type 0 where
   pub greeted : IsGreeted session.greeted p.todo
   pub awaits : Awaits name session.awaited p.session.awaited
@@ -34,6 +37,8 @@ Speaks name p (Some session) = SpeaksAs name p session
 
 -- ---- a client
 
+-- **what a client waits for (`WaitsQuietly`)**: no client is between two pages, and behind AUTHORIZE's word none of its
+-- requests is on the way.
 pub record WaitsQuietly (progress : Progress) (todo : List AbstractRequest) : Type 0 where
   -- no client is between two pages
   pub unturned : progress ≡ stages.Turning → ⊥

@@ -23,6 +23,10 @@ use Rattle.client_refines.specs.PieceRefinement.{SpellsSent}
 
 -- ---- requests
 
+-- **on the way (`SpellsAsked`, `SpellsReplies`, `FlightMatches`)**: bytes that spell the requests that are to be answered;
+-- the one reply that is due, with AUTHORIZE's word before that of OPEN; whole records of the frame's data so far, or all of
+-- them with their end, and none while the job waits for anything else.
+--
 -- the text spells these requests of the job's client, which has the device word 0 and knows what the client view knows
 abbrev pub SpellsAsked : Job → rules.ClientView → List AbstractRequest → List ℕ → Type 0
 SpellsAsked job m asked text = SpellsSent (target_of job) text (asks_of 0 m.known asked)

@@ -59,7 +59,8 @@ pub record AreListed (t : Ghost) (i : ℕ) (infos : List DeviceInfo) : Type 0 wh
   pub shown : (job_state t i).session.shown ≡ Some places
   pub told : map (slice_get t.infos) places ≡ map Some infos
 
--- the descriptors of the options in force, as the job's settings made them, and at each whose value is told that value
+-- **shown (`AreShown`)**: the descriptors of the options in force, as the job's settings made them, and at each whose value
+-- is told that value (`IsFilled`).
 pub record AreShown (t : Ghost) (i : ℕ) (options : List (Descriptor × Option Value)) : Type 0 where
   pub in_force : OptionsInForce
   pub settled : AllInForce (make_for t.system i) (job_state t i).session.job (job_state t i).session.sent (job_state t i).client.reports in_force
@@ -79,6 +80,10 @@ pub record KeepsPromise (t : Ghost) (i : ℕ) (reports : Reports) : Type 0 where
 abbrev pub HasCause : Ghost → ℕ → Code → Why → Type 0
 HasCause t i status why = (w : words.Why) × (why_of why ≡ Some w) × IsCaused (make_for t.system i) (job_state t i).session (abstract_status status) w
 
+-- **outcomes (`IsOutcome`, `KeepsPromise`, `HasCause`)**: a job that runs is under way; one that is done has its settings
+-- put one after another from the defaults on, each reported with what its text reads as by the descriptors in force then,
+-- the nearest admitted value, and INEXACT just where these differ, and was permitted, or has the devices that were listed,
+-- each with its own name, vendor, model and class (`AreListed`); another ending has its cause.
 abbrev pub IsOutcome : Ghost → ℕ → Outcome → Type 0
 IsOutcome t i Running = IsUnderWay (job_state t i).client.stage
 IsOutcome t i (Done reports) = KeepsPromise t i reports
@@ -89,7 +94,8 @@ OutcomesAreRight = (t : Ghost) (w : WorldCore) (i : ℕ) (endpoint : Endpoint) �
 
 -- ---- the file of a scan
 
--- the file denotes exactly the picture that the job's settings mean on the page of this start
+-- **meant (`IsMeant`, `FileIsOfFirstStart`, `HasScannedPage`)**: the file denotes the picture that the settings in force
+-- mean on the page of a start: the first one of a scan, that of its number for a page of a batch.
 pub record IsMeant (make : Make) (settings : List (List ℕ × List ℕ)) (begin : Begin) (file : List ℕ) : Type 0 where
   pub picture : Picture
   pub in_force : option_map (λ r. r.0) (devices.in_force make.model make.order settings) ≡ Some begin.options
@@ -119,7 +125,10 @@ PagesAreMeant =
 
 -- ---- a batch
 
--- it has finished as many pages as it wanted, or fewer and at least one, and the tray of its device ran out
+-- **counted, stuck, losses (`PagesAreCounted`, `NobodyIsStuck`, `LossesAreExplained`)**: a batch that is done has finished
+-- as many pages as it wanted, or fewer and at least one, and the tray ran out; a job has a next move just where it runs,
+-- and it is the loss of its control connection only where memory ran out or its session broke off at a reply past the
+-- limits of the wire.
 abbrev pub PagesAreCounted : Ghost → ℕ → ℕ → Endpoint → Type 0
 PagesAreCounted t i count endpoint = (endpoint.finished ≡ count) ⊎ ((0 < endpoint.finished) × (endpoint.finished < count) × IsCauseAmong TrayRanOut (job_state t i).session.met)
 

@@ -253,6 +253,12 @@ pub record SlotsAreOfEndpoints (slots : List (Option (SessionSlot DeviceState)))
 abbrev pub AreStartedViews : (ℕ → Make) → JobState → Type 0
 AreStartedViews make p = (make p.session.job.wants).steady ≡ true → AllByRecursion (λ (b : Begin). IsPageView b.page) p.session.started
 
+-- **refines (`WorldRefines`, `EndpointRefines`, `EndpointClientRefines`, `WiresMatch`, `Means`, `IsServed`)**: each job's
+-- endpoint is what stands of the job: its client reads as the client view of the model, its files are those of its joins,
+-- the bytes are those on its connections and mean what the model has on the way, and its session, if it goes on, is that of
+-- the model and speaks as they do; a frame that streams or is to be ended has no end yet; each slot is for the session of
+-- an endpoint, and no two endpoints have one; the devices' sources are steady and their pages page views; the places that
+-- were shown to a list are those of devices (`AreListedBelow`); and what stands by the model is sound.
 pub record WorldRefines (t : Ghost) (w : WorldCore) : Type 0 where
   pub sound : Invariant t.system
   pub asks : (i : ℕ) → AsksAsHeld t.system i

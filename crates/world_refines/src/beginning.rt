@@ -6,6 +6,7 @@ ghost use Rattle.world_refines.specs.NewWorlds.{NewWorldsPay, NewWorldsRefine};
 /// that stands for that nothing has happened, and each job has moves enough for all that is to come.
 #[tactic(none)]
 pub fn a_new_world_refines()
+    /// A new world, of devices within their limits, stands for that nothing has happened.
     ensures stands { NewWorldsRefine }
     ensures pays { NewWorldsPay }
 {}

@@ -8,8 +8,10 @@ pub fn an_unplug_refines()
     ensures { UnplugsFollow }
 {}
 
-/// A page is laid in just where the device is listed, at rest and has room for it, whoever holds it; then it has the page.
 #[tactic(none)]
 pub fn a_load_refines()
+    /// A page is laid in just where the device is listed, at rest and has room for it; a device is taken out just
+    /// where it is listed and nobody holds it.
+    /// Carried by: `a_load_refines`, `an_unplug_refines`
     ensures { LoadsFollow }
 {}

@@ -11,12 +11,15 @@ ghost use Rattle.world_refines.specs.DataDeliveries.{GhostSees};
 /// A control connection is made: a session is opened for it, or, where there is none to be had, it is lost at once.
 #[tactic(none)]
 pub fn a_connection_refines()
+    /// A control connection that is made, also where no session is to be had, is enabled transitions of the model.
     ensures { EventRefines Connect GhostConnects }
 {}
 
 /// The connection for a frame's data is made.
 #[tactic(none)]
 pub fn a_data_connection_refines()
+    /// So is a frame's data connection, and a turn of it with its record.
+    /// Carried by: `a_data_connection_refines`, `a_turn_refines`
     ensures { EventRefines DataConnect Dials }
 {}
 
@@ -24,6 +27,9 @@ pub fn a_data_connection_refines()
 /// goes on; or one of them ends it; or it breaks off, for lack of memory or at a reply past the limits of the wire.
 #[tactic(none)]
 pub fn a_delivery_to_the_daemon_refines()
+    /// So is a delivery of requests: those that become whole are answered in order, each as the model answers; then
+    /// the session goes on, is over, or breaks off: for want of memory, or at a reply past the limits of the wire.
+    /// Carried by: `a_delivery_to_the_daemon_refines`: `IsCutShort`
     ensures { (n : ℕ) → EventRefines (ToDaemon n) (AnswersSome n) }
 {}
 
@@ -31,6 +37,7 @@ pub fn a_delivery_to_the_daemon_refines()
 /// it; or there is no memory for it, and the job ends. A job that is over lets them go by.
 #[tactic(none)]
 pub fn a_delivery_to_the_client_refines()
+    /// So is a delivery of replies, a part of the reply that is due or the rest of it, which the client hears.
     ensures { (n : ℕ) → EventRefines (ToClient n) (GhostHears n) }
 {}
 
@@ -45,12 +52,16 @@ pub fn a_turn_refines()
 /// then goes out; and the file of a page that is whole is laid by.
 #[tactic(none)]
 pub fn a_data_delivery_refines()
+    /// So is a delivery of a frame's data: just the bytes that its records carry are read, and its end; the file of a
+    /// whole page is laid by.
     ensures { (n : ℕ) → EventRefines (DataToClient n) (GhostSees n) }
 {}
 
 /// A control connection is lost: the job ends, what its session holds is given back, and nothing is on the way to its client any more.
 #[tactic(none)]
 pub fn a_loss_refines()
+    /// So is the loss of either connection, and a cancel.
+    /// Carried by: `a_loss_refines`, `a_data_loss_refines`, `a_cancel_refines`
     ensures { EventRefines LoseControl LosesControl }
 {}
 

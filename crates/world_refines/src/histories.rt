@@ -6,6 +6,17 @@ ghost use Rattle.world_refines.specs.MainTheorem.{AllIsKept, EventsFollow};
 /// page that is laid in the source gives its rows at each pass.
 #[tactic(none)]
 pub fn a_run_refines()
+    /// So it is of every list of events, in whatever order those of all jobs come and in whatever pieces bytes are
+    /// delivered.
+    ///
+    /// Their marks are enabled at each device: two clients never hold one, a start takes the page that is next, and
+    /// no page is laid in within a scan.
+    /// Carried by: `a_run_refines`: `marks` of `RunRefines`
+    ///
+    /// Where a page source fails in them by the model, it failed in one of the events and counted that: the job's
+    /// session held the device in the world in front of it, and in the daemon behind it holds it stopped, or has
+    /// given it back so; at a START, of a job under way.
+    /// Carried by: `a_run_refines`: `failures` of `RunRefines`
     ensures { EventsFollow }
 {}
 
@@ -15,5 +26,19 @@ pub fn a_run_refines()
 /// its cause; and no job runs out of moves before it is over.
 #[tactic(none)]
 pub fn all_is_kept()
+    /// The moves that `World::moves_left` counts suffice: it is 0 only where the job is over, and a job that rests
+    /// behind `World::run_all` is over.
+    /// Carried by: `all_is_kept`: `left`, `rests` of `Promises`
+    ///
+    /// THE HEADLINE: from a new world on, behind any list of events in which each page that is laid in is within its
+    /// limits, all of this is kept.
+    ///
+    /// It is kept for each choice of places where page sources can fail, and of those where all are steady, that is
+    /// true of devices and events.
+    /// Carried by: `all_is_kept`: `HaveSourcesAt`, `AreFittingLoads`
+    ///
+    /// There a job that ends otherwise has a status that is neither GOOD nor EOF, its file under way is never whole,
+    /// nor is that of a job that runs, and a file is none only where the job is told as out of memory.
+    /// Carried by: `all_is_kept`: `statuses`, `short`, `starved` of `Promises`
     ensures { AllIsKept }
 {}

@@ -6,12 +6,22 @@ ghost use Rattle.world_refines.specs.WorldPromises.{BatchesAreCounted, LossesAre
 /// otherwise has its cause.
 #[tactic(none)]
 pub fn outcomes_are_right()
+    /// A job that is done was permitted, has its settings put and reported as the definitions have them, and shows
+    /// the options in force, each with its own value.
+    /// Carried by: `outcomes_are_right`: `KeepsPromise`
+    ///
+    /// A list that is done has the devices that were listed, each told with its own name, vendor, model and class.
+    /// Carried by: `outcomes_are_right`: `AreListed`
+    ///
+    /// A job that ended otherwise has its cause.
+    /// Carried by: `outcomes_are_right`: `HasCause`
     ensures { OutcomesAreRight }
 {}
 
-/// The file of a scan that is done denotes exactly the picture that its settings mean on the page of its first start.
 #[tactic(none)]
 pub fn a_scan_is_meant()
+    /// The file of a scan that is done denotes exactly the picture that its settings mean on the page of its first
+    /// start, where the sources of its device are steady.
     ensures { ScansAreMeant }
 {}
 
@@ -19,18 +29,20 @@ pub fn a_scan_is_meant()
 /// the start of that number.
 #[tactic(none)]
 pub fn pages_are_meant()
+    /// So does each page that a batch finished, whatever became of the batch, on that of its own start.
     ensures { PagesAreMeant }
 {}
 
-/// A batch that is done has finished as many pages as it wanted, or fewer and at least one, and its scanner's tray ran out.
 #[tactic(none)]
 pub fn a_batch_is_counted()
+    /// A batch that is done has finished as many pages as it wanted, or fewer and at least one, and its tray ran out.
     ensures { BatchesAreCounted }
 {}
 
 /// A job has a next move just where it runs: `World::next_move` gives one as long as it does, in every state that events reach.
 #[tactic(none)]
 pub fn nobody_is_stuck()
+    /// A job has a next move just where it runs.
     ensures { NobodyIsStuck }
 {}
 
@@ -38,12 +50,16 @@ pub fn nobody_is_stuck()
 /// or at a reply past the limits of the wire.
 #[tactic(none)]
 pub fn losses_are_explained()
+    /// It is the loss of its control connection only where memory ran out, or where its session broke off at a reply
+    /// past the limits of the wire.
+    /// Carried by: `losses_are_explained`; `all_is_kept`: `losses` of `Promises`
     ensures { LossesAreExplained }
 {}
 
-/// A client reads the same value from a reply, whether its daemon sends a string value as its text and a NUL or fills it up to its
-/// option's size.
 #[tactic(none)]
 pub fn values_are_read_alike()
+    /// A client reads the same value from a reply, whether its daemon sends string values as their text or as long as
+    /// their option; what is proved of a world holds with either.
+    /// Carried by: `values_are_read_alike`, `all_is_kept`
     ensures { ValuesAreReadAlike }
 {}

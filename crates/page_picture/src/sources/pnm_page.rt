@@ -115,6 +115,9 @@ impl<R: Rereadable> PnmPage<R> {
     /// gives the reader back.
     pub fn open(alloc: Global, reader: R, dpi: u32) -> Result<Self, (OpenFault, R)>
         // The page is that of the text, where the reader keeps it.
+        /// `PnmPage::open` takes exactly the page files that `read_page` takes, with the same refusals, and reads
+        /// them row by row.
+        /// Carried by: `found`, `fault` of `PnmPage::open`
         ensures found { IfOk result (λ source. R.is_kept reader ≡ true
             → TellsPage (R.text reader) dpi source.shown.page) }
         // It stands before its first row, without a failure.
@@ -128,7 +131,9 @@ impl<R: Rereadable> PnmPage<R> {
         ensures not_lost { IfOk result (λ source. source.is_lost ≡ false) }
         ensures fault { IfErr result (λ refused. R.is_kept reader ≡ true
             → HasOpenFault refused.0 (R.text reader) dpi) }
-        // `Device` only where a call of the reader failed, or 2^40 reads do not go through its bytes twice.
+        /// Over a reader that keeps its bytes it answers that it cannot be read, and a row fails, only where a call
+        /// of the reader failed, or 2^40 reads do not go through the bytes twice.
+        /// Carried by: `device` of `PnmPage::open`; `failed` of `next_row` and `next_bytes`
         ensures device { IfErr result (λ refused. refused.0 ≡ OpenFault.Device → FailsByReader
             (R.is_kept reader) (R.text reader) (R.faults reader) (R.faults refused.1)) }
         // What holds of every reader.
@@ -182,6 +187,8 @@ impl<R: Rereadable> PnmPage<R> {
     }
 }
 
+/// Over a file of the system nothing is known of the rows, and the rest holds.
+/// Carried by: `PageSource` at `PnmPage`
 impl<R: Rereadable + Drop> PageSource for PnmPage<R> {
     ghost source = { λ s. s.shown };
 

@@ -147,9 +147,31 @@ pub fn answer<D: Device>(
     challenger: &mut Challenger,
     request: Request,
 ) -> Result<RequestAnswer, NoMem>
+    /// The first request must be INIT.
+    /// Carried by: `answer`
+    ///
+    /// OPEN is answered in the order of its refusals, with the challenge where a users line names the backend, and
+    /// the least free of four device words.
+    /// Carried by: `answer`
+    ///
+    /// AUTHORIZE is answered where it is awaited, and nothing else then.
+    /// Carried by: `answer`
+    ///
+    /// GET and SET test a value's type, number and shape before the device is asked.
+    /// Carried by: `answer`
+    ///
+    /// A string value of a GET or a SET that is done is its text and a NUL, or where the session has it so these
+    /// filled up with zero bytes to the option's size; it is never cut.
+    /// Carried by: `answer`: `sent_as`
+    ///
+    /// Parameters, START with its port and byte order, CANCEL and CLOSE, of the frame's word and of another, and an
+    /// unknown device word are answered as defined.
+    /// Carried by: `answer`: `Answers`
     ensures ok { IfOk result
         (λ said. Answers users.now (request_context D.state session.old registry.old challenger.old)
         request said (request_context D.state session.new registry.new challenger.new)) }
+    /// Out of memory is answered by no reply, and what it left is said.
+    /// Carried by: `err` of `answer`: `OutOfMemoryAt`
     ensures err { OnErr result (OutOfMemoryAt (request_context D.state session.old registry.old
         challenger.old) request (request_context D.state session.new registry.new challenger.new)) }
 {
