@@ -179,8 +179,8 @@ pub record GivesOfLine (setup : Setup) (was : FrameAndSource) (n : ℕ) (now : F
 -- the next line may be made apart from the line that a frame keeps: its row is the next, and no further line shows it, and
 -- all its bytes are samples of a byte each
 pub record MayBeMadeApart (setup : Setup) (page : PageView) (f : FrameProgress) : Type 0 where
-  pub filler : setup.loss ≡ 0
-  pub bytes : setup.scene.depth ≡ 8
+  pub no_loss : setup.loss ≡ 0
+  pub depth : setup.scene.depth ≡ 8
   pub next : row_of setup page f.made ≡ f.taken
   pub alone : row_of setup page f.made ≢ row_of setup page (f.made + 1)
 
