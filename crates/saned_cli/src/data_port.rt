@@ -1,0 +1,126 @@
+//! A port that waits for data connections.
+
+use crate::admission::is_admitted;
+use crate::local::is_for_now;
+use crate::socket_file::SocketFile;
+use mio::net::{TcpListener, TcpStream};
+use std::alloc::Global;
+use std::net::{Ipv4Addr, SocketAddr, SocketAddrV4};
+use std::os::unix::fs::FileExt;
+
+/// At most so many connections are taken at a time of those that wait: by one reading of the table of sockets, and by so many
+/// readings.
+const MOST_AT_ONCE: usize = 256;
+
+const MOST_READINGS: usize = 16;
+
+/// A port that waits for data connections.
+#[derive(Drop)]
+pub struct DataPort {
+    port: u16,
+    listener: TcpListener,
+    /// The user who owns the session's control connection, where the system tells him.
+    owner: Option<u32>,
+    /// The newest connection that stands both ways.
+    open: Option<TcpStream>,
+    /// The newest whose peer ended its side: it closed it, or only means to read, as SANE's own clients do. Nothing but a
+    /// write tells the two apart.
+    shut: Option<TcpStream>,
+}
+
+/// A connection that was just made, and the other end of it.
+#[derive(Drop)]
+struct Newcomer {
+    stream: TcpStream,
+    peer: SocketAddrV4,
+}
+
+impl DataPort {
+    /// A port of a session whose control connection that user owns.
+    pub fn new(port: u16, listener: TcpListener, owner: Option<u32>) -> DataPort {
+        DataPort {
+            port,
+            listener,
+            owner,
+            open: None,
+            shut: None,
+        }
+    }
+
+    pub fn port(&self) -> u16 {
+        self.port
+    }
+
+    /// Keeps a connection by what its peer has done: one that is broken, or whose peer speaks, is closed.
+    fn keep(&mut self, stream: TcpStream) {
+        match stream.peek(&mut [0]) {
+            Ok(0) => self.shut = Some(stream),
+            Err(e) if is_for_now(&e) => self.open = Some(stream),
+            // Where only a daemon speaks, a peer that does is no client.
+            Ok(_) | Err(_) => drop(stream),
+        }
+    }
+
+    /// Takes the first of the connections that wait.
+    fn newcomers(&self, alloc: Global) -> Vec<Newcomer> {
+        let mut newcomers = Vec::new(alloc);
+        for _ in 0..MOST_AT_ONCE {
+            // The room comes first, so that nobody is lost who could not be kept.
+            if newcomers.try_reserve(1).is_err() {
+                return newcomers;
+            }
+            let Ok((stream, SocketAddr::V4(peer))) = self.listener.accept() else {
+                return newcomers;
+            };
+            let _ = newcomers.push(Newcomer { stream, peer });
+        }
+        newcomers
+    }
+
+    /// Keeps those of the newcomers who may be the session's client; the others are closed.
+    fn admit(&mut self, newcomers: Vec<Newcomer>, table: &[u8]) {
+        let ours = SocketAddrV4::new(Ipv4Addr::LOCALHOST, self.port);
+        for Newcomer { stream, peer } in newcomers {
+            if is_admitted(self.owner, table, peer, ours) {
+                self.keep(stream);
+            }
+        }
+    }
+
+    /// Takes all connections that wait.
+    fn gather<F: FileExt + Drop>(&mut self, alloc: Global, sockets: &SocketFile<F>) {
+        if let Some(stream) = self.open.take() {
+            self.keep(stream);
+        }
+        for _ in 0..MOST_READINGS {
+            let newcomers = self.newcomers(alloc);
+            if newcomers.is_empty() {
+                return;
+            }
+            // Where nobody is known to own the session, the table decides nothing.
+            let table = if self.owner.is_some() {
+                sockets.text()
+            } else {
+                Vec::new(alloc)
+            };
+            self.admit(newcomers, table.as_slice());
+        }
+    }
+
+    /// Closes the connections that their peers have ended.
+    pub fn forget_ended<F: FileExt + Drop>(&mut self, alloc: Global, sockets: &SocketFile<F>) {
+        self.gather(alloc, sockets);
+        self.shut = None;
+    }
+
+    /// The connection that a frame takes; the others are closed.
+    pub fn taken<F: FileExt + Drop>(
+        &mut self,
+        alloc: Global,
+        sockets: &SocketFile<F>,
+    ) -> Option<TcpStream> {
+        self.gather(alloc, sockets);
+        let shut = self.shut.take();
+        self.open.take().or(shut)
+    }
+}
