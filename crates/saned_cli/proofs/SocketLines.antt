@@ -7,7 +7,7 @@ use Rattle.std.proofs.lemmas.Fmt.{decimal_injective}
 use Rattle.std.specs.declared.net.socket_addr.SocketAddrV4.{SocketAddrV4}
 use Rattle.text_lines.specs.Lines.{lines_of}
 use Rattle.dispatch.specs.ConfigLines.{fields_of}
-use Rattle.saned_cli.specs.SocketTable.{IsOwnedBy, IsOwner, end_text, is_between, sockets_between}
+use Rattle.saned_cli.specs.SocketTable.{IsOwnedBy, IsOwner, end_text, is_socket_between, sockets_between}
 
 -- ---- places in a list
 
@@ -34,12 +34,12 @@ more_at xs i x more e = let same : i + 1 ≡ suc i = omega arith in ap (λ (k : 
 
 -- ---- lines
 
-pub found : (own peer text line rest : List ℕ) → lines_of text ≡ line ∷ lines_of rest → is_between own peer line ≡ true
+pub found : (own peer text line rest : List ℕ) → lines_of text ≡ line ∷ lines_of rest → is_socket_between own peer line ≡ true
     → sockets_between own peer text ≡ line ∷ sockets_between own peer rest
 unfolding sockets_between
 found own peer text line rest first is = rw (first, is) refl
 
-pub passed : (own peer text line rest : List ℕ) → lines_of text ≡ line ∷ lines_of rest → is_between own peer line ≡ false
+pub passed : (own peer text line rest : List ℕ) → lines_of text ≡ line ∷ lines_of rest → is_socket_between own peer line ≡ false
     → sockets_between own peer text ≡ sockets_between own peer rest
 unfolding sockets_between
 passed own peer text line rest first is = rw (first, is) refl

@@ -27,12 +27,12 @@ is_in_field place text line = is_text (slice_get (fields_of line) place)
     is_text (Some field) = bytes_eq field text
 
 -- a line is of a socket that has these ends, its own and its peer's
-abbrev pub is_between : List ℕ → List ℕ → List ℕ → Bool
-is_between own peer line = is_in_field 1 own line && is_in_field 2 peer line
+abbrev pub is_socket_between : List ℕ → List ℕ → List ℕ → Bool
+is_socket_between own peer line = is_in_field 1 own line && is_in_field 2 peer line
 
 -- the lines of such sockets
 unfoldable pub sockets_between : List ℕ → List ℕ → List ℕ → List (List ℕ)
-sockets_between own peer table = filter (is_between own peer) (lines_of table)
+sockets_between own peer table = filter (is_socket_between own peer) (lines_of table)
 
 -- some process has the socket of a line, and that user owns it
 pub record IsOwnedBy (line : List ℕ) (user : ℕ) : Type 0 where

@@ -3,7 +3,7 @@
 ghost use Rattle.std.specs.Prelude.{◌≡◌, ◌≢◌, ◌<◌, ◌^◌, ◌∷◌, [], ◌↔◌, ℕ, List, IfNone, IfSome, IsTrue, MatchOption};
 ghost use Rattle.std.specs.Net.Addr.{ipv4_octets};
 ghost use Rattle.std.specs.Net.Socket.{v4_ip, v4_port};
-ghost use Rattle.saned_cli.specs.SocketTable.{IsOwner, IsOwnedBy, end_text, is_between, sockets_between};
+ghost use Rattle.saned_cli.specs.SocketTable.{IsOwner, IsOwnedBy, end_text, is_socket_between, sockets_between};
 ghost use Rattle.hex.specs.Hex.{encode_upper};
 
 use crate::daemon_words::plain_number_of;
@@ -48,8 +48,8 @@ fn end_text(end: SocketAddrV4) -> [u8; 13]
 }
 
 /// Whether a line is of a socket that has these ends, its own and its peer's.
-fn is_between(own: &[u8], peer: &[u8], line: &[u8]) -> bool
-    ensures { result ≡ is_between own.now peer.now line.now }
+fn is_socket_between(own: &[u8], peer: &[u8], line: &[u8]) -> bool
+    ensures { result ≡ is_socket_between own.now peer.now line.now }
 {
     field_at(line, OWN_END) == Some(own) && field_at(line, PEER_END) == Some(peer)
 }
@@ -62,7 +62,7 @@ fn next_between<'a>(own: &[u8], peer: &[u8], text: &'a [u8]) -> Option<(&'a [u8]
 {
     let mut rest = text;
     while let Some((line, after)) = first_line(rest) {
-        if is_between(own, peer, line) {
+        if is_socket_between(own, peer, line) {
             return Some((line, after));
         }
         rest = after;
