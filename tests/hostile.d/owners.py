@@ -1,6 +1,8 @@
 """A stranger of another user, who dials a session's data ports before its client does: a frame goes to the user who asked for it.
 Users are told apart by the system's table of sockets, so where the daemon has none all is as without it."""
 import contextlib
+# What sockets import by themselves, where another user may not be able to read it.
+import encodings.idna  # noqa: F401
 import os
 import random
 import signal
@@ -180,6 +182,7 @@ def ordered(tally, scale):
             for pair in PAIRS:
                 for act in ROUNDS:
                     rounds(tally, daemon, samples, act, pair, scale["visits"])
+                    daemon.rests_at(before)
             is_right = daemon.is_up() and daemon.rests_at(before)
             tally.saw("a daemon after strangers of another user", "it stands, with as many descriptors as before", is_right)
 

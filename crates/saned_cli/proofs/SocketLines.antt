@@ -1,13 +1,14 @@
 -- The lines of the system's table of sockets, taken off from the left.
-use Rattle.std.proofs.Common.{◌≡◌, ◌≢◌, ℕ, zero, suc, ◌+◌, ◌<◌, ◌≤◌, ◌^◌, Bool, true, false, List, [], ◌∷◌, Option, Some, None, Result, Ok, Err, drop, arith, refl, sym, ap, ◌∙◌, subst}
+use Rattle.std.proofs.Common.{◌≡◌, ◌≢◌, ℕ, zero, suc, ◌+◌, ◌<◌, ◌≤◌, ◌^◌, Bool, true, false, List, [], ◌∷◌, ◌++◌, append_assoc, Option, Some, None, Result, Ok, Err, drop, arith, refl, sym, ap, ◌∙◌, subst}
 use Rattle.std.specs.Prelude.{decimal, filter, IfNone, OkIff}
 use Rattle.std.specs.Result.{result_ok}
 use Rattle.std.specs.List.{slice_get}
+use Rattle.std.proofs.lemmas.List.{append-nil}
 use Rattle.std.proofs.lemmas.Fmt.{decimal_injective}
 use Rattle.std.specs.declared.net.socket_addr.SocketAddrV4.{SocketAddrV4}
 use Rattle.text_lines.specs.Lines.{lines_of}
 use Rattle.dispatch.specs.ConfigLines.{fields_of}
-use Rattle.saned_cli.specs.SocketTable.{IsOwnedBy, IsOwner, end_text, is_socket_between, sockets_between}
+use Rattle.saned_cli.specs.SocketTable.{IsOwnedBy, IsOwner, end_text, held_lines, is_held, is_socket_between, sockets_between}
 
 -- ---- places in a list
 
@@ -76,9 +77,25 @@ of_one_line table peer ours line user only not_owned owner =
     let same : owner.line ≡ line = cc (only, owner.only) in
     not_owned (subst (λ (l : List ℕ). IsOwnedBy l user) same owner.owned)
 
--- a connection has one owner
-pub same_owner : (table : List ℕ) (peer ours : SocketAddrV4) (a b : ℕ) → a < 2 ^ 64 → b < 2 ^ 64 → IsOwner table peer ours a → IsOwner table peer ours b → a ≡ b
-same_owner table peer ours a b few fewer one other =
-    let same : one.line ≡ other.line = cc (one.only, other.only) in
-    let owned : IsOwnedBy other.line a = subst (λ (l : List ℕ). IsOwnedBy l a) same one.owned in
-    decimal_injective a b few fewer (text_in (slice_get (fields_of other.line) 7) None (decimal a) (decimal b) owned.user_is other.owned.user_is)
+-- ---- a user's sockets
+
+pub held : (peer user text line rest : List ℕ) → lines_of text ≡ line ∷ lines_of rest → is_held peer user line ≡ true
+    → held_lines peer user text ≡ line ∷ held_lines peer user rest
+unfolding held_lines
+held peer user text line rest first is = rw (first, is) refl
+
+pub not_held : (peer user text line rest : List ℕ) → lines_of text ≡ line ∷ lines_of rest → is_held peer user line ≡ false
+    → held_lines peer user text ≡ held_lines peer user rest
+unfolding held_lines
+not_held peer user text line rest first is = rw (first, is) refl
+
+pub none_held : (peer user text : List ℕ) → lines_of text ≡ [] → held_lines peer user text ≡ []
+unfolding held_lines
+none_held peer user text none = rw none refl
+
+pub gone_on : (before after rest more all : List (List ℕ)) (line : List ℕ) → after ≡ before ++ (line ∷ []) → rest ≡ line ∷ more → before ++ rest ≡ all → after ++ more ≡ all
+gone_on before after rest more all line pushed first whole = rw (pushed, append_assoc) (subst (λ (l : List (List ℕ)). before ++ l ≡ all) first whole)
+
+pub ended : (peer user rest table : List ℕ) (found : List (List ℕ)) → lines_of rest ≡ [] → found ++ held_lines peer user rest ≡ held_lines peer user table → found ≡ held_lines peer user table
+ended peer user rest table found none whole =
+    sym (append-nil found) ∙ ap (λ (l : List (List ℕ)). found ++ l) (sym (none_held peer user rest none)) ∙ whole

@@ -1,7 +1,7 @@
 -- The system's table of sockets, as Linux tells it in /proc/net/tcp: a line of headings, and a line for each socket, whose
 -- fields stand between blanks. Counted from 0, field 1 is the socket's own end, field 2 its peer's, field 7 the user who owns
 -- it, and field 9 the number of its inode, which is 0 where no process has the socket any more.
-use Rattle.std.specs.Prelude.{ℕ, ◌≡◌, ◌≢◌, ◌/◌, ◌%◌, ◌&&◌, Bool, true, false, Option, Some, None, List, [], ◌∷◌, ◌++◌, codes, decimal, filter, slice_index}
+use Rattle.std.specs.Prelude.{ℕ, ◌≡◌, ◌≢◌, ◌/◌, ◌%◌, ◌&&◌, ◌||◌, Bool, true, false, Option, Some, None, List, [], ◌∷◌, ◌++◌, codes, decimal, filter, not, slice_index}
 use Rattle.std.specs.List.{slice_get}
 use Rattle.std.specs.Str.{bytes_eq}
 use Rattle.std.specs.declared.net.socket_addr.SocketAddrV4.{SocketAddrV4}
@@ -46,3 +46,24 @@ pub record IsOwner (table : List ℕ) (peer ours : SocketAddrV4) (user : ℕ) : 
   pub line : List ℕ
   pub only : sockets_between (end_text peer) (end_text ours) table ≡ line ∷ []
   pub owned : IsOwnedBy line user
+
+-- some process has the socket of a line
+abbrev pub is_had : List ℕ → Bool
+is_had line = is_inode (slice_get (fields_of line) 9)
+  where
+    is_inode : Option (List ℕ) → Bool
+    is_inode None = false
+    is_inode (Some inode) = not (bytes_eq inode (codes "0"))
+
+-- a line is of a socket of that user which has this peer's end, and some process has it
+abbrev pub is_held : List ℕ → List ℕ → List ℕ → Bool
+is_held peer user line = is_in_field 2 peer line && is_in_field 7 user line && is_had line
+
+-- one of the lines has that text as its socket's own end
+abbrev pub is_end_among : List ℕ → List (List ℕ) → Bool
+is_end_among own [] = false
+is_end_among own (line ∷ lines) = is_in_field 1 own line || is_end_among own lines
+
+-- the lines of such sockets
+unfoldable pub held_lines : List ℕ → List ℕ → List ℕ → List (List ℕ)
+held_lines peer user table = filter (is_held peer user) (lines_of table)

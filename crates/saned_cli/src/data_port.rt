@@ -1,8 +1,8 @@
 //! A port that waits for data connections.
 
-use crate::admission::is_admitted;
 use crate::local::is_for_now;
 use crate::socket_file::SocketFile;
+use crate::socket_table::{is_among, sockets_of};
 use mio::net::{TcpListener, TcpStream};
 use std::alloc::Global;
 use std::net::{Ipv4Addr, SocketAddr, SocketAddrV4};
@@ -77,13 +77,23 @@ impl DataPort {
         newcomers
     }
 
-    /// Keeps those of the newcomers who may be the session's client; the others are closed.
-    fn admit(&mut self, newcomers: Vec<Newcomer>, table: &[u8]) {
+    /// Keeps those of the newcomers that the session's user made, by the table; the others are closed.
+    fn admit(&mut self, alloc: Global, newcomers: Vec<Newcomer>, table: &[u8], user: u32) {
         let ours = SocketAddrV4::new(Ipv4Addr::LOCALHOST, self.port);
+        let Ok(sockets) = sockets_of(alloc, table, ours, user) else {
+            return;
+        };
         for Newcomer { stream, peer } in newcomers {
-            if is_admitted(self.owner, table, peer, ours) {
+            if is_among(sockets.as_slice(), peer) {
                 self.keep(stream);
             }
+        }
+    }
+
+    /// Keeps all of them.
+    fn admit_all(&mut self, newcomers: Vec<Newcomer>) {
+        for Newcomer { stream, peer: _ } in newcomers {
+            self.keep(stream);
         }
     }
 
@@ -97,13 +107,10 @@ impl DataPort {
             if newcomers.is_empty() {
                 return;
             }
-            // Where nobody is known to own the session, the table decides nothing.
-            let table = if self.owner.is_some() {
-                sockets.text()
-            } else {
-                Vec::new(alloc)
-            };
-            self.admit(newcomers, table.as_slice());
+            match self.owner {
+                Some(user) => self.admit(alloc, newcomers, sockets.text().as_slice(), user),
+                None => self.admit_all(newcomers),
+            }
         }
     }
 

@@ -2,7 +2,6 @@
 //! connections on 127.0.0.1.
 #![tactic(auto)]
 
-mod admission;
 mod daemon_ending;
 mod daemon_options;
 mod daemon_words;
@@ -16,7 +15,6 @@ mod socket_file;
 mod socket_table;
 mod table_fields;
 
-pub use admission::is_admitted;
 pub use daemon_ending::DaemonEnding;
 pub use daemon_options::{DaemonOptions, DaemonOptionsFault, read_options};
 pub use data_ports::{PortRange, port_range};
@@ -24,4 +22,4 @@ pub use limited_reading::{MOST_OF_CONFIG, MOST_OF_USERS, text_of};
 pub use local::{LocalNet, LocalSocket};
 pub use saned_serve::{Got, Listeners, ServeEnd, Socket, serve};
 pub use seed::read_seed;
-pub use socket_table::{is_owner, owner_of};
+pub use socket_table::{is_among, owner_of, sockets_of};

@@ -1,13 +1,14 @@
 //! The system's table of sockets, as Linux tells it in `/proc/net/tcp`.
 
-ghost use Rattle.std.specs.Prelude.{◌≡◌, ◌≢◌, ◌<◌, ◌^◌, ◌∷◌, [], ◌↔◌, ℕ, List, IfNone, IfSome, IsTrue, MatchOption};
+ghost use Rattle.std.specs.Prelude.{◌≡◌, ◌≢◌, ◌<◌, ◌^◌, ◌∷◌, ◌++◌, [], ℕ, List, IfNone, IfOk, IfSome, MatchOption, decimal, map};
 ghost use Rattle.std.specs.Net.Addr.{ipv4_octets};
 ghost use Rattle.std.specs.Net.Socket.{v4_ip, v4_port};
-ghost use Rattle.saned_cli.specs.SocketTable.{IsOwner, IsOwnedBy, end_text, is_socket_between, sockets_between};
+ghost use Rattle.saned_cli.specs.SocketTable.{IsOwner, IsOwnedBy, end_text, held_lines, is_end_among, is_had, is_held, is_in_field, is_socket_between, sockets_between};
 ghost use Rattle.hex.specs.Hex.{encode_upper};
 
 use crate::daemon_words::plain_number_of;
 use crate::table_fields::field_at;
+use std::alloc::{AllocError, Global};
 use std::net::SocketAddrV4;
 use text_lines::first_line;
 
@@ -108,12 +109,86 @@ pub fn owner_of(table: &[u8], peer: SocketAddrV4, ours: SocketAddrV4) -> Option<
     owner_in(line)
 }
 
-/// Whether that user owns the peer's end of a connection whose ends are `peer` and `ours`.
-pub fn is_owner(table: &[u8], peer: SocketAddrV4, ours: SocketAddrV4, user: u32) -> bool
-    ensures { IsTrue result ↔ IsOwner table.now peer ours user }
+/// Whether some process has the socket of a line.
+fn is_had(line: &[u8]) -> bool
+    ensures { result ≡ is_had line.now }
 {
-    match owner_of(table, peer, ours) {
-        Some(owner) => owner == user,
+    match field_at(line, INODE) {
+        Some(inode) => inode != b"0".as_slice(),
         None => false,
     }
+}
+
+/// Whether a line is of a socket of that user which has this peer's end.
+fn is_held(peer: &[u8], user: &[u8], line: &[u8]) -> bool
+    ensures { result ≡ is_held peer.now user.now line.now }
+{
+    field_at(line, PEER_END) == Some(peer) && field_at(line, USER) == Some(user) && is_had(line)
+}
+
+fn add<'a>(lines: &mut Vec<&'a [u8]>, line: &'a [u8]) -> Result<(), AllocError>
+    ensures { IfOk result (λ _. map (λ line. line.now) lines.new.items
+        ≡ map (λ line. line.now) lines.old.items ++ line.now ∷ []) }
+{
+    lines.push(line).map_err(|_| AllocError)
+}
+
+/// The lines of such sockets.
+fn held_lines<'a>(
+    alloc: Global,
+    peer: &[u8],
+    user: &[u8],
+    table: &'a [u8],
+) -> Result<Vec<&'a [u8]>, AllocError>
+    ensures { IfOk result (λ lines. map (λ line. line.now) lines.items
+        ≡ held_lines peer.now user.now table.now) }
+{
+    let mut lines = Vec::new(alloc);
+    let mut rest = table;
+    while let Some((line, after)) = first_line(rest) {
+        if is_held(peer, user, line) {
+            add(&mut lines, line)?;
+        }
+        rest = after;
+    }
+    Ok(lines)
+}
+
+/// The lines of the table that are of that user's sockets whose peer's end is `ours`, and which some process has.
+pub fn sockets_of<'a>(
+    alloc: Global,
+    table: &'a [u8],
+    ours: SocketAddrV4,
+    user: u32,
+) -> Result<Vec<&'a [u8]>, AllocError>
+    ensures { IfOk result (λ lines. map (λ line. line.now) lines.items
+        ≡ held_lines (end_text ours) (decimal user) table.now) }
+{
+    let user = format!(in alloc; "{user}")?;
+    held_lines(alloc, &end_text(ours), user.as_str().as_bytes(), table)
+}
+
+fn has_own_end(own: &[u8], line: &[u8]) -> bool
+    ensures { result ≡ is_in_field 1 own.now line.now }
+{
+    field_at(line, OWN_END) == Some(own)
+}
+
+/// Whether one of the lines is of a socket whose own end is that.
+fn is_end_among(own: &[u8], lines: &[&[u8]]) -> bool
+    ensures { result ≡ is_end_among own.now (map (λ line. line.now) lines.now) }
+{
+    for line in lines {
+        if has_own_end(own, line) {
+            return true;
+        }
+    }
+    false
+}
+
+/// Whether one of the lines is of the socket at that end of a connection.
+pub fn is_among(lines: &[&[u8]], peer: SocketAddrV4) -> bool
+    ensures { result ≡ is_end_among (end_text peer) (map (λ line. line.now) lines.now) }
+{
+    is_end_among(&end_text(peer), lines)
 }

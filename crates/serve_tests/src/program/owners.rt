@@ -1,6 +1,6 @@
 //! The system's table of sockets, as it is written, and who owns one.
 
-use saned_cli::{Got, Listeners, LocalNet, PortRange, Socket, is_admitted, is_owner, owner_of};
+use saned_cli::{Got, Listeners, LocalNet, PortRange, Socket, is_among, owner_of, sockets_of};
 use std::alloc::Global;
 use std::io::Read;
 use std::net::{Ipv4Addr, SocketAddr, SocketAddrV4, TcpListener, TcpStream};
@@ -55,9 +55,6 @@ fn lines_of_a_table(rt: HostRuntime) -> Result<(), Fail> {
     }
     let table = table.as_str().as_bytes();
     assert!(rt; owner_of(table, end(2, 0xD434), ours()) == Some(0));
-    assert!(rt; is_owner(table, end(1, 0xD431), ours(), 1000));
-    assert!(rt; !is_owner(table, end(1, 0xD431), ours(), 0));
-    assert!(rt; !is_owner(table, end(1, 0xD432), ours(), 0));
     Ok(())
 }
 
@@ -120,27 +117,36 @@ fn long_table(rt: HostRuntime) -> Result<(), Fail> {
     for (port, owner) in [(20_000, 0), (25_000, 5_000), (29_999, 9_999)] {
         assert!(rt; owner_of(table, end(1, port), ours()) == Some(owner));
     }
+    let sockets = sockets_of(alloc, table, ours(), 5_000)?;
+    assert!(rt; sockets.len() == 1 && is_among(sockets.as_slice(), end(1, 25_000)));
     assert!(rt; owner_of(table, end(1, 30_000), ours()).is_none());
     assert!(rt; owner_of(&table[..table.len() / 2], end(1, 29_999), ours()).is_none());
     Ok(())
 }
 
 #[test]
-fn who_is_admitted(rt: HostRuntime) -> Result<(), Fail> {
+fn sockets_of_a_user(rt: HostRuntime) -> Result<(), Fail> {
     let table = format!(in rt.alloc(); "{HEADINGS}{LINES}")?;
     let table = table.as_str().as_bytes();
-    for (owner, port, is_in) in [
-        (Some(1000), 0xD431, true),
-        (Some(0), 0xD431, false),
-        (Some(0), 0xD432, false),
-        (Some(1001), 0xD433, true),
-        (Some(1000), 0xD433, false),
-        (Some(1000), 0xD436, false),
-        (None, 0xD431, true),
-        (None, 0xD436, true),
+    for (user, port, is_his) in [
+        (1000, 0xD431, true),
+        (0, 0xD431, false),
+        (100, 0xD431, false),
+        // Nobody has it.
+        (0, 0xD432, false),
+        (1001, 0xD433, true),
+        (1000, 0xD433, false),
+        // It is connected to another port.
+        (1000, 0xD435, false),
+        (1000, 0xD436, false),
     ] {
-        assert!(rt; is_admitted(owner, table, end(1, port), ours()) == is_in);
+        let sockets = sockets_of(rt.alloc(), table, ours(), user)?;
+        assert!(rt; is_among(sockets.as_slice(), end(1, port)) == is_his);
     }
+    let sockets = sockets_of(rt.alloc(), table, ours(), 0)?;
+    assert!(rt; is_among(sockets.as_slice(), end(2, 0xD434)));
+    assert!(rt; !is_among(sockets.as_slice(), end(1, 0xD434)));
+    assert!(rt; !is_among(&[], end(1, 0xD431)));
     Ok(())
 }
 
