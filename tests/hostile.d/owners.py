@@ -14,7 +14,7 @@ import time
 import wire
 from left import Differs, Session, noise_page
 from strangers import hide_the_table, is_passed, says
-from world import Daemon, connected, ending, netpbm, read, start
+from world import Daemon, connected, ending, is_whole, read, start
 
 # Users whom nobody else has.
 ROOT_USER, ANN, BOB = 0, 64_201, 64_202
@@ -237,7 +237,12 @@ def free_ports(count):
                 continue
 
 
-SCANS = {"flatbed:0": ["--mode", "Color"], "threepass:0": ["--mode", "Color"]}
+DEVICES = ["flatbed:0", "threepass:0"]
+
+
+def begins_to_scan(daemon, at, user, **more):
+    words = ["-d", f"net:localhost:{DEVICES[at % 2]}", "--port", str(daemon.port), "--resolution", "26", "--mode", "Color"]
+    return start(words, user=user, **more)
 
 
 def looped(tally, scale):
@@ -247,27 +252,23 @@ def looped(tally, scale):
         raster = random.Random(64).randbytes(3 * 300 * 300)
         with open(f"{folder}/page.ppm", "wb") as file:
             file.write(b"P6\n300 300\n255\n" + raster)
-        picture = netpbm("P6 300 300 255", raster)
         for pair in PAIRS:
             first = free_ports(8)
             words = ["--data-ports", f"{first}-{first + 7}"]
             with Daemon("".join(f"{kind} 0 26 {folder}/page.ppm\n" for kind in ("flatbed", "threepass")), *words) as daemon:
-                loops(tally, daemon, pair, range(first, first + 8), picture, scale["visits"])
+                pictures = [ending(begins_to_scan(daemon, at, pair[0])).out for at in range(len(DEVICES))]
+                tally.saw("a scan without strangers", "its picture", all(map(is_whole, pictures)))
+                loops(tally, daemon, pair, range(first, first + 8), pictures, scale["visits"])
 
 
-def loops(tally, daemon, pair, ports, picture, count):
+def loops(tally, daemon, pair, ports, pictures, count):
     fault = "a stranger of another user dials all data ports in a loop"
     out, into = os.pipe()
     prowler = child(pair[1], lambda: prowl(ports, into))
     os.close(into)
     for at in range(count):
-        device = list(SCANS)[at % 2]
-        words = ["-d", f"net:localhost:{device}", "--port", str(daemon.port), "--resolution", "26", "-x", "300", "-y", "300", *SCANS[device]]
-        with tempfile.TemporaryFile() as file:
-            process = start(words, stdout=file, user=pair[0])
-            ended = ending(process, PATIENCE)
-            file.seek(0)
-            is_right = (ended.status, file.read()) == (0, picture)
+        ended = ending(begins_to_scan(daemon, at, pair[0]), PATIENCE)
+        is_right = (ended.status, ended.out) == (0, pictures[at % 2])
         told = "the client waits for ever" if ended.status is None else "the picture to its client" if is_right else ended.what()
         tally.saw(fault, told, is_right, f"{PAIRS[pair]}, the scan {at}")
         if not is_right:

@@ -78,7 +78,7 @@ class Tunnel:
     """Carries connections at NEAR to the same ports of 127.0.0.1, but that of control connections, until it is left."""
 
     def __init__(self, control, daemon_port, data):
-        self.to, self.is_over = {}, threading.Event()
+        self.to, self.is_over, self.thread = {}, threading.Event(), None
         for near, far in [(control, daemon_port), *((it, it) for it in data)]:
             listener = socket.socket()
             listener.setsockopt(socket.SOL_SOCKET, socket.SO_REUSEADDR, 1)
@@ -88,11 +88,13 @@ class Tunnel:
         self.counts = dict.fromkeys(self.to.values(), 0)
 
     def __enter__(self):
-        threading.Thread(target=self.turn, daemon=True).start()
+        self.thread = threading.Thread(target=self.turn, daemon=True)
+        self.thread.start()
         return self
 
     def __exit__(self, *_):
         self.is_over.set()
+        self.thread.join()
         for each in self.to:
             each.close()
 

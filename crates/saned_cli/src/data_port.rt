@@ -8,11 +8,11 @@ use std::alloc::Global;
 use std::net::{Ipv4Addr, SocketAddr, SocketAddrV4};
 use std::os::unix::fs::FileExt;
 
-/// At most so many connections are taken at a time of those that wait: by one reading of the table of sockets, and by so many
-/// readings.
-const MOST_AT_ONCE: usize = 256;
+/// At most so many connections are taken for one reading of the table of sockets, and so many readings are made in a row: a
+/// stranger who dials without end costs few readings, and keeps no other session waiting for long.
+const MOST_AT_ONCE: usize = 1024;
 
-const MOST_READINGS: usize = 16;
+const MOST_READINGS: usize = 4;
 
 /// A port that waits for data connections.
 #[derive(Drop)]
