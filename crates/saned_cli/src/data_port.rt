@@ -1,7 +1,7 @@
 //! A port that waits for data connections.
 
 use crate::local::is_for_now;
-use crate::socket_file::SocketFile;
+use crate::socket_file::{MOST_LINES, SocketFile};
 use crate::socket_table::{is_among, sockets_of};
 use mio::net::{TcpListener, TcpStream};
 use std::alloc::Global;
@@ -19,7 +19,9 @@ const MOST_READINGS: usize = 4;
 pub struct DataPort {
     port: u16,
     listener: TcpListener,
-    /// The user who owns the session's control connection, where the system tells him.
+    /// The ends of the session's control connection, its client's and ours, until its owner is looked up.
+    control: Option<(SocketAddrV4, SocketAddrV4)>,
+    /// The user who owns it, where the system tells him.
     owner: Option<u32>,
     /// The newest connection that stands both ways.
     open: Option<TcpStream>,
@@ -28,20 +30,58 @@ pub struct DataPort {
     shut: Option<TcpStream>,
 }
 
-/// A connection that was just made, and the other end of it.
+/// A connection that was just made, the other end of it, and whether the table told that the session's user has that.
 #[derive(Drop)]
 struct Newcomer {
     stream: TcpStream,
     peer: SocketAddrV4,
+    is_his: bool,
+}
+
+/// Marks the newcomers whose end is that user's, by the table as it now is.
+fn mark_those_of<F: FileExt + Drop>(
+    alloc: Global,
+    user: u32,
+    ours: SocketAddrV4,
+    sockets: &SocketFile<F>,
+    newcomers: &mut [Newcomer],
+) {
+    let Some(mut lines) = sockets.lines() else {
+        return;
+    };
+    for _ in 0..MOST_LINES {
+        let Some(line) = lines.next() else {
+            return;
+        };
+        let Ok(his) = sockets_of(alloc, line, ours, user) else {
+            return;
+        };
+        if !his.is_empty() {
+            mark(newcomers, his.as_slice());
+        }
+    }
+}
+
+fn mark(newcomers: &mut [Newcomer], his: &[&[u8]]) {
+    for newcomer in newcomers.iter_mut() {
+        if is_among(his, newcomer.peer) {
+            newcomer.is_his = true;
+        }
+    }
 }
 
 impl DataPort {
-    /// A port of a session whose control connection that user owns.
-    pub fn new(port: u16, listener: TcpListener, owner: Option<u32>) -> DataPort {
+    /// A port of a session whose control connection has these ends.
+    pub fn new(
+        port: u16,
+        listener: TcpListener,
+        control: Option<(SocketAddrV4, SocketAddrV4)>,
+    ) -> DataPort {
         DataPort {
             port,
             listener,
-            owner,
+            control,
+            owner: None,
             open: None,
             shut: None,
         }
@@ -72,45 +112,52 @@ impl DataPort {
             let Ok((stream, SocketAddr::V4(peer))) = self.listener.accept() else {
                 return newcomers;
             };
-            let _ = newcomers.push(Newcomer { stream, peer });
+            let _ = newcomers.push(Newcomer {
+                stream,
+                peer,
+                is_his: false,
+            });
         }
         newcomers
     }
 
-    /// Keeps those of the newcomers that the session's user made, by the table; the others are closed.
-    fn admit(&mut self, alloc: Global, newcomers: Vec<Newcomer>, table: &[u8], user: u32) {
-        let ours = SocketAddrV4::new(Ipv4Addr::LOCALHOST, self.port);
-        let Ok(sockets) = sockets_of(alloc, table, ours, user) else {
-            return;
-        };
-        for Newcomer { stream, peer } in newcomers {
-            if is_among(sockets.as_slice(), peer) {
+    /// Keeps those of the newcomers that are the session's user's, and where he is not known all of them; the others are closed.
+    fn admit(&mut self, newcomers: Vec<Newcomer>) {
+        for Newcomer {
+            stream,
+            peer: _,
+            is_his,
+        } in newcomers {
+            if is_his || self.owner.is_none() {
                 self.keep(stream);
             }
         }
     }
 
-    /// Keeps all of them.
-    fn admit_all(&mut self, newcomers: Vec<Newcomer>) {
-        for Newcomer { stream, peer: _ } in newcomers {
-            self.keep(stream);
+    /// Looks up, once, who owns the control connection: as the session's first frame begins, when its client waits for the
+    /// answer to START.
+    fn look_up_owner<F: FileExt + Drop>(&mut self, sockets: &SocketFile<F>) {
+        if let Some((peer, ours)) = self.control.take() {
+            self.owner = sockets.owner_of(peer, ours);
         }
     }
 
     /// Takes all connections that wait.
     fn gather<F: FileExt + Drop>(&mut self, alloc: Global, sockets: &SocketFile<F>) {
+        self.look_up_owner(sockets);
         if let Some(stream) = self.open.take() {
             self.keep(stream);
         }
+        let ours = SocketAddrV4::new(Ipv4Addr::LOCALHOST, self.port);
         for _ in 0..MOST_READINGS {
-            let newcomers = self.newcomers(alloc);
+            let mut newcomers = self.newcomers(alloc);
             if newcomers.is_empty() {
                 return;
             }
-            match self.owner {
-                Some(user) => self.admit(alloc, newcomers, sockets.text().as_slice(), user),
-                None => self.admit_all(newcomers),
+            if let Some(user) = self.owner {
+                mark_those_of(alloc, user, ours, sockets, newcomers.as_mut_slice());
             }
+            self.admit(newcomers);
         }
     }
 

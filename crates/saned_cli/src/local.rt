@@ -8,14 +8,13 @@ use crate::data_port::DataPort;
 use crate::data_ports::PortRange;
 use crate::pace::Pace;
 use crate::socket_file::{SOCKET_TABLE, SocketFile};
-use crate::socket_table::owner_of;
 use mio::net::{TcpListener, TcpStream};
 use saned_serve::{Got, Listeners, Socket};
 use std::alloc::Global;
 use std::fs::Files;
 use std::io;
 use std::io::{ErrorKind, Read, Write};
-use std::net::{Ipv4Addr, Net, SocketAddr};
+use std::net::{Ipv4Addr, Net, SocketAddr, SocketAddrV4};
 use std::os::unix::fs::FileExt;
 use std::rc::Rc;
 use std::time::Clock;
@@ -36,8 +35,8 @@ where
     /// The ports of which data ports are; any that is free, where none are named.
     ports: Option<PortRange>,
     sockets: SocketFile<R::File>,
-    /// The user who owns the control connection that came last, where the system tells him.
-    owner: Option<u32>,
+    /// The ends of the control connection that came last, its client's and ours.
+    came: Option<(SocketAddrV4, SocketAddrV4)>,
     pace: Rc<Pace<R>>,
 }
 
@@ -99,7 +98,7 @@ where
             data,
             ports: None,
             sockets,
-            owner: None,
+            came: None,
             pace,
         })
     }
@@ -118,16 +117,13 @@ where
     fn place(&self, port: u16) -> Option<usize> {
         self.data.iter().position(|it| it.port() == port)
     }
+}
 
-    /// The user who owns the other end of a connection, where the system tells him.
-    fn owner_of(&self, stream: &TcpStream, peer: SocketAddr) -> Option<u32> {
-        let SocketAddr::V4(peer) = peer else {
-            return None;
-        };
-        let Ok(SocketAddr::V4(ours)) = stream.local_addr() else {
-            return None;
-        };
-        owner_of(self.sockets.text().as_slice(), peer, ours)
+/// The ends of a connection, its peer's and ours.
+fn ends(stream: &TcpStream, peer: SocketAddr) -> Option<(SocketAddrV4, SocketAddrV4)> {
+    match (peer, stream.local_addr()) {
+        (SocketAddr::V4(peer), Ok(SocketAddr::V4(ours))) => Some((peer, ours)),
+        _ => None,
     }
 }
 
@@ -192,7 +188,7 @@ where
         match self.control.accept() {
             Ok((stream, peer)) => {
                 self.pace.quicken();
-                self.owner = self.owner_of(&stream, peer);
+                self.came = ends(&stream, peer);
                 let pace = Rc::clone(&self.pace).ok()?;
                 Some(LocalSocket { stream, pace })
             }
@@ -204,14 +200,14 @@ where
     }
 
     // `serve` asks for a session's data port next behind its control connection, as `Opens` of the journal has it: so the port
-    // is of the user who owns the connection that came last.
+    // is of the session whose connection came last.
     fn open_data(&mut self) -> Option<u16> {
-        let owner = self.owner.take();
+        let control = self.came.take();
         let listener = listen_within(self.pace.runtime(), self.ports).ok()?;
         let port = listener.local_addr().ok()?.port();
         if self.data.len() < self.data.capacity() {
             self.data
-                .push_reserved(DataPort::new(port, listener, owner));
+                .push_reserved(DataPort::new(port, listener, control));
             return Some(port);
         }
         None
