@@ -19,9 +19,7 @@ const MOST_READINGS: usize = 4;
 pub struct DataPort {
     port: u16,
     listener: TcpListener,
-    /// The ends of the session's control connection, its client's and ours, until its owner is looked up.
-    control: Option<(SocketAddrV4, SocketAddrV4)>,
-    /// The user who owns it, where the system tells him.
+    /// The user who owns the session's control connection, where the system tells him.
     owner: Option<u32>,
     /// The newest connection that stands both ways.
     open: Option<TcpStream>,
@@ -71,17 +69,12 @@ fn mark(newcomers: &mut [Newcomer], his: &[&[u8]]) {
 }
 
 impl DataPort {
-    /// A port of a session whose control connection has these ends.
-    pub fn new(
-        port: u16,
-        listener: TcpListener,
-        control: Option<(SocketAddrV4, SocketAddrV4)>,
-    ) -> DataPort {
+    /// A port of a session whose control connection that user owns.
+    pub fn new(port: u16, listener: TcpListener, owner: Option<u32>) -> DataPort {
         DataPort {
             port,
             listener,
-            control,
-            owner: None,
+            owner,
             open: None,
             shut: None,
         }
@@ -134,17 +127,8 @@ impl DataPort {
         }
     }
 
-    /// Looks up, once, who owns the control connection: as the session's first frame begins, when its client waits for the
-    /// answer to START.
-    fn look_up_owner<F: FileExt + Drop>(&mut self, sockets: &SocketFile<F>) {
-        if let Some((peer, ours)) = self.control.take() {
-            self.owner = sockets.owner_of(peer, ours);
-        }
-    }
-
     /// Takes all connections that wait.
     fn gather<F: FileExt + Drop>(&mut self, alloc: Global, sockets: &SocketFile<F>) {
-        self.look_up_owner(sockets);
         if let Some(stream) = self.open.take() {
             self.keep(stream);
         }

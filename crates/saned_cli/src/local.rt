@@ -14,7 +14,7 @@ use std::alloc::Global;
 use std::fs::Files;
 use std::io;
 use std::io::{ErrorKind, Read, Write};
-use std::net::{Ipv4Addr, Net, SocketAddr, SocketAddrV4};
+use std::net::{Ipv4Addr, Net, SocketAddr};
 use std::os::unix::fs::FileExt;
 use std::rc::Rc;
 use std::time::Clock;
@@ -35,8 +35,8 @@ where
     /// The ports of which data ports are; any that is free, where none are named.
     ports: Option<PortRange>,
     sockets: SocketFile<R::File>,
-    /// The ends of the control connection that came last, its client's and ours.
-    came: Option<(SocketAddrV4, SocketAddrV4)>,
+    /// The user who owns the control connection that came last, where the system tells him.
+    owner: Option<u32>,
     pace: Rc<Pace<R>>,
 }
 
@@ -98,7 +98,7 @@ where
             data,
             ports: None,
             sockets,
-            came: None,
+            owner: None,
             pace,
         })
     }
@@ -119,10 +119,14 @@ where
     }
 }
 
-/// The ends of a connection, its peer's and ours.
-fn ends(stream: &TcpStream, peer: SocketAddr) -> Option<(SocketAddrV4, SocketAddrV4)> {
+/// The user who owns the other end of a connection, where the system tells him.
+fn owner_of<F: FileExt + Drop>(
+    sockets: &SocketFile<F>,
+    stream: &TcpStream,
+    peer: SocketAddr,
+) -> Option<u32> {
     match (peer, stream.local_addr()) {
-        (SocketAddr::V4(peer), Ok(SocketAddr::V4(ours))) => Some((peer, ours)),
+        (SocketAddr::V4(peer), Ok(SocketAddr::V4(ours))) => sockets.owner_of(peer, ours),
         _ => None,
     }
 }
@@ -188,7 +192,7 @@ where
         match self.control.accept() {
             Ok((stream, peer)) => {
                 self.pace.quicken();
-                self.came = ends(&stream, peer);
+                self.owner = owner_of(&self.sockets, &stream, peer);
                 let pace = Rc::clone(&self.pace).ok()?;
                 Some(LocalSocket { stream, pace })
             }
@@ -200,14 +204,14 @@ where
     }
 
     // `serve` asks for a session's data port next behind its control connection, as `Opens` of the journal has it: so the port
-    // is of the session whose connection came last.
+    // is of the user who owns the connection that came last.
     fn open_data(&mut self) -> Option<u16> {
-        let control = self.came.take();
+        let owner = self.owner.take();
         let listener = listen_within(self.pace.runtime(), self.ports).ok()?;
         let port = listener.local_addr().ok()?.port();
         if self.data.len() < self.data.capacity() {
             self.data
-                .push_reserved(DataPort::new(port, listener, control));
+                .push_reserved(DataPort::new(port, listener, owner));
             return Some(port);
         }
         None
