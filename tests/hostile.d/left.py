@@ -39,9 +39,12 @@ class Session:
     def __init__(self, daemon, samples, order):
         self.daemon, self.order, self.port = daemon, ORDERS[order], None
         self.picture = struct.pack(f"{'<' if order == 'little' else '>'}{len(samples)}H", *samples)
-        self.control = connected(daemon.port)
+        self.control = self.reaches(daemon.port)
         self.control.settimeout(PATIENCE)
         self.tells(wire.INIT + wire.opening("flatbed:0") + b"".join(SIDES), wire.INIT_REPLY + wire.OPEN_REPLY + SIDES_REPLIES)
+
+    def reaches(self, port):
+        return connected(port)
 
     def tells(self, requests, replies):
         self.control.sendall(requests)
@@ -65,7 +68,7 @@ class Session:
         self.tells(wire.cancelling(), CANCELLED)
 
     def dials(self, is_shut=False):
-        frame = connected(self.port)
+        frame = self.reaches(self.port)
         frame.settimeout(PATIENCE)
         if is_shut:
             frame.shutdown(socket.SHUT_WR)

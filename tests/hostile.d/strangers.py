@@ -1,5 +1,7 @@
 """A stranger without a password, who reads off the system where a daemon listens for data connections: he comes and goes
-between two frames, stays, or takes a frame for which its own client has not dialled yet."""
+between two frames, stays, or takes a frame for which its own client has not dialled yet. He is of the client's own user, or the
+daemon has no table of sockets by which it could tell users apart; strangers of other users are in owners.py."""
+import ctypes
 import os
 import socket
 import tempfile
@@ -151,8 +153,16 @@ def speaks(session):
 
 
 def slips_in(session):
-    """He comes and goes between START's answer and the client's own connection: nothing tells him from a client that only
-    reads, so he takes the frame, which goes to nobody."""
+    """He comes and goes between START's answer and the client's own connection: nobody owns what he left, so it is dropped."""
+    session.starts()
+    session.dials().close()
+    is_passed(session)
+    session.takes(session.dials())
+
+
+def slips_in_unseen(session):
+    """The same where no owner is told: nothing tells him from a client that only reads, so he takes the frame, which goes to
+    nobody."""
     session.starts()
     session.dials().close()
     is_passed(session)
@@ -163,8 +173,27 @@ def slips_in(session):
 
 def one_piece(session):
     """CANCEL and START in one piece while a frame waits, and the connection of the first frame closed before the daemon
-    takes either: it saw no moment without a frame that waits, so the connection that was left takes the second. Where the
-    daemon was stopped behind its look at the requests it took the connection first, and the frame streams."""
+    takes either: nobody owns it then, so it is dropped. Where the daemon was stopped behind its look at the requests it took
+    the connection first, and the frame streams."""
+    told = starts_in_one_piece(session)
+    if not told:
+        session.takes(session.dials())
+    return told
+
+
+def one_piece_unseen(session):
+    """The same where no owner is told: the daemon saw no moment without a frame that waits, so the connection that was left
+    takes the second."""
+    told = starts_in_one_piece(session)
+    if not told:
+        with session.dials() as own:
+            waits_in_vain(own)
+        goes_on(session)
+    return told
+
+
+def starts_in_one_piece(session):
+    """What came where the START is refused, as the first frame streams already, and the next frame is its client's."""
     session.starts()
     with session.daemon.stopped():
         session.dials().close()
@@ -178,9 +207,6 @@ def one_piece(session):
     if answer != wire.word(0) + wire.words(0, session.port, session.order) + wire.NULL:
         raise Differs(f"CANCEL and START are answered {answer.hex()}")
     is_passed(session)
-    with session.dials() as own:
-        waits_in_vain(own)
-    goes_on(session)
     return None
 
 
@@ -204,19 +230,45 @@ THEFTS = {
     stays: ("a stranger who stays at a data port before START", "the frame is his; after CANCEL the next is its client's"),
     stays_behind: ("a stranger who comes behind START's answer and stays", "the frame is his; after CANCEL the next is its client's"),
     speaks: ("a stranger who comes behind START's answer and speaks", "he is dropped without a byte; the frame is its client's"),
-    slips_in: ("a stranger who comes and goes between START's answer and the dial", "the frame is lost, its client waits; after CANCEL the next is its client's"),
-    one_piece: ("CANCEL and START in one piece, the connection left in between", "the frame is lost, its client waits; after CANCEL the next is its client's"),
+    slips_in: ("a stranger who comes and goes between START's answer and the dial", "he is dropped; the frame is its client's"),
+    one_piece: ("CANCEL and START in one piece, the connection left in between", "it is dropped; the frame is its client's"),
     one_piece_behind: ("CANCEL and START in one piece while a frame streams", "START is refused, busy; the next frame is its client's"),
 }
+# The same, where the daemon has no table of sockets.
+UNTOLD = {
+    stays: THEFTS[stays],
+    stays_behind: THEFTS[stays_behind],
+    speaks: THEFTS[speaks],
+    slips_in_unseen: (THEFTS[slips_in][0], "the frame is lost, its client waits; after CANCEL the next is its client's"),
+    one_piece_unseen: (THEFTS[one_piece][0], "the frame is lost, its client waits; after CANCEL the next is its client's"),
+    one_piece_behind: THEFTS[one_piece_behind],
+}
+
+
+def hide_the_table():
+    """In a process that has just begun: no /proc for it and what it starts."""
+    system = ctypes.CDLL(None, use_errno=True)
+    new_mounts, private = 0x20000, 0x44000
+    if system.unshare(new_mounts) or system.mount(b"none", b"/", None, private, None) or system.mount(b"none", b"/proc", b"tmpfs", 0, None):
+        raise OSError(ctypes.get_errno(), "no mounts of its own")
 
 
 def thefts(tally, scale):
     """What a data connection that carries no password lets happen, and that its client goes on behind it."""
+    theft(tally, scale, THEFTS, "")
+    if os.geteuid() == 0:
+        theft(tally, scale, UNTOLD, ", no /proc", preexec_fn=hide_the_table)
+    else:
+        print("hostile: not root, so no daemon is without /proc", flush=True)
+
+
+def theft(tally, scale, acts, where, **more):
     with tempfile.TemporaryDirectory() as folder:
         path, samples = noise_page(folder)
-        with Daemon(f"flatbed 0 26 {path}\n") as daemon:
+        with Daemon(f"flatbed 0 26 {path}\n", **more) as daemon:
             before = daemon.descriptors()
-            for act, (fault, told) in THEFTS.items():
+            for act, (fault, told) in acts.items():
+                fault += where
                 for at in range(max(2, scale["visits"] // 10)):
                     try:
                         session = Session(daemon, samples, "little")

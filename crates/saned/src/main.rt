@@ -32,7 +32,7 @@ fn serve_at(
     daemon: &mut Daemon,
 ) -> Result<(), DaemonEnding> {
     let mut net = match LocalNet::bind(*rt, rt.alloc(), options.port) {
-        Ok(net) => net,
+        Ok(net) => net.with_data_ports(options.data_ports),
         Err(e) if e.kind() == ErrorKind::OutOfMemory => return Err(DaemonEnding::NoMemory),
         Err(_) => return Err(DaemonEnding::CannotListen),
     };

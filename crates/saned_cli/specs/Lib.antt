@@ -1,3 +1,5 @@
 pub mod OptionsOfDaemon
 pub mod OptionWords
 pub mod DaemonEndings
+pub mod DataPorts
+pub mod SocketTable

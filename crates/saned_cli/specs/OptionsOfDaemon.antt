@@ -5,6 +5,7 @@ use Rattle.sane_fixed.specs.declared.byte_order.ByteOrder.TheVariants.{Little, B
 use Rattle.saned_requests.specs.declared.session.StringSize.{StringSize}
 use Rattle.saned_requests.specs.declared.session.StringSize.TheVariants.{OfText, OfOption}
 use Rattle.saned_cli.specs.OptionWords.{words_joined, option_value_of, is_pad_strings}
+use Rattle.saned_cli.specs.DataPorts.{ArePortsOf}
 use Rattle.saned_cli.specs.declared.daemon_options.DaemonOptions.{DaemonOptions}
 
 -- the number of an option between two others: the one that its text writes in decimal digits, without a sign or a leading
@@ -29,13 +30,14 @@ abbrev pub string_size_by : Bool → StringSize
 string_size_by true = OfOption
 string_size_by false = OfText
 
--- The options `--NAME=VALUE` give each its value, and the numbers are within their bounds: a port of 6566, no end by sessions
--- and one behind 10,000,000 idle turns where nothing is said; where there are users there is a seed.
+-- The options `--NAME=VALUE` give each its value, and the numbers are within their bounds: a port of 6566, no end by sessions,
+-- one behind 10,000,000 idle turns, and data ports of any number where nothing is said; where there are users there is a seed.
 pub record AreNamed (named : List (List ℕ)) (options : DaemonOptions) : Type 0 where
   pub config : option_value_of (codes "--config=") named ≡ Some (string_bytes options.config)
   pub users : option_value_of (codes "--users=") named ≡ option_map string_bytes options.users
   pub seed : option_value_of (codes "--seed=") named ≡ option_map string_bytes options.seed
   pub port : IsNumberOf 0 65535 6566 (option_value_of (codes "--port=") named) options.port
+  pub data_ports : ArePortsOf (option_value_of (codes "--data-ports=") named) options.data_ports
   pub byte_order : IsOrderOf (option_value_of (codes "--byte-order=") named) options.byte_order
   pub sessions : IsNumberOf 0 1000000000 0 (option_value_of (codes "--sessions=") named) options.sessions
   pub idle_turns : IsNumberOf 1 1000000000 10000000 (option_value_of (codes "--idle-turns=") named) options.idle_turns

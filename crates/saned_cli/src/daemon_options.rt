@@ -1,8 +1,11 @@
-ghost use Rattle.std.specs.Prelude.{◌≡◌, ◌≤◌, ◌<◌, ◌^◌, ℕ, IfErr, IfOk, map, option_map, string_bytes};
+ghost use Rattle.std.specs.Prelude.{◌≡◌, ◌≤◌, ◌<◌, ◌^◌, ℕ, Option, IfErr, IfOk, map, option_map, string_bytes};
 ghost use Rattle.saned_cli.specs.OptionsOfDaemon.{AreNamed, IsNumberOf, AreDaemonOptions, IsOrderOf, has_pad_strings, string_size_by};
 ghost use Rattle.saned_cli.specs.OptionWords.{value_behind, option_value_of};
+ghost use Rattle.saned_cli.specs.DataPorts.{ArePortsOf};
+ghost use Rattle.saned_cli.specs.declared.data_ports.PortRange.{PortRange as APortRange};
 
 use crate::daemon_words::{is_pad_strings, plain_number, words_joined};
+use crate::data_ports::{PortRange, port_range};
 use clap::error::ErrorKind;
 use clap::{Arg, ArgAction, ArgMatches, Command};
 use sane_fixed::ByteOrder;
@@ -19,6 +22,8 @@ pub struct DaemonOptions {
     pub seed: Option<String>,
     /// 0 for any that is free.
     pub port: u16,
+    /// The ports of which data ports are; none for any that are free.
+    pub data_ports: Option<PortRange>,
     pub byte_order: ByteOrder,
     /// How string values are sent.
     pub strings: StringSize,
@@ -89,6 +94,7 @@ fn command<'a>(alloc: Global) -> Result<Command<'a>, AllocError> {
         .arg(value(alloc, "users"))?
         .arg(value(alloc, "seed"))?
         .arg(value(alloc, "port"))?
+        .arg(value(alloc, "data-ports"))?
         .arg(value(alloc, "byte-order"))?
         .arg(value(alloc, "sessions"))?
         .arg(value(alloc, "idle-turns"))?
@@ -217,6 +223,22 @@ fn number(
     }
 }
 
+/// The ports that a text names as `FROM-TO`, none where there is no text. `Bad` just where the text names none so.
+fn named_ports(text: Option<&str>) -> Result<Option<PortRange>, DaemonOptionsFault>
+    ensures ok { IfOk result (ArePortsOf (option_map (λ text. text.now) text.entry)) }
+    ensures err { IfErr result (λ fault. (fault ≡ DaemonOptionsFault.Bad)
+        × ((ports : Option APortRange)
+        → ¬ ArePortsOf (option_map (λ text. text.now) text.entry) ports)) }
+{
+    let Some(text) = text else {
+        return Ok(None);
+    };
+    match port_range(text.as_bytes()) {
+        Some(ports) => Ok(Some(ports)),
+        None => Err(DaemonOptionsFault::Bad),
+    }
+}
+
 /// What the options of the command line give, each the value that stands in it, where `clap` reads the same.
 fn options_found(
     alloc: Global,
@@ -235,6 +257,7 @@ fn options_found(
         return Err(DaemonOptionsFault::Bad);
     }
     let port = agreed(found.get_str("port"), b"--port=", options)?;
+    let data_ports = agreed(found.get_str("data-ports"), b"--data-ports=", options)?;
     let order = agreed(found.get_str("byte-order"), b"--byte-order=", options)?;
     let sessions = agreed(found.get_str("sessions"), b"--sessions=", options)?;
     let turns = agreed(found.get_str("idle-turns"), b"--idle-turns=", options)?;
@@ -243,6 +266,7 @@ fn options_found(
         users,
         seed,
         port: number(port, SANE_PORT, 0, MOST_PORT)? as u16,
+        data_ports: named_ports(data_ports)?,
         byte_order: byte_order(order)?,
         strings: strings(found.get_flag("pad-strings"), options)?,
         sessions: number(sessions, 0, 0, MOST_SESSIONS)?,
@@ -253,8 +277,8 @@ fn options_found(
 /// The options that the words of the command line give, each with the value that its word has; the first word is the program's
 /// name, and the word behind an option's name is its value, whatever it begins with; the flag has none. `Bad` where a word stands
 /// in no option's place, where a value is missing or empty, where `clap` refuses the options or reads another value, where a
-/// number is not within its bounds or has a sign or a leading zero, where there is no config, and where there are users and no
-/// seed; `NoMem` where there is no memory.
+/// number is not within its bounds or has a sign or a leading zero, where data ports are no two such numbers, the first at most
+/// the second, where there is no config, and where there are users and no seed; `NoMem` where there is no memory.
 pub fn read_options(alloc: Global, words: &[String]) -> Result<DaemonOptions, DaemonOptionsFault>
     /// Each option of saned has the value that the words give it, or its default; numbers are within their bounds,
     /// and there is a seed where there are users.

@@ -48,6 +48,17 @@ pub fn plain_number(text: &str) -> Option<u64>
     }
 }
 
+/// The number that bytes write so.
+pub fn plain_number_of(bytes: &[u8]) -> Option<u64>
+    ensures some { IfSome result (λ n. bytes.now ≡ decimal n) }
+    ensures none { IfNone result ((n : ℕ) → n < 2 ^ 64 → bytes.now ≢ decimal n) }
+{
+    match str::from_utf8(bytes) {
+        Ok(text) => plain_number(text),
+        Err(_) => None,
+    }
+}
+
 fn add(alloc: Global, options: &mut Vec<String>, option: &str) -> Result<(), DaemonOptionsFault>
     ensures added { IfOk result (λ _. map string_bytes options.new.items
         ≡ map string_bytes options.old.items ++ option.now ∷ []) }

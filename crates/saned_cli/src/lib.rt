@@ -5,14 +5,21 @@
 mod daemon_ending;
 mod daemon_options;
 mod daemon_words;
+mod data_port;
+mod data_ports;
 mod limited_reading;
 mod local;
 mod pace;
 mod seed;
+mod socket_file;
+mod socket_table;
+mod table_fields;
 
 pub use daemon_ending::DaemonEnding;
 pub use daemon_options::{DaemonOptions, DaemonOptionsFault, read_options};
+pub use data_ports::{PortRange, port_range};
 pub use limited_reading::{MOST_OF_CONFIG, MOST_OF_USERS, text_of};
 pub use local::{LocalNet, LocalSocket};
 pub use saned_serve::{Got, Listeners, ServeEnd, Socket, serve};
 pub use seed::read_seed;
+pub use socket_table::{is_among, owner_of, sockets_of};

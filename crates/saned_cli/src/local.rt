@@ -4,41 +4,40 @@ ghost use Rattle.saned_serve.specs.ConnectionTraces.{MovesWithin, after_read, af
 ghost use Rattle.saned_serve.specs.ListenerTraces.{with_notice};
 ghost use Rattle.saned_serve.specs.ListenerTraces.Notice.{Asked, Port, Forgot, Dialed, Shut, Back};
 
+use crate::data_port::DataPort;
+use crate::data_ports::PortRange;
 use crate::pace::Pace;
+use crate::socket_file::{SOCKET_TABLE, SocketFile};
 use mio::net::{TcpListener, TcpStream};
 use saned_serve::{Got, Listeners, Socket};
 use std::alloc::Global;
+use std::fs::Files;
 use std::io;
 use std::io::{ErrorKind, Read, Write};
 use std::net::{Ipv4Addr, Net, SocketAddr};
+use std::os::unix::fs::FileExt;
 use std::rc::Rc;
 use std::time::Clock;
 
 /// As many data ports as there are sessions.
 const MOST_PORTS: usize = 8;
 
-/// At most so many connections are taken at a time of those that wait at a data port.
-const MOST_WAITING: usize = 4096;
-
 /// Connections on 127.0.0.1 that never wait for a peer. Where nothing moves for long each turn naps; while bytes move the
 /// system is asked for a new connection in one accept of sixteen.
 #[derive(Drop)]
-pub struct LocalNet<R: Net + Clock + Drop> {
+pub struct LocalNet<R: Net + Clock + Files + Drop>
+where
+    R::File: FileExt,
+{
+    alloc: Global,
     control: TcpListener,
     data: Vec<DataPort>,
+    /// The ports of which data ports are; any that is free, where none are named.
+    ports: Option<PortRange>,
+    sockets: SocketFile<R::File>,
+    /// The user who owns the control connection that came last, where the system tells him.
+    owner: Option<u32>,
     pace: Rc<Pace<R>>,
-}
-
-/// A port that waits for data connections.
-#[derive(Drop)]
-struct DataPort {
-    port: u16,
-    listener: TcpListener,
-    /// The newest connection that stands both ways.
-    open: Option<TcpStream>,
-    /// The newest whose peer ended its side: it closed it, or only means to read, as SANE's own clients do. Nothing but a
-    /// write tells the two apart.
-    shut: Option<TcpStream>,
 }
 
 /// A connection on 127.0.0.1 whose calls never wait, but for the naps of a net at rest.
@@ -53,56 +52,61 @@ fn listen(rt: &impl Net, port: u16) -> io::Result<TcpListener> {
 }
 
 /// Whether a call that failed may be made again.
-fn is_for_now(e: &io::Error) -> bool
+pub fn is_for_now(e: &io::Error) -> bool
     ensures { IsTrue result ↔ (error_kind e.now ≡ ErrorKind.WouldBlock)
         ⊎ (error_kind e.now ≡ ErrorKind.Interrupted) }
 {
     matches!(e.kind(), ErrorKind::WouldBlock | ErrorKind::Interrupted)
 }
 
-impl DataPort {
-    /// Keeps a connection by what its peer has done: one that is broken, or whose peer speaks, is closed.
-    fn keep(&mut self, stream: TcpStream) {
-        match stream.peek(&mut [0]) {
-            Ok(0) => self.shut = Some(stream),
-            Err(e) if is_for_now(&e) => self.open = Some(stream),
-            // Where only a daemon speaks, a peer that does is no client.
-            Ok(_) | Err(_) => drop(stream),
+/// The first of these ports that is free; of all, where none are named.
+fn listen_within(rt: &impl Net, ports: Option<PortRange>) -> io::Result<TcpListener> {
+    let Some(PortRange { first, last }) = ports else {
+        return listen(rt, 0);
+    };
+    for port in first..last {
+        if let Ok(listener) = listen(rt, port) {
+            return Ok(listener);
         }
     }
-
-    /// Takes all connections that wait.
-    fn gather(&mut self) {
-        if let Some(stream) = self.open.take() {
-            self.keep(stream);
-        }
-        for _ in 0..MOST_WAITING {
-            let Ok((stream, _)) = self.listener.accept() else {
-                return;
-            };
-            self.keep(stream);
-        }
-    }
-
-    /// The connection that a frame takes; the others are closed.
-    fn taken(&mut self) -> Option<TcpStream> {
-        self.gather();
-        let shut = self.shut.take();
-        self.open.take().or(shut)
-    }
+    listen(rt, last)
 }
 
-impl<R: Net + Clock + Drop> LocalNet<R> {
+impl<R: Net + Clock + Files + Drop> LocalNet<R>
+where
+    R::File: FileExt,
+{
     /// Listens at that port, or where it is 0 at any that is free.
     pub fn bind(rt: R, alloc: Global, port: u16) -> io::Result<LocalNet<R>> {
+        LocalNet::bind_with_table(rt, alloc, port, SOCKET_TABLE)
+    }
+
+    /// The same, where the system tells its sockets in that file.
+    pub fn bind_with_table(
+        rt: R,
+        alloc: Global,
+        port: u16,
+        table: &str,
+    ) -> io::Result<LocalNet<R>> {
         let data = Vec::with_capacity(alloc, MOST_PORTS)?;
         let control = listen(&rt, port)?;
+        let sockets = SocketFile::open(&rt, alloc, table);
         let pace = Pace::new(alloc, rt)?;
         Ok(LocalNet {
+            alloc,
             control,
             data,
+            ports: None,
+            sockets,
+            owner: None,
             pace,
         })
+    }
+
+    /// With data ports of these alone, where some are named.
+    pub fn with_data_ports(mut self, ports: Option<PortRange>) -> LocalNet<R> {
+        self.ports = ports;
+        self
     }
 
     /// The port of control connections.
@@ -111,12 +115,19 @@ impl<R: Net + Clock + Drop> LocalNet<R> {
     }
 
     fn place(&self, port: u16) -> Option<usize> {
-        self.data.iter().position(|it| it.port == port)
+        self.data.iter().position(|it| it.port() == port)
     }
+}
 
-    fn data_port(&mut self, port: u16) -> Option<&mut DataPort> {
-        let at = self.place(port)?;
-        self.data.get_mut(at)
+/// The user who owns the other end of a connection, where the system tells him.
+fn owner_of<F: FileExt + Drop>(
+    sockets: &SocketFile<F>,
+    stream: &TcpStream,
+    peer: SocketAddr,
+) -> Option<u32> {
+    match (peer, stream.local_addr()) {
+        (SocketAddr::V4(peer), Ok(SocketAddr::V4(ours))) => sockets.owner_of(peer, ours),
+        _ => None,
     }
 }
 
@@ -170,7 +181,10 @@ impl<R: Clock + Drop> Socket for LocalSocket<R> {
     }
 }
 
-impl<R: Net + Clock + Drop> Listeners for LocalNet<R> {
+impl<R: Net + Clock + Files + Drop> Listeners for LocalNet<R>
+where
+    R::File: FileExt,
+{
     type Conn = LocalSocket<R>;
 
     fn accept(&mut self) -> Option<LocalSocket<R>> {
@@ -178,8 +192,9 @@ impl<R: Net + Clock + Drop> Listeners for LocalNet<R> {
             return None;
         }
         match self.control.accept() {
-            Ok((stream, _)) => {
+            Ok((stream, peer)) => {
                 self.pace.quicken();
+                self.owner = owner_of(&self.sockets, &stream, peer);
                 let pace = Rc::clone(&self.pace).ok()?;
                 Some(LocalSocket { stream, pace })
             }
@@ -190,30 +205,31 @@ impl<R: Net + Clock + Drop> Listeners for LocalNet<R> {
         }
     }
 
+    // `serve` asks for a session's data port next behind its control connection, as `Opens` of the journal has it: so the port
+    // is of the user who owns the connection that came last.
     fn open_data(&mut self) -> Option<u16> {
-        let listener = listen(self.pace.runtime(), 0).ok()?;
+        let owner = self.owner.take();
+        let listener = listen_within(self.pace.runtime(), self.ports).ok()?;
         let port = listener.local_addr().ok()?.port();
         if self.data.len() < self.data.capacity() {
-            self.data.push_reserved(DataPort {
-                port,
-                listener,
-                open: None,
-                shut: None,
-            });
+            self.data
+                .push_reserved(DataPort::new(port, listener, owner));
             return Some(port);
         }
         None
     }
 
     fn forget_ended(&mut self, port: u16) {
-        if let Some(at) = self.data_port(port) {
-            at.gather();
-            at.shut = None;
+        if let Some(at) = self.place(port) {
+            if let Some(data_port) = self.data.get_mut(at) {
+                data_port.forget_ended(self.alloc, &self.sockets);
+            }
         }
     }
 
     fn accept_data(&mut self, port: u16) -> Option<LocalSocket<R>> {
-        let stream = self.data_port(port)?.taken()?;
+        let at = self.place(port)?;
+        let stream = self.data.get_mut(at)?.taken(self.alloc, &self.sockets)?;
         self.pace.quicken();
         let pace = Rc::clone(&self.pace).ok()?;
         Some(LocalSocket { stream, pace })

@@ -1,2 +1,3 @@
 mod loopback;
+mod owners;
 mod words;

@@ -3,7 +3,7 @@ use dispatch::{ConfigFault, ConfigReason};
 use md5_auth::{LineFault, LineReason};
 use sane_fixed::ByteOrder;
 use saned_cli::{
-    DaemonEnding, DaemonOptions, DaemonOptionsFault, read_options, read_seed, text_of,
+    DaemonEnding, DaemonOptions, DaemonOptionsFault, PortRange, read_options, read_seed, text_of,
 };
 use saned_requests::StringSize;
 use std::alloc::Global;
@@ -38,6 +38,21 @@ fn defaults(rt: HostRuntime) -> Result<(), Fail> {
     assert!(rt; found.sessions == 0);
     assert!(rt; found.idle_turns == 10_000_000);
     assert!(rt; found.strings == StringSize::OfText);
+    assert!(rt; found.data_ports.is_none());
+    Ok(())
+}
+
+/// Two numbers with a dash between.
+#[test]
+fn data_ports(rt: HostRuntime) -> Result<(), Fail> {
+    for (line, first, last) in [
+        ("--data-ports 10000-10007 --config c", 10_000, 10_007),
+        ("--config c --data-ports=1-65535", 1, 65_535),
+        ("--config c --data-ports 7-7", 7, 7),
+    ] {
+        let found = options(&rt, rt.alloc(), line)?;
+        assert!(rt; found.data_ports == Some(PortRange { first, last }));
+    }
     Ok(())
 }
 
@@ -148,6 +163,24 @@ const BAD: &[&str] = &[
     "--config c --pad-strings=true",
     "--config c --pad-strings --pad-strings",
     "--config c --pad-string",
+    "--config c --data-ports",
+    "--config c --data-ports=",
+    "--config c --data-ports 10000",
+    "--config c --data-ports -10000",
+    "--config c --data-ports 10000-",
+    "--config c --data-ports -",
+    "--config c --data-ports 0-7",
+    "--config c --data-ports 8-7",
+    "--config c --data-ports 1-65536",
+    "--config c --data-ports 01-7",
+    "--config c --data-ports 1-07",
+    "--config c --data-ports +1-7",
+    "--config c --data-ports 1-+7",
+    "--config c --data-ports 1--7",
+    "--config c --data-ports 1-7-9",
+    "--config c --data-ports 1:7",
+    "--config c --data-ports x-y",
+    "--config c --data-ports 1-7 --data-ports 1-7",
 ];
 
 #[test]
