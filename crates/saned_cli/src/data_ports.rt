@@ -27,6 +27,8 @@ fn port_number(text: &[u8]) -> Option<u16>
 
 /// The ports that a text names as `FROM-TO`.
 pub fn port_range(text: &[u8]) -> Option<PortRange>
+    /// Data ports are named as `FROM-TO`, two numbers of 1 to 65535 in plain digits, the first at most the second, and by no
+    /// other text.
     ensures some { IfSome result (IsPortRange text.now) }
     ensures none { IfNone result ((ports : APortRange) → ¬ IsPortRange text.now ports) }
 {

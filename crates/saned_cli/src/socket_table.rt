@@ -101,6 +101,8 @@ fn owner_in(line: &[u8]) -> Option<u32>
 /// The user who owns the peer's end of a connection whose ends are `peer` and `ours`, by the system's table of sockets. `None`
 /// just where the table has no line of that end or more than one, or where nobody has that socket any more.
 pub fn owner_of(table: &[u8], peer: SocketAddrV4, ours: SocketAddrV4) -> Option<u32>
+    /// A user owns the peer's end of a connection just where the system's table of sockets has one line for that end, of a
+    /// socket that a process has, with that user.
     ensures some { IfSome result (λ user. IsOwner table.now peer ours user) }
     ensures none { IfNone result
         ((user : ℕ) → user < 2 ^ 32 → ¬ IsOwner table.now peer ours user) }
@@ -161,6 +163,7 @@ pub fn sockets_of<'a>(
     ours: SocketAddrV4,
     user: u32,
 ) -> Result<Vec<&'a [u8]>, AllocError>
+    /// The sockets of a user that are connected to an end of ours are those whose lines name both, and which a process has.
     ensures { IfOk result (λ lines. map (λ line. line.now) lines.items
         ≡ held_lines (end_text ours) (decimal user) table.now) }
 {
@@ -188,6 +191,7 @@ fn is_end_among(own: &[u8], lines: &[&[u8]]) -> bool
 
 /// Whether one of the lines is of the socket at that end of a connection.
 pub fn is_among(lines: &[&[u8]], peer: SocketAddrV4) -> bool
+    /// A connection's other end is among such lines just where one of them has it as its socket's own end.
     ensures { result ≡ is_end_among (end_text peer) (map (λ line. line.now) lines.now) }
 {
     is_end_among(&end_text(peer), lines)
