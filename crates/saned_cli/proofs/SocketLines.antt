@@ -8,7 +8,7 @@ use Rattle.std.proofs.lemmas.Fmt.{decimal_injective}
 use Rattle.std.specs.declared.net.socket_addr.SocketAddrV4.{SocketAddrV4}
 use Rattle.text_lines.specs.Lines.{lines_of}
 use Rattle.dispatch.specs.ConfigLines.{fields_of}
-use Rattle.saned_cli.specs.SocketTable.{IsOwnedBy, IsOwner, end_text, held_lines, is_held, is_socket_between, sockets_between}
+use Rattle.saned_cli.specs.SocketTable.{IsOwnedBy, IsOwner, end_text, held_lines, is_held_socket, is_socket_between, sockets_between}
 
 -- ---- places in a list
 
@@ -79,12 +79,12 @@ of_one_line table peer ours line user only not_owned owner =
 
 -- ---- a user's sockets
 
-pub held : (peer user text line rest : List ℕ) → lines_of text ≡ line ∷ lines_of rest → is_held peer user line ≡ true
+pub held : (peer user text line rest : List ℕ) → lines_of text ≡ line ∷ lines_of rest → is_held_socket peer user line ≡ true
     → held_lines peer user text ≡ line ∷ held_lines peer user rest
 unfolding held_lines
 held peer user text line rest first is = rw (first, is) refl
 
-pub not_held : (peer user text line rest : List ℕ) → lines_of text ≡ line ∷ lines_of rest → is_held peer user line ≡ false
+pub not_held : (peer user text line rest : List ℕ) → lines_of text ≡ line ∷ lines_of rest → is_held_socket peer user line ≡ false
     → held_lines peer user text ≡ held_lines peer user rest
 unfolding held_lines
 not_held peer user text line rest first is = rw (first, is) refl

@@ -56,8 +56,8 @@ is_had line = is_inode (slice_get (fields_of line) 9)
     is_inode (Some inode) = not (bytes_eq inode (codes "0"))
 
 -- a line is of a socket of that user which has this peer's end, and some process has it
-abbrev pub is_held : List ℕ → List ℕ → List ℕ → Bool
-is_held peer user line = is_in_field 2 peer line && is_in_field 7 user line && is_had line
+abbrev pub is_held_socket : List ℕ → List ℕ → List ℕ → Bool
+is_held_socket peer user line = is_in_field 2 peer line && is_in_field 7 user line && is_had line
 
 -- one of the lines has that text as its socket's own end
 abbrev pub is_end_among : List ℕ → List (List ℕ) → Bool
@@ -66,4 +66,4 @@ is_end_among own (line ∷ lines) = is_in_field 1 own line || is_end_among own l
 
 -- the lines of such sockets
 unfoldable pub held_lines : List ℕ → List ℕ → List ℕ → List (List ℕ)
-held_lines peer user table = filter (is_held peer user) (lines_of table)
+held_lines peer user table = filter (is_held_socket peer user) (lines_of table)

@@ -3,7 +3,7 @@
 ghost use Rattle.std.specs.Prelude.{◌≡◌, ◌≢◌, ◌<◌, ◌^◌, ◌∷◌, ◌++◌, [], ℕ, List, IfNone, IfOk, IfSome, MatchOption, decimal, map};
 ghost use Rattle.std.specs.Net.Addr.{ipv4_octets};
 ghost use Rattle.std.specs.Net.Socket.{v4_ip, v4_port};
-ghost use Rattle.saned_cli.specs.SocketTable.{IsOwner, IsOwnedBy, end_text, held_lines, is_end_among, is_had, is_held, is_in_field, is_socket_between, sockets_between};
+ghost use Rattle.saned_cli.specs.SocketTable.{IsOwner, IsOwnedBy, end_text, held_lines, is_end_among, is_had, is_held_socket, is_in_field, is_socket_between, sockets_between};
 ghost use Rattle.hex.specs.Hex.{encode_upper};
 
 use crate::daemon_words::plain_number_of;
@@ -120,8 +120,8 @@ fn is_had(line: &[u8]) -> bool
 }
 
 /// Whether a line is of a socket of that user which has this peer's end.
-fn is_held(peer: &[u8], user: &[u8], line: &[u8]) -> bool
-    ensures { result ≡ is_held peer.now user.now line.now }
+fn is_held_socket(peer: &[u8], user: &[u8], line: &[u8]) -> bool
+    ensures { result ≡ is_held_socket peer.now user.now line.now }
 {
     field_at(line, PEER_END) == Some(peer) && field_at(line, USER) == Some(user) && is_had(line)
 }
@@ -146,7 +146,7 @@ fn held_lines<'a>(
     let mut lines = Vec::new(alloc);
     let mut rest = table;
     while let Some((line, after)) = first_line(rest) {
-        if is_held(peer, user, line) {
+        if is_held_socket(peer, user, line) {
             add(&mut lines, line)?;
         }
         rest = after;
