@@ -1,4 +1,5 @@
 """A daemon that says half of each reply before it was asked, and clients who come while the bytes of a frame move."""
+import contextlib
 import select
 import statistics
 import tempfile
@@ -17,10 +18,10 @@ SIDE = 2362
 
 
 def replies_of(port):
-    """The replies to a scan of one pixel, one by one."""
+    """The replies to a scan of one pixel, one by one, up to that which tells its parameters."""
     values = [wire.words(0, 4) + wire.one_word(*it) + wire.NULL for it in [(1, 26), (2, 65536), (2, 65536)]]
     started = wire.words(0, port, 0x1234) + wire.NULL
-    return [wire.INIT_REPLY, wire.OPEN_REPLY, wire.descriptors(wire.FLATBED), *values, started, PARAMS, wire.word(0)]
+    return [wire.INIT_REPLY, wire.OPEN_REPLY, wire.descriptors(wire.FLATBED), *values, started, PARAMS]
 
 
 def came(control, least, limit):
@@ -63,6 +64,10 @@ def talk(wanted):
                 if wanted and counts[-1] < wanted[at]:
                     break
                 control.sendall(reply[told:])
+            # It closes the device and goes, and need not wait for an answer.
+            with contextlib.suppress(OSError):
+                came(control, 1, 20)
+                control.sendall(wire.word(0))
             return counts, ending(process)
 
 
@@ -73,15 +78,16 @@ def early(tally, scale):
     counts, ended = talk(plain)
     told = "each request, and the picture" if ended.out == DOT and counts == plain else f"requests of {counts} bytes, {ended.what()}"
     tally.saw("a daemon that says half of each reply before it was asked", told, (counts, ended.status, ended.out) == (plain, 0, DOT), f"{plain}")
-    visits(tally, scale)
+    visits(tally, scale, "eight megabytes a second", "300", RATE)
+    visits(tally, scale, "as fast as it goes", "1200", 0)
 
 
-def drink(process):
-    """Reads what a program writes, at RATE."""
+def drink(process, rate):
+    """Reads what a program writes, at so many bytes a second, or as fast as it comes."""
     began, count = time.time(), 0
     while piece := process.stdout.read1(PIECE):
         count += len(piece)
-        time.sleep(max(0, began + count / RATE - time.time()))
+        time.sleep(max(0, began + count / rate - time.time()) if rate else 0)
 
 
 def written(page):
@@ -91,19 +97,19 @@ def written(page):
     return page.name
 
 
-def visits(tally, scale):
-    """Clients who come while eight megabytes a second move are answered soon."""
+def visits(tally, scale, about, resolution, rate):
+    """Clients who come while a frame streams are answered soon."""
     with tempfile.NamedTemporaryFile(suffix=".ppm") as page, Daemon(f"flatbed 0 300 {written(page)}\n") as daemon:
-        words = ["-d", "net:localhost:flatbed:0", "--port", str(daemon.port), "--mode", "Color", "--resolution", "300", "-x", "200", "-y", "200"]
+        words = ["-d", "net:localhost:flatbed:0", "--port", str(daemon.port), "--mode", "Color", "--depth", "16", "--resolution", resolution, "-x", "200", "-y", "200"]
         process = start(words)
-        drinking = threading.Thread(target=drink, args=(process,))
+        drinking = threading.Thread(target=drink, args=(process, rate))
         drinking.start()
         took = [visit(daemon.port) for _ in range(scale["visits"]) if process.poll() is None]
         process.kill()
         drinking.join()
         process.wait()
     middle = statistics.median(took) if took else LIMIT
-    tally.saw("a client who comes while a frame streams", f"answered within {SOON:.1f} s" if middle < SOON else f"{middle:.2f} s", middle < SOON, f"{len(took)} visits, the longest {max(took, default=0):.3f} s")
+    tally.saw(f"a client who comes while a frame streams, {about}", f"answered within {SOON:.1f} s" if middle < SOON else f"{middle:.2f} s", middle < SOON, f"{len(took)} visits, the longest {max(took, default=0):.3f} s")
 
 
 def visit(port):

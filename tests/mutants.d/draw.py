@@ -51,8 +51,7 @@ def drawn(edits):
     """The edits that the gate tries, at most MOST: new ones, those that a change touches, and how many these are; then of the others
     one in SHARE by the commit's hash, by crates, since the edits of a crate share its checks."""
     commit, bases = git("rev-parse", "HEAD"), dict(ROW.findall(read(PAGE))) if os.path.isfile(PAGE) else {}
-    changed = lambda it: changed_since(bases.get(it.crate, ""))
-    place = lambda text: hashlib.sha256((commit + text).encode()).hexdigest()
+    changed, place = lambda it: changed_since(bases.get(it.crate, "")), lambda text: hashlib.sha256((commit + text).encode()).hexdigest()
     by_crate = sorted(edits, key=lambda it: (place(it.crate), place(it.name)))
     touched = sorted((it for it in by_crate if is_touched(it, changed(it))), key=lambda it: it.path not in changed(it))[:MOST]
     rest = [it for it in by_crate if it not in touched]

@@ -6,8 +6,8 @@ from parse import functions
 
 NOTE = re.compile(r"^(?:note: )?(?:\./)?(src/\S+?):(\d+):\d+: (?:error: )?(.*)")
 TOLD = re.compile(r"^(?:fn|impl|struct|enum|const|trait) (\S+): (.*)")
+# what is said of a goal, and what a tactic within a function's proof says of one that it was given
 GOAL = "it is not proved"
-# what a tactic within a function's proof says of a goal that it was given
 FOUND_NONE = re.compile(r"`search`: no proof of|`omega`: the goal does not follow|`grind`: no proof of")
 PROOF_ERROR = re.compile(r"^(?:\./)?((?:proofs|specs)/\S+?):\d+:\d+: (?!warning:)(?:error: )?(.*)")
 # in an Answers.antt: where a term has another type than it must, what ends one that no bracket ends, and the rules of `search`

@@ -4,6 +4,7 @@ import os
 import shutil
 import subprocess
 import tempfile
+import time
 from concurrent.futures import ThreadPoolExecutor
 
 from crates import below, crates
@@ -12,7 +13,7 @@ from parse import FUNCTION, ROOT, functions, read
 
 KIT = functools.cache(lambda: os.path.dirname(subprocess.run(["rt", "doc"], capture_output=True, text=True, check=True).stdout.strip()))
 # what an edit comes to: a goal, or of a statement a law, refuses it; only code does; only a proof's text; nothing; it is no edit
-GOAL, LAW, CODE, TEXT, NOT, BAD = "by a goal", "by a law", "by code alone", "by a text alone", "not refused", "no edit"
+GOAL, LAW, CODE, TEXT, NOT, BAD, LEFT = "by a goal", "by a law", "by code alone", "by a text alone", "not refused", "no edit", "left, for time"
 
 
 def rattle(crate, folder, kept, jobs):
@@ -40,8 +41,8 @@ def laws_of(crate):
 class Bench:
     """A crate that stands proved, and copies of it in which edits are tried, so many at a time as there are lanes."""
 
-    def __init__(self, crate, at, lanes, jobs):
-        self.crate, self.at, self.lanes, self.laws, self.seed = crate, at, lanes, laws_of(crate), f"{at}/seed"
+    def __init__(self, crate, at, lanes, jobs, until):
+        self.crate, self.at, self.lanes, self.laws, self.seed, self.until = crate, at, lanes, laws_of(crate), f"{at}/seed", until
         started = f"{ROOT}/crates/{crate}/out/incremental"
         shutil.copytree(started, self.seed, copy_function=link) if os.path.isdir(started) else os.makedirs(self.seed)
         self.said = self.ran({}, self.seed, jobs)
@@ -86,6 +87,8 @@ def asked_again(bench, edit, said):
 
 def alone(bench, edit):
     """What an edit comes to in a check of its own; a right body is to be proved."""
+    if time.time() > bench.until:
+        return LEFT, ""
     said = bench.check([edit])
     if said.is_proved or edit.is_right:
         return (GOAL if said.is_proved and edit.is_right else NOT), "it is proved" if said.is_proved else said.first_error()
@@ -111,7 +114,7 @@ def batch_of(waiting):
 
 def try_together(bench, waiting):
     """Tries edits of bodies, at most one of each function in a check, until a check judges none more."""
-    while len(batch := batch_of(waiting)) > 1 and (said := bench.check(batch)).is_judged:
+    while len(batch := batch_of(waiting)) > 1 and time.time() < bench.until and (said := bench.check(batch)).is_judged:
         before = [it.calls for it in batch]
         for edit in batch:
             edit.note, calls = said.goal_of(edit)
@@ -123,10 +126,10 @@ def try_together(bench, waiting):
             return
 
 
-def try_crate(crate, edits, lanes, jobs):
-    """Tries these edits of a crate; why it could not, where it is not proved without any."""
+def try_crate(crate, edits, lanes, jobs, until):
+    """Tries these edits of a crate, begun until then; why it could not, where it is not proved without any."""
     with tempfile.TemporaryDirectory(prefix="mutants-") as at, ThreadPoolExecutor(max(1, len(edits))) as pool:
-        bench = Bench(crate, at, lanes, jobs)
+        bench = Bench(crate, at, lanes, jobs, until)
         if not bench.said.is_proved:
             return f"{crate}: it is not proved without any edit: {bench.said.first_error()[:300]}"
         together = [it for it in edits if it.is_body and it.place and not it.is_right]
