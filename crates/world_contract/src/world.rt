@@ -7,7 +7,7 @@ ghost use Rattle.page_picture.specs.SourceView.{source_state};
 ghost use Rattle.world_refines.specs.MainTheorem.{IsTrueLoad};
 ghost use Rattle.scan_world.specs.Worlds.{HasFaultAmong, IsInitialWorld, MayRun, Runs, seen_world};
 ghost use Rattle.world_contract.specs.Histories.{History, LedTo, and_then, begun};
-ghost use Rattle.world_contract.specs.Calls.{CancelEnds, IsMoveAt, KeepsPageCount, KeepsScanFile, KeepsMemory, KeepsEnding, KeepsMove, KeepsMoves, KeepsOutcome, KeepsPage, KeepsRunning, LossEnds, MovesFall, OthersStay, OverStays, file_answered, finished_at, left_at, outcome_at, page_answered, starved_at};
+ghost use Rattle.world_contract.specs.Calls.{CancelEnds, FewMoves, ImageLossEnds, IsMoveAt, KeepsPageCount, KeepsScanFile, KeepsMemory, KeepsEnding, KeepsMove, KeepsMoves, KeepsOutcome, KeepsPage, KeepsRunning, LossEnds, MoveLowers, MovesFall, OneHolder, OthersStay, OverStays, PageStays, ScansStay, SessionsStay, StartsOnFirst, file_answered, finished_at, left_at, outcome_at, page_answered, starved_at};
 
 use crate::laws::what_stands_below;
 use device_api::Device;
@@ -69,6 +69,8 @@ impl World {
         ensures begins { let states = map ⟦<Box<dyn Device> as Device>⟧.state devices.items in
             IfOk result (λ w. IsInitialWorld states users seed jobs.items
             (seen_world ⟦<Box<dyn Device> as Device>⟧.state w.inner)) }
+        ensures budget { IfOk result (λ w. FewMoves jobs.items
+            (seen_world ⟦<Box<dyn Device> as Device>⟧.state w.inner)) }
         ensures accepted { let states = map ⟦<Box<dyn Device> as Device>⟧.state devices.items in
             OnOk result (AreRegistrable states × MayRun jobs.items) }
         ensures fault { let states = map ⟦<Box<dyn Device> as Device>⟧.state devices.items in
@@ -92,7 +94,8 @@ impl World {
 impl World {
     /// Events in this order; one that cannot happen changes nothing. Whatever led to the world, they came behind it. A job that
     /// is over keeps what it shows, one that no event came to is as it was, moves never come back, and a cancel or a loss ends a
-    /// job that runs.
+    /// job that runs. Two clients never hold one device, what comes to others leaves what a session has, and no page changes
+    /// within a scan.
     pub fn run(&mut self, events: Vec<Event>)
         ensures runs { let w = seen_world ⟦<Box<dyn Device> as Device>⟧.state self.old.inner in
             let v = seen_world ⟦<Box<dyn Device> as Device>⟧.state self.new.inner in
@@ -109,14 +112,40 @@ impl World {
         ensures moves { let w = seen_world ⟦<Box<dyn Device> as Device>⟧.state self.old.inner in
             let v = seen_world ⟦<Box<dyn Device> as Device>⟧.state self.new.inner in
             MovesFall w v }
+        ensures lowers { let w = seen_world ⟦<Box<dyn Device> as Device>⟧.state self.old.inner in
+            let v = seen_world ⟦<Box<dyn Device> as Device>⟧.state self.new.inner in
+            MoveLowers events.items w v }
         ensures cancel { let w = seen_world ⟦<Box<dyn Device> as Device>⟧.state self.old.inner in
             let v = seen_world ⟦<Box<dyn Device> as Device>⟧.state self.new.inner in
             CancelEnds events.items w v }
         ensures loss { let w = seen_world ⟦<Box<dyn Device> as Device>⟧.state self.old.inner in
             let v = seen_world ⟦<Box<dyn Device> as Device>⟧.state self.new.inner in
-            LossEnds events.items w v }
+            (h : History) → LedTo h w → LossEnds h events.items w v }
+        ensures image_loss { let seen = seen_world ⟦<Box<dyn Device> as Device>⟧.state in
+            let w = seen self.old.inner in
+            let v = seen self.new.inner in
+            (h : History) → LedTo h w → ImageLossEnds events.items w v }
+        ensures one_holder { let seen = seen_world ⟦<Box<dyn Device> as Device>⟧.state in
+            let w = seen self.old.inner in
+            let v = seen self.new.inner in
+            (h : History) → LedTo h w → OneHolder v }
+        ensures sessions { let w = seen_world ⟦<Box<dyn Device> as Device>⟧.state self.old.inner in
+            let v = seen_world ⟦<Box<dyn Device> as Device>⟧.state self.new.inner in
+            (h : History) → LedTo h w → SessionsStay events.items w v }
+        ensures scans { let w = seen_world ⟦<Box<dyn Device> as Device>⟧.state self.old.inner in
+            let v = seen_world ⟦<Box<dyn Device> as Device>⟧.state self.new.inner in
+            (h : History) → LedTo h w → ScansStay events.items w v }
+        ensures page_stays { let seen = seen_world ⟦<Box<dyn Device> as Device>⟧.state in
+            let w = seen self.old.inner in
+            let v = seen self.new.inner in
+            (h : History) → LedTo h w → PageStays events.items w v }
+        ensures first_page { let seen = seen_world ⟦<Box<dyn Device> as Device>⟧.state in
+            let w = seen self.old.inner in
+            let v = seen self.new.inner in
+            (h : History) → LedTo h w → StartsOnFirst events.items w v }
     {
         ask_pages(events.as_slice());
+        what_stands_below();
         self.inner.run(events)
     }
 
@@ -128,6 +157,10 @@ impl World {
         ensures over { let w = seen_world ⟦<Box<dyn Device> as Device>⟧.state self.old.inner in
             let v = seen_world ⟦<Box<dyn Device> as Device>⟧.state self.new.inner in
             OverStays w v }
+        ensures one_holder { let seen = seen_world ⟦<Box<dyn Device> as Device>⟧.state in
+            let w = seen self.old.inner in
+            let v = seen self.new.inner in
+            (h : History) → LedTo h w → OneHolder v }
     {
         what_stands_below();
         self.inner.run_all()
