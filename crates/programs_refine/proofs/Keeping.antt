@@ -148,15 +148,15 @@ finished_at p n bytes a b c d e f is_none is_low is_few at =
     ∙ ap (λ (x : Bool). if x then None else slice_index_or p.pages ((n + 1) - 1) None) (f ∙ is_few)
     ∙ ap (λ (k : ℕ). slice_index_or p.pages k None) (omega arith) ∙ get_or_from_slice_get p.pages n (Some bytes) None at
 
-page_kept : (h : History) (job : Job) (p : Endpoint) (texts : List (List ℕ)) (text : List ℕ) (n : ℕ) (bytes : List ℕ) → HasFilesOf texts text p → slice_get texts n ≡ Some bytes → PageIsKept h job p.out_of_memory (min p.finished 16) (n + 1) (finished_page p (n + 1))
-    → PageIsKept h job p.out_of_memory (length texts) (n + 1) (Some bytes)
-page_kept h job p texts text n bytes files at k =
+page_kept : (h : History) (v : WorldCore) (i : ℕ) (job : Job) (p : Endpoint) (texts : List (List ℕ)) (text : List ℕ) (n : ℕ) (bytes : List ℕ) → HasFilesOf texts text p → slice_get texts n ≡ Some bytes → PageIsKept h v i job p.out_of_memory (min p.finished 16) (n + 1) (finished_page p (n + 1))
+    → PageIsKept h v i job p.out_of_memory (length texts) (n + 1) (Some bytes)
+page_kept h v i job p texts text n bytes files at k =
     let low = slice_get_within texts n bytes at in
     let few = within_room texts text p n bytes files at in
     let count = files.count in
-    subst (λ (f : Option (List ℕ)). PageIsKept h job p.out_of_memory (length texts) (n + 1) f)
+    subst (λ (f : Option (List ℕ)). PageIsKept h v i job p.out_of_memory (length texts) (n + 1) f)
     (finished_at p n bytes (n + 1 == 0) (nat_lt p.finished (n + 1)) (nat_lt 16 (n + 1)) refl refl refl (grind (arith, nat_tests)) (grind (arith, nat_tests, low, count)) (grind (arith, nat_tests, few)) (files.each n bytes at))
-    (subst (λ (m : ℕ). PageIsKept h job p.out_of_memory m (n + 1) (finished_page p (n + 1))) (few_finished p texts text files) k)
+    (subst (λ (m : ℕ). PageIsKept h v i job p.out_of_memory m (n + 1) (finished_page p (n + 1))) (few_finished p texts text files) k)
 
 kept_by : (right : AllIsRight) (h : History) (v : WorldCore) (acts : Acts) (i : ℕ) (job : Job) (last : ClientState) → LedTo h v → slice_get h.jobs i ≡ Some job → is_running last.outcome ≡ false → EndsAlike v i acts last → LoopIsKept h v i job acts last
 kept_by right h v acts i job last led at over x =
@@ -164,9 +164,9 @@ kept_by right h v acts i job last led at over x =
     let k = right h v i job (answers_of p) (record { led = led; job_at = at }) (answers_are v i p x.at (ap is_running x.outcome ∙ over)) in
     record {
       ends = x;
-      outcome = subst (OutcomeIsKept h i job p.out_of_memory) x.outcome k.outcome;
-      file = subst (λ (f : Option (List ℕ)). FileIsKept h job p.out_of_memory last.outcome f) x.files.file (subst (λ (o : Outcome). FileIsKept h job p.out_of_memory o p.file) x.outcome k.file);
-      pages = λ n bytes at. page_kept h job p x.finished x.text n bytes x.files at (k.pages (n + 1));
+      outcome = subst (OutcomeIsKept h v i job p.out_of_memory) x.outcome k.outcome;
+      file = subst (λ (f : Option (List ℕ)). FileIsKept h v i job p.out_of_memory last.outcome f) x.files.file (subst (λ (o : Outcome). FileIsKept h v i job p.out_of_memory o p.file) x.outcome k.file);
+      pages = λ n bytes at. page_kept h v i job p x.finished x.text n bytes x.files at (k.pages (n + 1));
       count = subst (λ (f : ℕ). CountIsKept job last.outcome f) (few_finished p x.finished x.text x.files) (subst (λ (o : Outcome). CountIsKept job o (min p.finished 16)) x.outcome k.count);
     }
 

@@ -42,9 +42,9 @@ history_of devices jobs d events = record { devices = devices; users = d.users; 
 -- a world's promise on the outcome and the files of a job, said of what its loop came to; memory ran out where it did in the world
 pub record LoopIsKept (h : History) (v : WorldCore) (i : ℕ) (job : Job) (acts : Acts) (last : ClientState) : Type 0 where
   pub ends : EndsAlike v i acts last
-  pub outcome : OutcomeIsKept h i job ends.endpoint.out_of_memory last.outcome
-  pub file : FileIsKept h job ends.endpoint.out_of_memory last.outcome (Some ends.text)
-  pub pages : (k : ℕ) (bytes : List ℕ) → slice_get ends.finished k ≡ Some bytes → PageIsKept h job ends.endpoint.out_of_memory (length ends.finished) (k + 1) (Some bytes)
+  pub outcome : OutcomeIsKept h v i job ends.endpoint.out_of_memory last.outcome
+  pub file : FileIsKept h v i job ends.endpoint.out_of_memory last.outcome (Some ends.text)
+  pub pages : (k : ℕ) (bytes : List ℕ) → slice_get ends.finished k ≡ Some bytes → PageIsKept h v i job ends.endpoint.out_of_memory (length ends.finished) (k + 1) (Some bytes)
   pub count : CountIsKept job last.outcome (length ends.finished)
 
 -- of each job that is over, in a world that events of connections led to

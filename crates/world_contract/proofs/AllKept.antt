@@ -26,7 +26,8 @@ use Rattle.world_contract.specs.Promise.{CountIsKept, FileIsKept, MoveIsKept, Mo
 use Rattle.world_contract.specs.Laws.{Below}
 use Rattle.world_contract.proofs.Sources.{sources_of, have_sources}
 use Rattle.world_contract.proofs.Jobs.{IsJob}
-use Rattle.world_contract.proofs.Scanned.{at_first, infos_of, job_there, kept_by, make_there, page_right, scan_right}
+use Rattle.world_contract.proofs.Scanned.{at_first, infos_of, job_there, kept_by, make_there}
+use Rattle.world_contract.proofs.moments.Filed.{page_right, scan_right}
 use Rattle.std.specs.Prelude.{Ok, Err}
 use Rattle.md5_auth.specs.declared.users.Entry.{Entry}
 use Rattle.sane_fixed.specs.declared.device_info.DeviceInfo.{DeviceInfo}
@@ -44,6 +45,9 @@ use Rattle.system_model.specs.Sync.{IsPermitted as Permitted}
 use Rattle.world_refines.specs.WorldRefinement.{KeepsFiles, is_laid}
 use Rattle.world_refines.proofs.job_events.Constant.{Fixed, all_fixed}
 use Rattle.world_contract.proofs.Ended.{at_end}
+use Rattle.world_contract.proofs.moments.Listed.{list_kept}
+use Rattle.world_contract.proofs.moments.Unfiled.{empty_file}
+use Rattle.client_replies.specs.ProtocolStates.{scans}
 use Rattle.device_api.specs.State.{DeviceState}
 use Rattle.client_refines.specs.ClientRefinement.{requested_setting}
 use Rattle.system_model.specs.Devices.{Make}
@@ -53,7 +57,7 @@ use Rattle.world_refines.specs.NewWorlds.{make_of}
 use Rattle.world_refines.specs.GhostStates.{Ghost, job_state, place_named, abstract_job}
 use Rattle.world_refines.specs.WorldPromises.{IsOutcome, KeepsPromise}
 use Rattle.world_contract.specs.Reports.{AreSettingsAnswered}
-use Rattle.world_contract.proofs.Along.{device_named, get_at}
+use Rattle.world_contract.proofs.Along.{device_named}
 use Rattle.world_contract.proofs.Lists.{contains_at}
 use Rattle.world_refines.specs.NewWorlds.{info_of_state}
 use Rattle.world_contract.proofs.Reported.{answered}
@@ -155,40 +159,6 @@ allowed below h w i job endpoint reports j done list =
     ∙ ap (λ (x : Job). abstract_job h.users (infos_of h) x) mine)) in
     permitted_by h job (job_state u i).session.job (job_state u i).session.sent is (p.permitted (λ e. list (sym (ap (λ (x : Job). x.task) mine) ∙ e)))
 
--- ---- a list
-
-mapped : {X Y : Type 0} (f : X → Y) (xs : List X) (k : ℕ) → slice_get (map f xs) k ≡ option_map f (slice_get xs k)
-mapped f [] k = refl
-mapped f (x ∷ xs) zero = refl
-mapped f (x ∷ xs) (suc k) = mapped f xs k
-
-one_place : (infos : List DeviceInfo) (o : Option ℕ) (info : DeviceInfo) → option_map (slice_get infos) o ≡ Some (Some info) → (place : ℕ) × (slice_get infos place ≡ Some info)
-one_place infos None info e = absurd (let clash : None ≡ Some (Some info) = e in cc)
-one_place infos (Some place) info e = (place, (let both : Some (slice_get infos place) ≡ Some (Some info) = e in cc))
-
-one_device : (o : Option DeviceState) (info : DeviceInfo) → option_map info_of_state o ≡ Some info → (device : DeviceState) × (o ≡ Some device) × (device.info ≡ info)
-one_device None info e = absurd (let clash : None ≡ Some info = e in cc)
-one_device (Some device) info e = (device, refl, (let both : Some device.info ≡ Some info = e in cc))
-
-device_by : (h : History) (places : List ℕ) (told : List DeviceInfo) (info : DeviceInfo) → map (slice_get (infos_of h)) places ≡ map (λ (x : DeviceInfo). Some x) told → Contains told info → (device : DeviceState) × Contains h.devices device × (device.info ≡ info)
-device_by h places told info e there =
-    let k = there.0 in
-    let at : slice_get told k ≡ Some info = get_at told k info there.1 ∙ ap (λ (x : DeviceInfo). Some x) there.2 in
-    let shown_at : slice_get (map (λ (x : DeviceInfo). Some x) told) k ≡ Some (Some info) = mapped (λ (x : DeviceInfo). Some x) told k ∙ ap (option_map (λ (x : DeviceInfo). Some x)) at in
-    let place = one_place (infos_of h) (slice_get places k) info (sym (mapped (slice_get (infos_of h)) places k) ∙ (ap (λ (xs : List (Option DeviceInfo)). slice_get xs k) e ∙ shown_at)) in
-    let d = one_device (slice_get h.devices place.0) info (sym (mapped info_of_state h.devices place.0) ∙ place.1) in
-    (d.0, contains_at h.devices place.0 d.0 d.1, d.2)
-
-is_listed : Below → (h : History) (w : WorldCore) (i : ℕ) (job : Job) (endpoint : Endpoint) (reports : Reports) (info : DeviceInfo) → IsJob h w i job endpoint → endpoint.client.outcome ≡ Done reports → job.task ≡ tasks.List → Contains reports.devices info → (device : DeviceState) × Contains h.devices device × (device.info ≡ info)
-is_listed below h w i job endpoint reports info j done list there =
-    let k = kept_by below.kept h w job j.led in
-    let u = k.run.ghost_then in
-    let mine = job_there h w job j.led k i j.job_at in
-    let p = kept_by_outcome u i endpoint.client.outcome reports done (k.promises.outcomes i endpoint j.endpoint_at) in
-    let infos : u.infos ≡ infos_of h = ap (λ (f : Fixed). f.1) (all_fixed source_state h.events (at_first h w job j.led) k.run.steps u k.run.comes) in
-    let l = p.devices (ap (λ (x : Job). x.task) mine ∙ list) in
-    device_by h l.places reports.devices info (subst (λ (x : List DeviceInfo). map (slice_get x) l.places ≡ map (λ (y : DeviceInfo). Some y) reports.devices) infos l.told) there
-
 -- ---- the file of a job that is no scan
 
 joined_is : (fault : Option JoinFault) (under : Option Frame) (ended : List Frame) → answer_by fault under ended ≡ Ok true → is_joined ended ≡ true
@@ -229,12 +199,12 @@ no_scan below h w i job endpoint reports file j done scan is whole =
 
 -- ---- call by call
 
-pub outcome_kept : Below → (h : History) (w : WorldCore) (i : ℕ) (job : Job) (p : Endpoint) → IsJob h w i job p → OutcomeIsKept h i job p.out_of_memory p.client.outcome
+pub outcome_kept : Below → (h : History) (w : WorldCore) (i : ℕ) (job : Job) (p : Endpoint) → IsJob h w i job p → OutcomeIsKept h w i job p.out_of_memory p.client.outcome
 outcome_kept below h w i job p j = record {
   done = λ reports e. record {
     answered = λ device list there named. settings_kept below h w i job p reports device j e list there named;
     permitted = λ list. allowed below h w i job p reports j e list;
-    listed = λ info list there. is_listed below h w i job p reports info j e list there;
+    listed = λ list. list_kept below h w i job p reports j list e;
   };
   ended = λ status why e.
       let s = (kept_by below.kept h w job j.led).promises.statuses i p status why j.endpoint_at e in
@@ -251,18 +221,24 @@ whole_as (Done reports) tasks.Show undone other = absurd (other reports refl (λ
 whole_as (Done reports) tasks.SetOnly undone other = absurd (other reports refl (λ e. let clash : tasks.SetOnly ≡ tasks.Scan = e in cc))
 whole_as (Done reports) (tasks.Batch count) undone other = absurd (other reports refl (λ e. let clash : tasks.Batch count ≡ tasks.Scan = e in cc))
 
-pub file_kept : Below → (h : History) (w : WorldCore) (i : ℕ) (job : Job) (p : Endpoint) → IsJob h w i job p → FileIsKept h job p.out_of_memory p.client.outcome p.file
+task_there : Below → (h : History) (w : WorldCore) (i : ℕ) (job : Job) (p : Endpoint) → IsJob h w i job p → p.task ≡ job.task
+task_there below h w i job p j =
+    let k = kept_by below.kept h w job j.led in
+    (k.run.stands.endpoints i p j.endpoint_at).talks.task ∙ ap (λ (x : Job). x.task) (job_there h w job j.led k i j.job_at)
+
+pub file_kept : Below → (h : History) (w : WorldCore) (i : ℕ) (job : Job) (p : Endpoint) → IsJob h w i job p → FileIsKept h w i job p.out_of_memory p.client.outcome p.file
 file_kept below h w i job p j =
     let k = kept_by below.kept h w job j.led in
     record {
-      scanned = λ reports bytes steady scan done f. scan_right below.kept below.notes h w i job p reports bytes j steady scan done f;
+      scanned = λ reports bytes steady scan done f. scan_right below h w i job p reports bytes j steady scan done f;
       whole = λ bytes f is. whole_as p.client.outcome job.task (λ undone. k.promises.short i p bytes j.endpoint_at undone f is) (λ reports done other. no_scan below h w i job p reports bytes j done other f is);
       missing = λ f. k.promises.starved i p j.endpoint_at f;
+      empty = λ no. empty_file h w i p j.led j.endpoint_at (ap scans (task_there below h w i job p j) ∙ no);
     }
 
-pub page_kept : Below → (h : History) (w : WorldCore) (i k : ℕ) (job : Job) (p : Endpoint) → IsJob h w i job p → PageIsKept h job p.out_of_memory (min p.finished 16) k (finished_page p k)
+pub page_kept : Below → (h : History) (w : WorldCore) (i k : ℕ) (job : Job) (p : Endpoint) → IsJob h w i job p → PageIsKept h w i job p.out_of_memory (min p.finished 16) k (finished_page p k)
 page_kept below h w i k job p j = record {
-  scanned = λ bytes f. let page = page_there p k bytes f in (page.some, page.finished, λ steady. page_right below.kept below.notes h w i (k - 1) job p bytes j steady page.low page.at);
+  scanned = λ bytes f. let page = page_there p k bytes f in (page.some, page.finished, λ steady. page_right below h w i (k - 1) job p bytes j steady page.low page.at);
   missing = λ some within f. (kept_by below.kept h w job j.led).promises.pages_lost i k p j.endpoint_at some (omega (arith, within, min-le_left p.finished 16)) (omega (arith, within, min-le_right p.finished 16)) f;
 }
 

@@ -1,6 +1,6 @@
 -- What each call promises, and what all of them do.
-use Rattle.std.specs.Prelude.{◌<◌, ◌≤◌, ◌≢◌, All, min, length, map, option_map, option_and_then, slice_get}
-use Rattle.std.proofs.Common.{arith, ◌≡◌, ◌∙◌, ℕ, suc, ◌+◌, List, [], ◌∷◌, ◌++◌, Option, Some, None, Bool, true, false, refl, sym, ap, subst, ◌⊎◌, inl, inr}
+use Rattle.std.specs.Prelude.{◌^◌, cond, if◌then◌else◌, ◌<◌, ◌≤◌, ◌≢◌, All, min, length, map, option_map, option_and_then, slice_get}
+use Rattle.std.proofs.Common.{arith, ◌≡◌, ◌∙◌, ℕ, zero, suc, ◌+◌, List, [], ◌∷◌, ◌++◌, Option, Some, None, Bool, true, false, refl, sym, ap, subst, ◌⊎◌, inl, inr}
 use Rattle.std.proofs.lemmas.Option.{slice_get_within}
 use Rattle.std.proofs.lemmas.List.Elements.{All-map}
 use Rattle.std.specs.List.{AllByRecursion}
@@ -12,42 +12,35 @@ use Rattle.dispatch.specs.RegistryFault.{AreRegistrable}
 use Rattle.scan_job.specs.declared.job.Job.{Job}
 use Rattle.scan_job.specs.declared.outcome.Outcome.{Outcome}
 use Rattle.scan_job.specs.declared.outcome.Outcome.TheVariants.{Running}
-use Rattle.client_replies.specs.ProtocolStates.{is_running}
+use Rattle.scan_job.specs.declared.job.Task.{Task}
+use Rattle.scan_job.specs.declared.job.Task.TheVariants as tasks
+use Rattle.client_replies.specs.ProtocolStates.{is_batch, is_running}
 use Rattle.saned_core.specs.DaemonStates.{Core}
 use Rattle.scan_world.specs.declared.event.Event.{Event}
 use Rattle.scan_world.specs.declared.event.JobEvent.{JobEvent}
 use Rattle.scan_world.specs.declared.event.JobEvent.TheVariants as actions
 use Rattle.scan_world.specs.declared.event.Event.TheVariants.{Connect, ToDaemon, ToClient, DataConnect, DataTurn, DataToClient, LoseControl, LoseImage, Cancel, Load, Unplug}
 use Rattle.scan_world.specs.declared.endpoint.Endpoint.{Endpoint}
-use Rattle.scan_world.specs.Endpoints.{finished_page}
+use Rattle.scan_world.specs.Endpoints.{budget_of, finished_page}
 use Rattle.scan_world.specs.JobEvents.{job_event_of}
 use Rattle.scan_world.specs.JobMoves.{IsNextMove, moves_left_of}
 use Rattle.scan_world.specs.Rounds.{Rounds, RoundsRunOut, TakesMoves, all_made, moves_made}
-use Rattle.scan_world.specs.Worlds.{IsInitialWorld, MayRun, Runs, WorldCore}
+use Rattle.scan_world.specs.Worlds.{AreNew, IsInitialWorld, MayRun, Runs, WorldCore}
 use Rattle.world_refines.specs.MainTheorem.{AreTrueLoads, IsTrueLoad}
 use Rattle.world_contract.specs.Histories.{History, LedTo, and_then, begun}
 use Rattle.world_contract.specs.Promise.{CountIsKept, FileIsKept, MoveIsKept, MovesAreKept, OutcomeIsKept, PageIsKept}
-use Rattle.world_contract.specs.Calls.{IsJobAt, IsMoveAt, KeepsPageCount, KeepsScanFile, KeepsMemory, KeepsMove, KeepsMoves, KeepsOutcome, KeepsPage, KeepsRunning, LoadsNothing, MovesNext, file_answered, finished_at, finished_by, is_starved, left_at, moves_answered, outcome_at, page_answered, starved_at}
+use Rattle.world_contract.specs.Calls.{IsJobAt, IsMoveAt, KeepsPageCount, KeepsScanFile, KeepsMemory, KeepsMove, KeepsMoves, KeepsOutcome, KeepsPage, KeepsRunning, MovesNext, file_answered, finished_at, finished_by, is_starved, left_at, moves_answered, outcome_at, page_answered, starved_at}
 use Rattle.world_contract.specs.Laws.{AllFollow, Below}
 use Rattle.world_contract.proofs.Jobs.{IsJob, item_there}
+use Rattle.world_contract.proofs.Led.{led_then}
+use Rattle.world_contract.proofs.NextMoves.{quiet_loads, quiet_moves, rounds_moves}
 use Rattle.world_contract.proofs.Lists.{all_then}
 use Rattle.world_contract.proofs.Scanned.{at_first, kept_by}
 use Rattle.world_refines.proofs.job_events.Constant.{Fixed, all_fixed}
 use Rattle.world_contract.proofs.AllKept.{count_kept, file_kept, move_kept, moves_kept, outcome_kept, page_kept}
 use Rattle.world_contract.proofs.Ended.{loss_kept}
 
--- ---- events behind events
-
-runs_then : (es fs : List Event) (u v w : WorldCore) → Runs source_state es u v → Runs source_state fs v w → Runs source_state (es ++ fs) u w
-runs_then [] fs u v w a b = subst (λ (x : WorldCore). Runs source_state fs x w) a b
-runs_then (e ∷ es) fs u v w (x, first, rest) b = (x, first, runs_then es fs x v w rest b)
-
-loads_then : (es fs : List Event) → AreTrueLoads source_state es → AreTrueLoads source_state fs → AreTrueLoads source_state (es ++ fs)
-loads_then [] fs a b = b
-loads_then (e ∷ es) fs a b = (a.0, loads_then es fs a.1 b)
-
-pub led_then : (h : History) (es : List Event) (v w : WorldCore) → LedTo h v → AreTrueLoads source_state es → Runs source_state es v w → LedTo (and_then h es) w
-led_then h es v w l loads run = record { first = l.first; endpoints = l.endpoints; daemon = l.daemon; users_are = l.users_are; names = l.names; limits = l.limits; fit = l.fit; loads = loads_then h.events es l.loads loads; runs = runs_then h.events es l.first v w l.runs run }
+-- ---- what the calls were handed
 
 true_each : (es : List Event) → AllByRecursion (IsTrueLoad source_state) es → AreTrueLoads source_state es
 true_each [] h = tt
@@ -64,6 +57,27 @@ pub new_led : {D : Type 0} (state : D → DeviceState) (devices asked : List D) 
 new_led {D = D} state devices asked users seed jobs w is named fit same limits =
     let own : All (λ (device : D). HasLimits (state device)) devices = subst (λ (xs : List D). All (λ (device : D). HasLimits (state device)) xs) same limits in
     record { first = w; endpoints = is.endpoints; daemon = record { registry = is.registry; slots = is.sessions; opened = is.opened }; users_are = is.users_are; names = named.names; limits = All-map HasLimits state devices own; fit = fit.1; loads = tt; runs = refl }
+
+budget_is : (task : Task) → budget_of task ≡ (if is_batch task then 2 ^ 36 else 2 ^ 34)
+budget_is tasks.List = refl
+budget_is tasks.Show = refl
+budget_is tasks.SetOnly = refl
+budget_is tasks.Scan = refl
+budget_is (tasks.Batch count) = refl
+
+at_most : (b : Bool) (n : ℕ) → cond b n 0 ≤ n
+at_most true n = omega arith
+at_most false n = omega arith
+
+pub few_in : (jobs : List Job) (endpoints : List Endpoint) → AreNew jobs endpoints → (i : ℕ) (job : Job) → slice_get jobs i ≡ Some job → moves_answered (slice_get endpoints i) ≤ (if is_batch job.task then 2 ^ 36 else 2 ^ 34)
+few_in [] [] new i job at = absurd (let clash : None ≡ Some job = at in cc)
+few_in [] (p ∷ endpoints) new i job at = absurd new
+few_in (j ∷ jobs) [] new i job at = absurd new
+few_in (j ∷ jobs) (p ∷ endpoints) new zero job at =
+    let same : j ≡ job = (let both : Some j ≡ Some job = at in cc) in
+    let budget : p.budget ≡ (if is_batch job.task then 2 ^ 36 else 2 ^ 34) = ap (λ (q : Endpoint). q.budget) new.0.rest ∙ (budget_is j.task ∙ ap (λ (k : Job). if is_batch k.task then 2 ^ 36 else 2 ^ 34) same) in
+    subst (λ (n : ℕ). moves_left_of p ≤ n) budget (at_most (is_running p.client.outcome) p.budget)
+few_in (j ∷ jobs) (p ∷ endpoints) new (suc i) job at = few_in jobs endpoints new.1 i job at
 
 -- ---- the endpoint of a job
 
@@ -96,49 +110,6 @@ pub move_is : (d : Core) (i : ℕ) (o at : Option Endpoint) (event : Option Even
 move_is d i None at event e some none = none e
 move_is d i (Some p) at event e some none = some p e
 
--- ---- next moves lay no page in
-
-quiet_move : (i : ℕ) (x : JobEvent) → LoadsNothing (job_event_of i x)
-quiet_move i actions.Connect = tt
-quiet_move i (actions.ToDaemon n) = tt
-quiet_move i (actions.ToClient n) = tt
-quiet_move i actions.DataConnect = tt
-quiet_move i actions.DataTurn = tt
-quiet_move i (actions.DataToClient n) = tt
-quiet_move i actions.LoseControl = tt
-quiet_move i actions.LoseImage = tt
-quiet_move i actions.Cancel = tt
-
-quiet_next : (o : Option JobEvent) (i : ℕ) (event : Event) → Some event ≡ option_map (job_event_of i) o → LoadsNothing event
-quiet_next None i event is = absurd (let clash : Some event ≡ None = is in cc)
-quiet_next (Some x) i event is =
-    let one : job_event_of i x ≡ event = (let both : Some event ≡ Some (job_event_of i x) = is in cc) in
-    subst LoadsNothing one (quiet_move i x)
-
-quiet_turns : (i : ℕ) (turns : List (Option Event)) (w v : WorldCore) → TakesMoves source_state i turns w v → AllByRecursion LoadsNothing (moves_made turns)
-quiet_turns i [] w v h = tt
-quiet_turns i (None ∷ turns) w v (u, one, rest) = quiet_turns (i + 1) turns u v rest
-quiet_turns i (Some e ∷ turns) w v (u, one, rest) = (quiet_next one.0.next.job_event i e one.0.next.event_is, quiet_turns (i + 1) turns u v rest)
-
-quiet_rounds : (rounds : List (List (Option Event))) (w v : WorldCore) → Rounds source_state rounds w v → AllByRecursion LoadsNothing (all_made rounds)
-quiet_rounds [] w v h = tt
-quiet_rounds (turns ∷ rounds) w v (u, is, rest) = all_then LoadsNothing (moves_made turns) (all_made rounds) (quiet_turns 0 turns w u is.1) (quiet_rounds rounds u v rest)
-
--- what loads nothing loads no page past its limits
-quiet_loads : (events : List Event) → AllByRecursion LoadsNothing events → AreTrueLoads source_state events
-quiet_loads [] q = tt
-quiet_loads (Connect i ∷ es) q = (tt, quiet_loads es q.1)
-quiet_loads (ToDaemon i n ∷ es) q = (tt, quiet_loads es q.1)
-quiet_loads (ToClient i n ∷ es) q = (tt, quiet_loads es q.1)
-quiet_loads (DataConnect i ∷ es) q = (tt, quiet_loads es q.1)
-quiet_loads (DataTurn i ∷ es) q = (tt, quiet_loads es q.1)
-quiet_loads (DataToClient i n ∷ es) q = (tt, quiet_loads es q.1)
-quiet_loads (LoseControl i ∷ es) q = (tt, quiet_loads es q.1)
-quiet_loads (LoseImage i ∷ es) q = (tt, quiet_loads es q.1)
-quiet_loads (Cancel i ∷ es) q = (tt, quiet_loads es q.1)
-quiet_loads (Load name source ∷ es) q = absurd q.0
-quiet_loads (Unplug name ∷ es) q = absurd q.0
-
 -- ---- what they promise
 
 pub outcome_call : Below → (w : WorldCore) (i : ℕ) (given : Option Outcome) → given ≡ outcome_at w i → KeepsOutcome w i given
@@ -146,26 +117,26 @@ outcome_call below w i given is h job at =
     let p = endpoint_there below h w i job at in (
       p.0.client.outcome,
       is ∙ ap (option_map (λ (x : Endpoint). x.client.outcome)) p.1.endpoint_at,
-      subst (λ (b : Bool). OutcomeIsKept h i job b p.0.client.outcome) (sym (ap is_starved p.1.endpoint_at)) (outcome_kept below h w i job p.0 p.1),
+      subst (λ (b : Bool). OutcomeIsKept h w i job b p.0.client.outcome) (sym (ap is_starved p.1.endpoint_at)) (outcome_kept below h w i job p.0 p.1),
     )
 
 pub file_call : Below → (w : WorldCore) (i : ℕ) (given : Option (List ℕ)) → given ≡ file_answered w i → KeepsScanFile w i given
 file_call below w i given is h job at outcome there =
     let p = endpoint_there below h w i job at in
-    let as_file : FileIsKept h job p.0.out_of_memory p.0.client.outcome given =
-    subst (FileIsKept h job p.0.out_of_memory p.0.client.outcome) (sym (is ∙ ap (option_and_then (λ (x : Endpoint). x.file)) p.1.endpoint_at)) (file_kept below h w i job p.0 p.1) in
-    let as_starved : FileIsKept h job (starved_at w i) p.0.client.outcome given =
-    subst (λ (b : Bool). FileIsKept h job b p.0.client.outcome given) (sym (ap is_starved p.1.endpoint_at)) as_file in
-    subst (λ (o : Outcome). FileIsKept h job (starved_at w i) o given) (outcome_there w.endpoints i p.0 outcome p.1.endpoint_at there) as_starved
+    let as_file : FileIsKept h w i job p.0.out_of_memory p.0.client.outcome given =
+    subst (FileIsKept h w i job p.0.out_of_memory p.0.client.outcome) (sym (is ∙ ap (option_and_then (λ (x : Endpoint). x.file)) p.1.endpoint_at)) (file_kept below h w i job p.0 p.1) in
+    let as_starved : FileIsKept h w i job (starved_at w i) p.0.client.outcome given =
+    subst (λ (b : Bool). FileIsKept h w i job b p.0.client.outcome given) (sym (ap is_starved p.1.endpoint_at)) as_file in
+    subst (λ (o : Outcome). FileIsKept h w i job (starved_at w i) o given) (outcome_there w.endpoints i p.0 outcome p.1.endpoint_at there) as_starved
 
 pub page_call : Below → (w : WorldCore) (i k : ℕ) (given : Option (List ℕ)) → given ≡ page_answered w i k → KeepsPage w i k given
 page_call below w i k given is h job at =
     let p = endpoint_there below h w i job at in
-    let as_file : PageIsKept h job p.0.out_of_memory (min p.0.finished 16) k given =
-    subst (PageIsKept h job p.0.out_of_memory (min p.0.finished 16) k) (sym (is ∙ ap (option_and_then (λ (x : Endpoint). finished_page x k)) p.1.endpoint_at)) (page_kept below h w i k job p.0 p.1) in
-    let as_starved : PageIsKept h job (starved_at w i) (min p.0.finished 16) k given =
-    subst (λ (b : Bool). PageIsKept h job b (min p.0.finished 16) k given) (sym (ap is_starved p.1.endpoint_at)) as_file in
-    subst (λ (n : ℕ). PageIsKept h job (starved_at w i) n k given) (sym (ap finished_by p.1.endpoint_at)) as_starved
+    let as_file : PageIsKept h w i job p.0.out_of_memory (min p.0.finished 16) k given =
+    subst (PageIsKept h w i job p.0.out_of_memory (min p.0.finished 16) k) (sym (is ∙ ap (option_and_then (λ (x : Endpoint). finished_page x k)) p.1.endpoint_at)) (page_kept below h w i k job p.0 p.1) in
+    let as_starved : PageIsKept h w i job (starved_at w i) (min p.0.finished 16) k given =
+    subst (λ (b : Bool). PageIsKept h w i job b (min p.0.finished 16) k given) (sym (ap is_starved p.1.endpoint_at)) as_file in
+    subst (λ (n : ℕ). PageIsKept h w i job (starved_at w i) n k given) (sym (ap finished_by p.1.endpoint_at)) as_starved
 
 pub count_call : Below → (w : WorldCore) (i : ℕ) (given : ℕ) → given ≡ finished_at w i → KeepsPageCount w i given
 count_call below w i given is h job at outcome there =
@@ -212,12 +183,12 @@ runs_no_more o off e = absurd (let clash : true ≡ false = sym (ap is_running e
 pub ran_out : Below → (w v : WorldCore) → RoundsRunOut source_state w v → KeepsRunning w v
 ran_out below w v out h l =
     let moves = all_made out.rounds in
-    let quiet = quiet_rounds out.rounds w v out.goes in
-    let led = led_then h moves w v l (quiet_loads moves quiet) out.events in
+    let next = rounds_moves out.rounds w v out.goes in
+    let led = led_then h moves w v l (quiet_loads moves (quiet_moves moves w v next)) out.events in
     record {
       moves = moves;
       few = out.few;
-      quiet = quiet;
+      next = next;
       led = led;
       over = λ i job outcome job_at there.
           let p = endpoint_there below (and_then h moves) v i job (record { led = led; job_at = job_at }) in
@@ -233,11 +204,11 @@ all_follow below h w i job a at is =
     let outcome : p.0.client.outcome ≡ a.outcome = outcome_there w.endpoints i p.0 a.outcome p.1.endpoint_at is.outcome in
     let starved : p.0.out_of_memory ≡ a.starved = sym (ap is_starved p.1.endpoint_at) ∙ is.starved in
     let finished : min p.0.finished 16 ≡ a.finished = sym (ap finished_by p.1.endpoint_at) ∙ is.finished in
-    let file : FileIsKept h job (starved_at w i) a.outcome a.file = file_call below w i a.file (sym is.file) h job at a.outcome is.outcome in
+    let file : FileIsKept h w i job (starved_at w i) a.outcome a.file = file_call below w i a.file (sym is.file) h job at a.outcome is.outcome in
     record {
-      outcome = subst (λ (b : Bool). OutcomeIsKept h i job b a.outcome) starved (subst (OutcomeIsKept h i job p.0.out_of_memory) outcome (outcome_kept below h w i job p.0 p.1));
-      file = subst (λ (b : Bool). FileIsKept h job b a.outcome a.file) is.starved file;
-      pages = λ k. subst (λ (b : Bool). PageIsKept h job b a.finished k (a.file_at k)) is.starved (subst (λ (n : ℕ). PageIsKept h job (starved_at w i) n k (a.file_at k)) is.finished (page_call below w i k (a.file_at k) (sym (is.pages k)) h job at));
+      outcome = subst (λ (b : Bool). OutcomeIsKept h w i job b a.outcome) starved (subst (OutcomeIsKept h w i job p.0.out_of_memory) outcome (outcome_kept below h w i job p.0 p.1));
+      file = subst (λ (b : Bool). FileIsKept h w i job b a.outcome a.file) is.starved file;
+      pages = λ k. subst (λ (b : Bool). PageIsKept h w i job b a.finished k (a.file_at k)) is.starved (subst (λ (n : ℕ). PageIsKept h w i job (starved_at w i) n k (a.file_at k)) is.finished (page_call below w i k (a.file_at k) (sym (is.pages k)) h job at));
       count = count_call below w i a.finished (sym is.finished) h job at a.outcome is.outcome;
       move = (move_call below w i a.next_move is.next_move h job at).move a.outcome is.outcome;
       moves = moves_call below w i a.moves_left (sym is.moves_left) h job at a.outcome is.outcome;

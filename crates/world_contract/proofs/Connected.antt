@@ -19,7 +19,6 @@ use Rattle.scan_world.specs.declared.event.JobEvent.{JobEvent}
 use Rattle.scan_world.specs.declared.event.JobEvent.TheVariants as events
 use Rattle.daemon_refines.proofs.Moved.{own}
 use Rattle.world_contract.specs.Histories.{History}
-use Rattle.world_contract.specs.Endings.{Came}
 use Rattle.world_contract.proofs.Begun.{party_stays}
 use Rattle.world_contract.proofs.Lists.{In, all_then, contains_in}
 use Rattle.world_contract.proofs.Traced.{AreOf, DeedOf, StepOf, Traced}
@@ -249,7 +248,3 @@ from_here infos front (e ∷ es) steps s known (first, more, split, of, link, re
 -- of a world in which nothing had happened
 pub all_behind : (infos : List DeviceInfo) (es : List Event) (steps : List Transition) (s : SystemState) → ((i : ℕ) → IsUnlinked (s.job i)) → Traced infos es steps → IsHistory s steps → AllByRecursion (ComesBehind infos es) steps
 all_behind infos es steps s fresh traces legal = from_here infos [] es steps s (λ i. inr (fresh i)) traces legal
-
--- so its event came behind the connection
-pub came_behind : (h : History) (infos : List DeviceInfo) (i : ℕ) (x : Action) (b : IsBehind infos h.events i x) → Came h i b.event
-came_behind h infos i x b = (b.front, b.back, b.split, contains_in b.front (Connect i) b.connected)

@@ -1,62 +1,62 @@
--- A job that ended has its cause.
-use Rattle.std.specs.Prelude.{option_map, map, slice_get, slice_index_or}
-use Rattle.std.proofs.Common.{◌≡◌, ◌∙◌, ◌⊎◌, ℕ, List, Bool, true, Option, Some, None, inl, inr, refl, sym, ap, subst, ◌∷◌, []}
+-- A job that ended has its cause, of the world in front of the event.
+use Rattle.std.specs.Prelude.{option_map, map, length, slice_get, slice_index_or}
+use Rattle.std.specs.List.{AllByRecursion}
+use Rattle.std.proofs.Common.{◌≡◌, ◌≢◌, ◌∙◌, ◌⊎◌, ℕ, List, Bool, true, Option, Some, None, inl, inr, refl, sym, ap, subst, ◌∷◌, []}
+use Rattle.std.proofs.lemmas.Option.{get_or_from_slice_get}
+use Rattle.sane_fixed.specs.declared.device_info.DeviceInfo.{DeviceInfo}
 use Rattle.sane_fixed.specs.declared.status.Status.{Status as Code}
 use Rattle.sane_fixed.specs.declared.status.Status.TheVariants as codes
+use Rattle.page_picture.specs.Shows.{Frame}
+use Rattle.page_picture.specs.SourceView.{source_state}
+use Rattle.md5_auth.specs.declared.users.Entry.{Entry}
 use Rattle.device_api.specs.InForce as devices
 use Rattle.device_api.specs.State.{DeviceState}
 use Rattle.scan_frames.specs.declared.setup.Setup.{Setup}
+use Rattle.frame_join.specs.FrameHistory.{JoinHistory}
 use Rattle.scan_job.specs.declared.job.Job.{Job}
 use Rattle.scan_job.specs.declared.outcome.Outcome.{Outcome}
 use Rattle.scan_job.specs.declared.outcome.Outcome.TheVariants as outcomes
 use Rattle.scan_job.specs.declared.outcome.Why.{Why as Reason}
 use Rattle.scan_job.specs.declared.outcome.Why.TheVariants as whys
-use Rattle.client_refines.specs.ClientRefinement.{EndedAs, OutcomeRefines, requested_setting}
-use Rattle.client_refines.specs.DecodedReplies.{why_of}
-use Rattle.system_model.specs.AbstractMessages as words
-use Rattle.system_model.specs.AbstractMessages.{Status, Why}
-use Rattle.system_model.specs.Client.{JobStage, Idle, Running, Done, Ended, ClientView}
-use Rattle.system_model.specs.Devices.{Make, abstract_status}
-use Rattle.system_model.specs.AbstractInForce.{SettingsResult, abstract_in_force}
-use Rattle.system_model.specs.Causes.{Cause, Explains, GaveUp, LinkLost, LinkOutOfMemory, SourceFailed, NamesEof, Names, Unforced, WasUnlisted, HadNoPicture, WasHeld, Disallowed, TrayWasEmpty, TrayRanOut, ClientOutOfMemory, IsCauseAmong, WasUnsaid}
-use Rattle.scan_world.specs.declared.endpoint.Endpoint.{Endpoint}
-use Rattle.scan_world.specs.Worlds.{WorldCore}
-use Rattle.world_refines.specs.NewWorlds.{make_of}
-use Rattle.world_refines.specs.WorldRefinement.{client_at_greeting}
-use Rattle.world_contract.specs.Histories.{History}
-use Rattle.world_contract.specs.Endings.{IsEndingExplained, IsUnforced}
-use Rattle.world_contract.specs.Endings.IsEndingExplained.{GaveUp as GaveUpRow, LostLink, Starved, SourceFailed as SourceFailedRow, NamesEof as NamesEofRow, NamesStatus, Unforced as UnforcedRow, Unlisted, HadNoPicture as HadNoPictureRow, WasHeld as WasHeldRow, Disallowed as DisallowedRow, TrayWasEmpty as TrayWasEmptyRow, ClientStarved as ClientStarvedRow}
-use Rattle.world_contract.specs.Laws.{Below}
-use Rattle.world_contract.proofs.Sources.{sources_of, have_sources}
-use Rattle.world_contract.proofs.Nearest.{none_nearest}
-use Rattle.world_contract.proofs.Jobs.{IsJob}
 use Rattle.client_replies.specs.ProtocolStates.{target_of}
 use Rattle.client_replies.specs.declared.progress.JobTarget.{JobTarget}
 use Rattle.client_replies.specs.declared.progress.Progress.{Progress}
 use Rattle.client_replies.specs.declared.progress.Notes.{Notes}
-use Rattle.frame_join.specs.FrameHistory.{JoinHistory}
-use Rattle.page_picture.specs.Shows.{Frame}
-use Rattle.sane_fixed.specs.declared.device_info.DeviceInfo.{DeviceInfo}
+use Rattle.client_refines.specs.ClientRefinement.{EndedAs, OutcomeRefines, requested_setting}
+use Rattle.client_refines.specs.DecodedReplies.{why_of}
+use Rattle.system_model.specs.AbstractMessages as words
+use Rattle.system_model.specs.AbstractMessages.{Status, Why}
+use Rattle.system_model.specs.AbstractInForce.{SettingsResult, abstract_in_force}
+use Rattle.system_model.specs.Causes.{Cause, Explains, GaveUp, LinkLost, LinkOutOfMemory, SourceFailed, NamesEof, Names, Unforced, WasUnlisted, HadNoPicture, WasHeld, Disallowed, TrayWasEmpty, TrayRanOut, ClientOutOfMemory, IsCauseAmong, WasUnsaid}
 use Rattle.system_model.specs.Client as rules
-use Rattle.std.proofs.lemmas.Option.{get_or_from_slice_get}
-use Rattle.world_refines.specs.GhostStates.{job_state, place_named, place_of_info, abstract_job}
-use Rattle.world_contract.proofs.Pages.{all_of_one, first_slot}
-use Rattle.world_contract.proofs.Scanned.{at_first, behind_there, fresh_there, infos_of, kept_by, untouched_at_first}
-use Rattle.world_contract.proofs.OfJobs.{all_of_jobs}
-use Rattle.world_contract.proofs.Traced.{each_of, traced}
-use Rattle.world_contract.proofs.Slots.{Owned}
-use Rattle.daemon_refines.specs.Cores.{fresh_device}
-use Rattle.system_model.specs.Marks.{device_view}
-use Rattle.md5_auth.specs.declared.users.Entry.{Entry}
-use Rattle.world_contract.proofs.Along.{EndedBy, Evid, Fine, Here, IsHeldBy, Judged, JudgedAt, Laws, NotForced, Own, all_judged, device_named, forced_there}
-use Rattle.world_contract.proofs.Cuts.{cut_of_history}
-use Rattle.world_contract.specs.Calls.{NamesIoError, HadFailure, HadUnsaidReply}
-use Rattle.world_contract.proofs.Counted.{steps_there}
-use Rattle.world_contract.proofs.Gone.{all_answers, none_out}
-use Rattle.scan_world.specs.JobMoves.{IsNextMove}
-use Rattle.system_model.specs.Transitions.{IsUnderWay}
-use Rattle.std.specs.List.{AllByRecursion}
+use Rattle.system_model.specs.Client.{JobStage, Idle, Running, Done, Ended, ClientView}
+use Rattle.system_model.specs.Devices.{Make, abstract_status}
+use Rattle.system_model.specs.SystemStates.{SystemState}
+use Rattle.system_model.specs.Transitions.{IsUnderWay, Transition, after_transition}
+use Rattle.scan_world.specs.declared.endpoint.Endpoint.{Endpoint}
 use Rattle.scan_world.specs.declared.event.Event.TheVariants.{LoseControl}
+use Rattle.scan_world.specs.JobMoves.{IsNextMove}
+use Rattle.scan_world.specs.Worlds.{WorldCore}
+use Rattle.world_refines.specs.FailedSources.{AllAlong}
+use Rattle.world_refines.specs.GhostStates.{job_state, place_named, place_of_info, abstract_job}
+use Rattle.world_refines.specs.NewWorlds.{make_of}
+use Rattle.world_refines.specs.WorldRefinement.{client_at_greeting}
+use Rattle.world_contract.specs.Calls.{HadUnsaidReply}
+use Rattle.world_contract.specs.Endings.{AnswerIsExplained, IsEndingExplained, IsUnforced, NamesStatus}
+use Rattle.world_contract.specs.Histories.{History, LedTo, history_up_to}
+use Rattle.world_contract.specs.Laws.{Below}
+use Rattle.world_contract.proofs.Along.{Fine, Here, Laws, NotForced, Own, device_named, forced_there}
+use Rattle.world_contract.proofs.Connected.{all_behind}
+use Rattle.world_contract.proofs.Cuts.{cut_of_history}
+use Rattle.world_contract.proofs.Jobs.{IsJob}
+use Rattle.world_contract.proofs.Nearest.{none_nearest}
+use Rattle.world_contract.proofs.OfJobs.{all_of_jobs}
+use Rattle.world_contract.proofs.Pages.{IsOfOne, all_of_one, first_slot}
+use Rattle.world_contract.proofs.Scanned.{at_first, fresh_there, infos_of, untouched_at_first}
+use Rattle.world_contract.proofs.Sources.{have_sources, loads_fit, sources_of}
+use Rattle.world_contract.proofs.Traced.{each_of, traced}
+use Rattle.world_contract.proofs.moments.Judged.{EndedBy, Evid, Judged, JudgedAt, StepSo, all_judged}
+use Rattle.world_contract.proofs.moments.Moments.{AnsweredSo, Comes, HappenedSo, come}
 
 -- ---- the words of the rules, and those of the clients
 
@@ -144,38 +144,44 @@ unforced h i job o none device there named =
 
 -- ---- the table
 
-setting_row : (status : Code) (why : Reason) (w : Why) → why_of why ≡ Some w → (w ≡ words.Setting) ⊎ (w ≡ words.Answer) → (why ≡ whys.Setting) ⊎ (why ≡ whys.Answer)
-setting_row status why w is (inl e) = inl (why_is why words.Setting (is ∙ ap (λ (x : Why). Some x) e))
-setting_row status why w is (inr e) = inr (why_is why words.Answer (is ∙ ap (λ (x : Why). Some x) e))
+explained_as : (h : History) (w : WorldCore) (i : ℕ) (job : Job) (starved : Bool) (status : Code) (why as_why : Reason) → why ≡ as_why → IsEndingExplained h w i job starved status as_why → IsEndingExplained h w i job starved status why
+explained_as h w i job starved status why as_why e x = subst (IsEndingExplained h w i job starved status) (sym e) x
 
-row : (h : History) (i : ℕ) (job : Job) (starved : Bool) (status : Code) (why : Reason) (w : Why) (c : Cause) → why_of why ≡ Some w → (c ≡ LinkOutOfMemory → starved ≡ true) → Evid h i job c → Explains c (abstract_status status) w → IsEndingExplained h i job starved status why
-row h i job starved status why w GaveUp is z e x = GaveUpRow (both_are status why words.GivenUp words.Cancelled w is x) e
-row h i job starved status why w LinkLost is z e x = LostLink (both_are status why words.IoError words.Lost w is x) e
-row h i job starved status why w WasUnsaid is z e x = absurd x
-row h i job starved status why w LinkOutOfMemory is z e x = Starved (both_are status why words.IoError words.Lost w is x) (z refl)
-row h i job starved status why w SourceFailed is z e x = SourceFailedRow (both_are status why words.IoError words.Answer w is x) e.0.0 e.0.1 e.1.0 e.1.1 e.1.2
-row h i job starved status why w NamesEof is z e x = NamesEofRow (both_are status why words.IoError words.Short w is x) e.0 e.1.0 (code_in e.1.0.setup.told words.Eof e.1.1)
-row h i job starved status why w (Names s) is z e x =
-    NamesStatus (λ eof. x.1 (sym x.0 ∙ ap abstract_status eof), why_is why words.Answer (is ∙ ap (λ (y : Why). Some y) x.2)) e.0 e.1.0
-    (code_in e.1.0.setup.told s e.1.1 ∙ ap (λ (y : Code). Some y) (sym (code_is status s x.0)))
-row h i job starved status why w Unforced is z e x = absurd e
-row h i job starved status why w WasUnlisted is z e x = Unlisted (both_are status why words.Inval words.Answer w is x) e.0 e.1 e.2
-row h i job starved status why w HadNoPicture is z e x = HadNoPictureRow (both_are status why words.Inval words.Answer w is x) e.0.0 e.0.1 e.1
-row h i job starved status why w WasHeld is z e x = WasHeldRow (both_are status why words.Busy words.Answer w is x) e.0.0 e.0.1 e.1
-row h i job starved status why w Disallowed is z e x = DisallowedRow (both_are status why words.AccessDenied words.Answer w is x) e.0.0 e.0.1 e.1
-row h i job starved status why w TrayWasEmpty is z e x = TrayWasEmptyRow (both_are status why words.NoDocs words.Answer w is x) e.0.0 e.0.1 e.1
-row h i job starved status why w TrayRanOut is z e x = absurd x
-row h i job starved status why w ClientOutOfMemory is z e x = ClientStarvedRow (both_are status why words.NoMem words.Memory w is x) e.0 e.1
+answered_as : (h : History) (w : WorldCore) (i : ℕ) (job : Job) (starved : Bool) (status as_status : Code) (why : Reason) → (status ≡ as_status) × (why ≡ whys.Answer) → AnswerIsExplained h w i job as_status → IsEndingExplained h w i job starved status why
+answered_as h w i job starved status as_status why e x = explained_as h w i job starved status why whys.Answer e.1 (inr (subst (AnswerIsExplained h w i job) (sym e.0) x))
 
-table : (h : History) (i : ℕ) (job : Job) (starved : Bool) (met : List Cause) (status : Code) (why : Reason) (w : Why) → Own h i job → why_of why ≡ Some w → (IsCauseAmong LinkOutOfMemory met → starved ≡ true) → EndedBy h i job met (abstract_status status) w → IsEndingExplained h i job starved status why
-table h i job starved met status why w o is z (inl (c, e, m, x)) = row h i job starved status why w c is (λ same. z (subst (λ (y : Cause). IsCauseAmong y met) same m)) e x
-table h i job starved met status why w o is z (inr n) = UnforcedRow (code_is status words.Inval n.1.0, setting_row status why w is n.1.1) (unforced h i job o n.0)
+row : (h : History) (w : WorldCore) (i : ℕ) (job : Job) (starved : Bool) (status : Code) (why : Reason) (v : Why) (c : Cause) → why_of why ≡ Some v → (c ≡ LinkOutOfMemory → starved ≡ true) → Evid h w i job c → Explains c (abstract_status status) v → IsEndingExplained h w i job starved status why
+row h w i job starved status why v GaveUp is z e x = let b = both_are status why words.GivenUp words.Cancelled v is x in explained_as h w i job starved status why whys.Cancelled b.1 (b.0, e)
+row h w i job starved status why v LinkLost is z e x = let b = both_are status why words.IoError words.Lost v is x in explained_as h w i job starved status why whys.Lost b.1 (b.0, inl e)
+row h w i job starved status why v WasUnsaid is z e x = absurd x
+row h w i job starved status why v LinkOutOfMemory is z e x = let b = both_are status why words.IoError words.Lost v is x in explained_as h w i job starved status why whys.Lost b.1 (b.0, inr (z refl))
+row h w i job starved status why v SourceFailed is z e x = answered_as h w i job starved status codes.IoError why (both_are status why words.IoError words.Answer v is x) e
+row h w i job starved status why v NamesEof is z e x =
+    let b = both_are status why words.IoError words.Short v is x in
+    explained_as h w i job starved status why whys.Short b.1 (b.0, (e.0, e.1, (e.2.0, code_in e.2.0.setup.told words.Eof e.2.1)))
+row h w i job starved status why v (Names s) is z e x =
+    let named : NamesStatus h w i job status = (e.0, e.1, (e.2.0, code_in e.2.0.setup.told s e.2.1 ∙ ap (λ (y : Code). Some y) (sym (code_is status s x.0)))) in
+    let other : status ≢ codes.Eof = λ eof. x.1 (sym x.0 ∙ ap abstract_status eof) in
+    explained_as h w i job starved status why whys.Answer (why_is why words.Answer (is ∙ ap (λ (y : Why). Some y) x.2)) (inl (other, named))
+row h w i job starved status why v Unforced is z e x = absurd e
+row h w i job starved status why v WasUnlisted is z e x = answered_as h w i job starved status codes.Inval why (both_are status why words.Inval words.Answer v is x) (inr (inl e))
+row h w i job starved status why v HadNoPicture is z e x = answered_as h w i job starved status codes.Inval why (both_are status why words.Inval words.Answer v is x) (inr (inr e))
+row h w i job starved status why v WasHeld is z e x = answered_as h w i job starved status codes.DeviceBusy why (both_are status why words.Busy words.Answer v is x) e
+row h w i job starved status why v Disallowed is z e x = answered_as h w i job starved status codes.AccessDenied why (both_are status why words.AccessDenied words.Answer v is x) e
+row h w i job starved status why v TrayWasEmpty is z e x = answered_as h w i job starved status codes.NoDocs why (both_are status why words.NoDocs words.Answer v is x) e
+row h w i job starved status why v TrayRanOut is z e x = absurd x
+row h w i job starved status why v ClientOutOfMemory is z e x = let b = both_are status why words.NoMem words.Memory v is x in explained_as h w i job starved status why whys.Memory b.1 (b.0, e)
+
+-- settings that cannot be in force
+unforced_row : (h : History) (w : WorldCore) (i : ℕ) (job : Job) (starved : Bool) (status : Code) (why : Reason) (v : Why) → status ≡ codes.Inval → why_of why ≡ Some v → (v ≡ words.Setting) ⊎ (v ≡ words.Answer) → IsUnforced h job → IsEndingExplained h w i job starved status why
+unforced_row h w i job starved status why v inval is (inl e) none = explained_as h w i job starved status why whys.Setting (why_is why words.Setting (is ∙ ap (λ (x : Why). Some x) e)) (inval, none)
+unforced_row h w i job starved status why v inval is (inr e) none = answered_as h w i job starved status codes.Inval why (inval, why_is why words.Answer (is ∙ ap (λ (x : Why). Some x) e)) (inl none)
+
+table : (h : History) (w : WorldCore) (i : ℕ) (job : Job) (starved : Bool) (met : List Cause) (status : Code) (why : Reason) (v : Why) → Own h i job → why_of why ≡ Some v → (IsCauseAmong LinkOutOfMemory met → starved ≡ true) → EndedBy h w i job met (abstract_status status) v → IsEndingExplained h w i job starved status why
+table h w i job starved met status why v o is z (inl (c, e, m, x)) = row h w i job starved status why v c is (λ same. z (subst (λ (y : Cause). IsCauseAmong y met) same m)) e x
+table h w i job starved met status why v o is z (inr n) = unforced_row h w i job starved status why v (code_is status words.Inval n.1.0) is n.1.1 (unforced h i job o n.0)
 
 -- ---- the job at its end
-
-first_owned : (h : History) (job : Job) (k : Make) (d : ℕ) (o : Option DeviceState) → Owned (Unit {0}) (IsHeldBy h job d) (device_view k (fresh_device o))
-first_owned h job k d None = record { gone = λ e. tt; held = λ j e. absurd (let clash : None ≡ Some j = e in cc) }
-first_owned h job k d (Some s) = record { gone = λ e. tt; held = λ j e. absurd (let clash : None ≡ Some j = e in cc) }
 
 woken_ended : (st : JobStage) (m : ClientView) (status : Status) (why : Why) → m.stage ≡ st → (client_at_greeting st m).stage ≡ Ended status why → st ≡ Ended status why
 woken_ended Idle m status why e h = absurd (let clash : Running rules.Greeting ≡ Ended status why = h in cc)
@@ -186,96 +192,79 @@ woken_ended (Ended s w) m status why e h = sym e ∙ h
 ended_reads : (place : DeviceInfo → ℕ) (errand : JobTarget) (job : rules.AbstractJob) (pages : List (List Frame)) (o : Outcome) (progress : Progress) (notes : Notes) (past : JoinHistory) (m : ClientView) (status : Code) (why : Reason) → OutcomeRefines place errand job pages o progress notes past m → o ≡ outcomes.Ended status why → EndedAs status why m
 ended_reads place errand job pages o progress notes past m status why h e = subst (λ (x : Outcome). OutcomeRefines place errand job pages x progress notes past m) e h
 
--- each cause that a job met that is under way has its evidence, and its ending has its own
-pub judged_there : (below : Below) (h : History) (w : WorldCore) (i : ℕ) (job : Job) (endpoint : Endpoint) → (j : IsJob h w i job endpoint) → JudgedAt h i job (kept_by below.kept h w job j.led).run.ghost_then.system
-judged_there below h w i job endpoint j =
-    let l = j.led in
-    let k = kept_by below.kept h w job l in
+both_along : (P Q : SystemState → Transition → Type 0) (s : SystemState) (xs : List Transition) → AllAlong P s xs → AllAlong Q s xs → AllAlong (λ (t : SystemState) (x : Transition). P t x × Q t x) s xs
+both_along P Q s [] a b = tt
+both_along P Q s (x ∷ xs) a b = ((a.0, b.0), both_along P Q (after_transition s x) xs a.1 b.1)
+
+-- all steps, each with the moment of its event
+pub comes_there : (below : Below) (h : History) (w : WorldCore) (job : Job) (l : LedTo h w) → Comes h w job h.events (at_first h w job l)
+comes_there below h w job l =
     let t = at_first h w job l in
-    let u = k.run.ghost_then in
-    let steps = k.run.steps in
     let new = below.new (sources_of h) h.jobs job h.devices l.first l.endpoints l.daemon l.names l.limits (have_sources h) l.fit in
-    let o : Own h i job = record { at = j.job_at; apart = new.is_of.apart; same = below.same } in
-    let fine : Fine h job t.system = record { makes = refl; places = λ n. refl; slots = λ d. first_slot h (t.system.make d) d; owned = λ d. first_owned h job (t.system.make d) d (slice_get h.devices d) } in
-    let here : Here h i job t.system = record { own_job = o; fine = fine; is = ap (λ (users : List Entry). abstract_job users (infos_of h) (slice_index_or h.jobs i job)) l.users_are ∙ ap (λ (x : Job). abstract_job h.users (infos_of h) x) (get_or_from_slice_get h.jobs i job job j.job_at); asks = λ c is. absurd (let clash : None ≡ Some c = is in cc); sound = new.sound } in
-    let laws : Laws = record { legal = below.marks; sound = below.histories; last = below.last; grounds = below.grounds } in
-    let of = all_of_one h steps (each_of t.infos h.events steps (traced h.events t steps u k.run.comes)) (all_of_jobs h.events t steps u (untouched_at_first h w job l) k.run.comes) (cut_of_history h t u job steps l.users_are refl refl k.run.comes) (behind_there h w job l k.run) in
-    let answers = all_answers below.marks below.histories h steps t.system new.sound (fresh_there h w job l) (none_out h t.system refl) (traced h.events t steps u k.run.comes) k.run.legal in
-    subst (JudgedAt h i job) (sym k.run.rules_are) (all_judged laws h i job steps t.system here of (steps_there h w job l k.run answers) k.run.legal tt)
+    let first : LedTo (history_up_to h []) l.first = record { first = l.first; endpoints = l.endpoints; daemon = l.daemon; users_are = l.users_are; names = l.names; limits = l.limits; fit = l.fit; loads = tt; runs = refl } in
+    come below.follows below.histories h w job h.events [] t l.first refl first l.loads (loads_fit h) l.runs new (ap (λ (users : List Entry). (users, infos_of h, length h.jobs, λ (k : ℕ). slice_index_or h.jobs k job)) l.users_are)
 
--- the end, in the words of the rules
-ended_there : (below : Below) (h : History) (w : WorldCore) (i : ℕ) (job : Job) (endpoint : Endpoint) (status : Code) (why : Reason) → (j : IsJob h w i job endpoint) → endpoint.client.outcome ≡ outcomes.Ended status why →
-    (v : Why) × (why_of why ≡ Some v) × EndedBy h i job (job_state (kept_by below.kept h w job j.led).run.ghost_then i).session.met (abstract_status status) v
-ended_there below h w i job endpoint status why j e =
-    let k = kept_by below.kept h w job j.led in
-    let u = k.run.ghost_then in
-    let sits = k.run.stands.endpoints i endpoint j.endpoint_at in
-    let d = ended_reads (place_of_info u.infos) (target_of (u.jobs i)) (job_state u i).session.job (map (λ (q : JoinHistory). q.ended) (u.pages i)) endpoint.client.outcome endpoint.client.progress endpoint.client.notes (u.history i) (client_at_greeting (job_state u i).client.stage (job_state u i).client) status why sits.talks.reads.stands e in
+pub laws_of : Below → Laws
+laws_of below = record { legal = below.marks; sound = below.histories; last = below.last; grounds = below.grounds }
+
+-- what the first step of it needs
+pub first_here : (below : Below) (h : History) (w : WorldCore) (i : ℕ) (job : Job) (l : LedTo h w) → slice_get h.jobs i ≡ Some job → Here h i job (at_first h w job l).system
+first_here below h w i job l job_at =
+    let t = at_first h w job l in
+    let new = below.new (sources_of h) h.jobs job h.devices l.first l.endpoints l.daemon l.names l.limits (have_sources h) l.fit in
+    record {
+      own_job = record { at = job_at; apart = new.is_of.apart; same = below.same };
+      fine = record { makes = refl; places = λ n. refl; slots = λ d. first_slot h (t.system.make d) d };
+      is = ap (λ (users : List Entry). abstract_job users (infos_of h) (slice_index_or h.jobs i job)) l.users_are ∙ ap (λ (x : Job). abstract_job h.users (infos_of h) x) (get_or_from_slice_get h.jobs i job job job_at);
+      asks = λ c is. absurd (let clash : None ≡ Some c = is in cc);
+      sound = new.sound;
+    }
+
+pub steps_of_one : (below : Below) (h : History) (w : WorldCore) (job : Job) (l : LedTo h w) → AllByRecursion (IsOfOne h) (comes_there below h w job l).steps
+steps_of_one below h w job l =
+    let k = comes_there below h w job l in
+    let t = at_first h w job l in
+    let u = k.ghost_then in
+    let steps = k.steps in
+    let behind = all_behind (infos_of h) h.events steps t.system (fresh_there h w job l) (traced h.events t steps u k.comes) k.legal in
+    all_of_one h steps (each_of t.infos h.events steps (traced h.events t steps u k.comes)) (all_of_jobs h.events t steps u (untouched_at_first h w job l) k.comes) (cut_of_history h t u job steps l.users_are refl refl k.comes) behind
+
+-- each cause that a job met that is under way has its evidence, and its ending has its own
+pub judged_there : (below : Below) (h : History) (w : WorldCore) (i : ℕ) (job : Job) (l : LedTo h w) → slice_get h.jobs i ≡ Some job → JudgedAt h w i job (comes_there below h w job l).ghost_then.system
+judged_there below h w i job l job_at =
+    let k = comes_there below h w job l in
+    let t = at_first h w job l in
+    subst (JudgedAt h w i job) (sym k.rules_are) (all_judged (laws_of below) h w i job k.steps t.system (first_here below h w i job l job_at) (steps_of_one below h w job l) (both_along (AnsweredSo h w job) (HappenedSo h w job) t.system k.steps k.answered k.happened) k.legal tt)
+
+pub at_end : Below → (h : History) (w : WorldCore) (i : ℕ) (job : Job) (endpoint : Endpoint) (status : Code) (why : Reason) → IsJob h w i job endpoint → endpoint.client.outcome ≡ outcomes.Ended status why → IsEndingExplained h w i job endpoint.out_of_memory status why
+at_end below h w i job endpoint status why j is =
+    let k = comes_there below h w job j.led in
+    let u = k.ghost_then in
+    let o = (first_here below h w i job j.led j.job_at).own_job in
+    let sits = k.stands.endpoints i endpoint j.endpoint_at in
+    let d = ended_reads (place_of_info u.infos) (target_of (u.jobs i)) (job_state u i).session.job (map (λ (q : JoinHistory). q.ended) (u.pages i)) endpoint.client.outcome endpoint.client.progress endpoint.client.notes (u.history i) (client_at_greeting (job_state u i).client.stage (job_state u i).client) status why sits.talks.reads.stands is in
     let stage = woken_ended (job_state u i).client.stage (job_state u i).client (abstract_status status) d.0 refl d.1.1 in
-    (d.0, d.1.0, subst (Judged h i job (job_state u i).session.met) stage (judged_there below h w i job endpoint j))
-
-pub at_end : Below → (h : History) (w : WorldCore) (i : ℕ) (job : Job) (endpoint : Endpoint) (status : Code) (why : Reason) → IsJob h w i job endpoint → endpoint.client.outcome ≡ outcomes.Ended status why → IsEndingExplained h i job endpoint.out_of_memory status why
-at_end below h w i job endpoint status why j e =
-    let k = kept_by below.kept h w job j.led in
-    let u = k.run.ghost_then in
-    let new = below.new (sources_of h) h.jobs job h.devices j.led.first j.led.endpoints j.led.daemon j.led.names j.led.limits (have_sources h) j.led.fit in
-    let o : Own h i job = record { at = j.job_at; apart = new.is_of.apart; same = below.same } in
-    let sits = k.run.stands.endpoints i endpoint j.endpoint_at in
-    let d = ended_there below h w i job endpoint status why j e in
-    table h i job endpoint.out_of_memory (job_state u i).session.met status why d.0 o d.1 sits.means.starved d.2
-
--- ---- where IO_ERROR was answered
-
-abbrev IsFailed : History → ℕ → Job → Type 0
-IsFailed h i job = HadFailure h i job ⊎ NamesIoError h job
-
-answer_is : (w : Why) → why_of whys.Answer ≡ Some w → w ≡ words.Answer
-answer_is w is = let same : Some words.Answer ≡ Some w = is in cc
-
-failed_row : (h : History) (i : ℕ) (job : Job) (w : Why) (c : Cause) → w ≡ words.Answer → Evid h i job c → Explains c words.IoError w → IsFailed h i job
-failed_row h i job w GaveUp is e x = absurd (let clash : words.IoError ≡ words.GivenUp = x.0 in cc)
-failed_row h i job w LinkLost is e x = absurd (let clash : words.Answer ≡ words.Lost = sym is ∙ x.1 in cc)
-failed_row h i job w WasUnsaid is e x = absurd x
-failed_row h i job w LinkOutOfMemory is e x = absurd (let clash : words.Answer ≡ words.Lost = sym is ∙ x.1 in cc)
-failed_row h i job w SourceFailed is e x = inl e.2
-failed_row h i job w NamesEof is e x = absurd (let clash : words.Answer ≡ words.Short = sym is ∙ x.1 in cc)
-failed_row h i job w (Names s) is e x = inr (e.1.0, code_in e.1.0.setup.told s e.1.1 ∙ ap (λ (y : Code). Some y) (sym (code_is codes.IoError s x.0)))
-failed_row h i job w Unforced is e x = absurd e
-failed_row h i job w WasUnlisted is e x = absurd (let clash : words.IoError ≡ words.Inval = x.0 in cc)
-failed_row h i job w HadNoPicture is e x = absurd (let clash : words.IoError ≡ words.Inval = x.0 in cc)
-failed_row h i job w WasHeld is e x = absurd (let clash : words.IoError ≡ words.Busy = x.0 in cc)
-failed_row h i job w Disallowed is e x = absurd (let clash : words.IoError ≡ words.AccessDenied = x.0 in cc)
-failed_row h i job w TrayWasEmpty is e x = absurd (let clash : words.IoError ≡ words.NoDocs = x.0 in cc)
-failed_row h i job w TrayRanOut is e x = absurd x
-failed_row h i job w ClientOutOfMemory is e x = absurd (let clash : words.IoError ≡ words.NoMem = x.0 in cc)
-
-failed_by_table : (h : History) (i : ℕ) (job : Job) (met : List Cause) (w : Why) → w ≡ words.Answer → EndedBy h i job met words.IoError w → IsFailed h i job
-failed_by_table h i job met w is (inl (c, e, m, x)) = failed_row h i job w c is e x
-failed_by_table h i job met w is (inr n) = absurd (let clash : words.IoError ≡ words.Inval = n.1.0 in cc)
-
-pub failed_at_end : Below → (h : History) (w : WorldCore) (i : ℕ) (job : Job) (endpoint : Endpoint) → IsJob h w i job endpoint → endpoint.client.outcome ≡ outcomes.Ended codes.IoError whys.Answer → IsFailed h i job
-failed_at_end below h w i job endpoint j e =
-    let s = ended_there below h w i job endpoint codes.IoError whys.Answer j e in
-    failed_by_table h i job (job_state (kept_by below.kept h w job j.led).run.ghost_then i).session.met s.0 (answer_is s.0 s.1) s.2
+    let judged = subst (Judged h w i job (job_state u i).session.met) stage (judged_there below h w i job j.led j.job_at) in
+    table h w i job endpoint.out_of_memory (job_state u i).session.met status why d.0 o d.1.0 sits.means.starved judged
 
 -- ---- a reply that could not be said
 
-unsaid_among : (h : History) (i : ℕ) (job : Job) (met : List Cause) → AllByRecursion (Evid h i job) met → IsCauseAmong WasUnsaid met → HadUnsaidReply h job
-unsaid_among h i job [] a m = absurd m
-unsaid_among h i job (c ∷ met) a (inl same) = subst (Evid h i job) (sym same) a.0
-unsaid_among h i job (c ∷ met) a (inr m) = unsaid_among h i job met a.1 m
+unsaid_among : (h : History) (w : WorldCore) (i : ℕ) (job : Job) (met : List Cause) → AllByRecursion (Evid h w i job) met → IsCauseAmong WasUnsaid met → HadUnsaidReply h job
+unsaid_among h w i job [] a m = absurd m
+unsaid_among h w i job (c ∷ met) a (inl same) = subst (Evid h w i job) (sym same) a.0
+unsaid_among h w i job (c ∷ met) a (inr m) = unsaid_among h w i job met a.1 m
 
-unsaid_judged : (h : History) (i : ℕ) (job : Job) (met : List Cause) (stage : JobStage) → IsUnderWay stage → Judged h i job met stage → IsCauseAmong WasUnsaid met → HadUnsaidReply h job
-unsaid_judged h i job met Idle on a m = unsaid_among h i job met a m
-unsaid_judged h i job met (Running g) on a m = unsaid_among h i job met a m
-unsaid_judged h i job met Done on a m = absurd on
-unsaid_judged h i job met (Ended status why) on a m = absurd on
-
-loss_by : (below : Below) (h : History) (w : WorldCore) (i : ℕ) (job : Job) (endpoint : Endpoint) (j : IsJob h w i job endpoint) → (endpoint.out_of_memory ≡ true) ⊎ (IsUnderWay (job_state (kept_by below.kept h w job j.led).run.ghost_then i).client.stage × IsCauseAmong WasUnsaid (job_state (kept_by below.kept h w job j.led).run.ghost_then i).session.met) → (endpoint.out_of_memory ≡ true) ⊎ HadUnsaidReply h job
-loss_by below h w i job endpoint j (inl out) = inl out
-loss_by below h w i job endpoint j (inr met) =
-    let u = (kept_by below.kept h w job j.led).run.ghost_then in
-    inr (unsaid_judged h i job (job_state u i).session.met (job_state u i).client.stage met.0 (judged_there below h w i job endpoint j) met.1)
+unsaid_judged : (h : History) (w : WorldCore) (i : ℕ) (job : Job) (met : List Cause) (stage : JobStage) → IsUnderWay stage → Judged h w i job met stage → IsCauseAmong WasUnsaid met → HadUnsaidReply h job
+unsaid_judged h w i job met Idle on a m = unsaid_among h w i job met a m
+unsaid_judged h w i job met (Running g) on a m = unsaid_among h w i job met a m
+unsaid_judged h w i job met Done on a m = absurd on
+unsaid_judged h w i job met (Ended status why) on a m = absurd on
 
 pub loss_kept : (below : Below) (h : History) (w : WorldCore) (i : ℕ) (job : Job) (endpoint : Endpoint) → IsJob h w i job endpoint → IsNextMove w.daemon i endpoint (Some (LoseControl i)) → (endpoint.out_of_memory ≡ true) ⊎ HadUnsaidReply h job
-loss_kept below h w i job endpoint j next = loss_by below h w i job endpoint j ((kept_by below.kept h w job j.led).promises.losses i endpoint j.endpoint_at next)
+loss_kept below h w i job endpoint j next =
+    let k = comes_there below h w job j.led in
+    let u = k.ghost_then in
+    elim (below.losses u w i endpoint k.stands j.endpoint_at next) [
+      | inl out ↦ inl out
+      | inr met ↦ inr (unsaid_judged h w i job (job_state u i).session.met (job_state u i).client.stage met.0 (judged_there below h w i job j.led j.job_at) met.1)
+    ]

@@ -31,10 +31,11 @@ use Rattle.world_contract.specs.Settings.{AreSettingsPut}
 use Rattle.world_contract.specs.Page.{AreInForce, CameFor, IsScan, IsSteady}
 use Rattle.world_contract.specs.Page.CameFor.{AtFirst, WithEvent}
 use Rattle.world_contract.specs.Promise.{FileIsKept}
-use Rattle.world_contract.specs.Calls.{IsJobAt, KeepsScanFile, KeepsOutcome, KeepsRunning, LoadsNothing, outcome_at, starved_at}
+use Rattle.world_contract.specs.Calls.{IsJobAt, KeepsScanFile, KeepsOutcome, KeepsRunning, outcome_at, starved_at}
 use Rattle.world_contract.specs.Examples.{HasExplanation, IsScanOf, until_busy}
 use Rattle.world_contract.proofs.Along.{get_at}
 use Rattle.world_contract.proofs.Lists.{all_then, at_all}
+use Rattle.world_contract.proofs.NextMoves.{LoadsNothing, quiet_moves}
 
 only_one : {X : Type 0} → (x : X) (k : ℕ) (d : X) → k < length (x ∷ []) → slice_index_or (x ∷ []) k d ≡ x
 only_one x zero d within = refl
@@ -92,8 +93,8 @@ on_flatbed : (name : List ℕ) (source : SourceState) (placed : List Placement) 
 unfolding defaults
 on_flatbed name source placed setup job h = h
 
-scan_of_one : (h : History) (job : Job) (bytes : List ℕ) (name : List ℕ) (source : SourceState) → IsOnly h.devices name source job.device → AllByRecursion LoadsNothing h.events → IsScan h job bytes → IsScanOf source.page job bytes
-scan_of_one h job bytes name source only quiet scan =
+scan_of_one : (h : History) (w : WorldCore) (i count : ℕ) (job : Job) (bytes : List ℕ) (name : List ℕ) (source : SourceState) → IsOnly h.devices name source job.device → AllByRecursion LoadsNothing h.events → IsScan h w i job count bytes → IsScanOf source.page job bytes
+scan_of_one h w i count job bytes name source only quiet scan =
     let s = scan.settled in
     let same : new_scanner Flatbed name source Little ≡ s.device = only s.device s.is_there s.named in
     let page : source.page ≡ scan.held.page = page_is h name job.device source scan.held only quiet scan.came in
@@ -130,9 +131,10 @@ once old new name source states users job jobs outcome bytes only own steady led
     let h = and_then (begun states users jobs) out.moves in
     let at : IsJobAt h new 0 job = record { led = out.led; job_at = ap (λ (js : List Job). slice_get js 0) own } in
     let reports = done_reports outcome done in
-    let kept : FileIsKept h job (starved_at new 0) outcome (Some bytes) = file h job at outcome there in
+    let kept : FileIsKept h new 0 job (starved_at new 0) outcome (Some bytes) = file h job at outcome there in
     let this : IsOnly states name source job.device = only out.led.names in
-    scan_of_one h job bytes name source this out.quiet (kept.scanned reports.0 bytes (steady_for_all h name job.device source this steady out.quiet) scan reports.1 refl)
+    let quiet = quiet_moves out.moves old new out.next in
+    scan_of_one h new 0 0 job bytes name source this quiet (kept.scanned reports.0 bytes (steady_for_all h name job.device source this steady quiet) scan reports.1 refl)
 
 pub beside : (old mid new : WorldCore) (name : List ℕ) (source : SourceState) (states : List DeviceState) (users : List Entry) (first second : Job) (jobs : List Job) (outcome : Outcome) (bytes : List ℕ) (events : List Event) →
     states ≡ new_scanner Flatbed name source Little ∷ [] → jobs ≡ first ∷ second ∷ [] → source.steady ≡ true → LedTo (begun states users jobs) old → events ≡ until_busy → ((h : History) → LedTo h old → LedTo (and_then h events) mid) → KeepsRunning mid new →
@@ -143,10 +145,10 @@ beside old mid new name source states users first second jobs outcome bytes even
     let h = and_then asked out.moves in
     let at : IsJobAt h new 0 first = record { led = out.led; job_at = ap (λ (js : List Job). slice_get js 0) own } in
     let reports = done_reports outcome done in
-    let kept : FileIsKept h first (starved_at new 0) outcome (Some bytes) = file h first at outcome there in
-    let quiet = all_then LoadsNothing events out.moves (both_quiet events are) out.quiet in
+    let kept : FileIsKept h new 0 first (starved_at new 0) outcome (Some bytes) = file h first at outcome there in
+    let quiet = all_then LoadsNothing events out.moves (both_quiet events are) (quiet_moves out.moves mid new out.next) in
     let this : IsOnly states name source first.device = only_device states name first.device source devices in
-    scan_of_one h first bytes name source this quiet (kept.scanned reports.0 bytes (steady_for_all h name first.device source this steady quiet) scan reports.1 refl)
+    scan_of_one h new 0 0 first bytes name source this quiet (kept.scanned reports.0 bytes (steady_for_all h name first.device source this steady quiet) scan reports.1 refl)
 
 pub busy : (old mid new : WorldCore) (name : List ℕ) (source : SourceState) (states : List DeviceState) (users : List Entry) (first second : Job) (jobs : List Job) (outcome : Outcome) (given : Option Outcome) (events : List Event) →
     states ≡ new_scanner Flatbed name source Little ∷ [] → jobs ≡ first ∷ second ∷ [] → source.steady ≡ true → LedTo (begun states users jobs) old → events ≡ until_busy → ((h : History) → LedTo h old → LedTo (and_then h events) mid) → KeepsRunning mid new →
@@ -158,7 +160,7 @@ busy old mid new name source states users first second jobs outcome given events
     let at : IsJobAt h new 1 second = record { led = out.led; job_at = ap (λ (js : List Job). slice_get js 1) own } in
     let o = kept h second at in
     let same : o.0 ≡ outcome = (let both : Some o.0 ≡ Some outcome = sym o.1 ∙ is in cc) in
-    record { history = h; jobs = own; starved = starved_at new 1; caused = (o.2.ended DeviceBusy Answer (same ∙ told)).caused }
+    record { history = h; jobs = own; world = new; led = out.led; starved = starved_at new 1; caused = (o.2.ended DeviceBusy Answer (same ∙ told)).caused }
 
 -- ---- the same of boxes
 

@@ -83,3 +83,7 @@ mine_loads P i d (Rested j e) h = tt
 mine_loads P i d (Returned j e) h = tt
 mine_loads P i d (Loaded e page) h = absurd h
 mine_loads P i d (Removed e) h = tt
+
+pub slotted_then : (D : Type 0) (P : Page → Type 0) (ms : List Mark) (s t : DeviceView) → MarksLead s ms t → AllByRecursion (LoadsIt P) ms → Slotted D P s → Slotted D P t
+slotted_then D P [] s t g l h = subst (Slotted D P) g h
+slotted_then D P (m ∷ ms) s t g l h = slotted_then D P ms (view_after_mark s m) t g.1 l.1 (keeps D P s m g.0 l.0 h).0

@@ -1,10 +1,12 @@
 -- What events leave of a job that is over, and how they end one that runs.
-use Rattle.std.specs.Prelude.{◌≢◌, ◌==◌, ◌||◌, ◌&&◌, if◌then◌else◌, Contains, nat_lt, min, cond, option_map, option_and_then, slice_index_or}
+use Rattle.std.specs.Prelude.{◌≢◌, ◌==◌, ◌<◌, ◌||◌, ◌&&◌, if◌then◌else◌, Contains, nat_lt, min, cond, option_map, option_and_then, slice_index_or}
 use Rattle.std.proofs.Common.{◌≡◌, ◌∙◌, ℕ, zero, suc, ◌-◌, ◌≤◌, ◌⊎◌, Bool, true, false, Option, Some, None, List, [], ◌∷◌, slice_get, slice_set, refl, sym, ap, subst, arith, inl, inr}
 use Rattle.page_picture.specs.SourceView.{source_state}
+use Rattle.sane_fixed.specs.declared.status.Status.{Status}
 use Rattle.sane_fixed.specs.declared.status.Status.TheVariants as statuses
 use Rattle.scan_job.specs.declared.outcome.Outcome.{Outcome}
 use Rattle.scan_job.specs.declared.outcome.Outcome.TheVariants as outcomes
+use Rattle.scan_job.specs.declared.outcome.Why.{Why}
 use Rattle.scan_job.specs.declared.outcome.Why.TheVariants as whys
 use Rattle.client_replies.specs.declared.progress.Link.{Link}
 use Rattle.client_replies.specs.declared.progress.Link.TheVariants as links
@@ -27,8 +29,10 @@ use Rattle.scan_world.specs.JobMoves.{moves_left_of}
 use Rattle.scan_world.specs.Worlds.{AtEndpoint, Leads, Runs, WorldCore}
 use Rattle.scan_world.proofs.Deciding.{can_or_not}
 use Rattle.scan_world.proofs.Events.{linked_by, post_or_none}
-use Rattle.scan_world.proofs.Falling.{never_more}
-use Rattle.world_contract.specs.Calls.{CancelEnds, LossEnds, MovesFall, OthersStay, OverStays, finished_by, moves_answered, outcome_at}
+use Rattle.scan_world.proofs.Falling.{never_more, one_less}
+use Rattle.world_contract.specs.Calls.{CancelEnds, MoveLowers, MovesFall, OthersStay, OverStays, finished_by, left_at, moves_answered, outcome_at}
+use Rattle.world_contract.proofs.Led.{first_runs, runs_split}
+use Rattle.world_contract.proofs.moments.Entries.{set_here}
 
 abbrev IsOver : Endpoint → Type 0
 IsOver p = is_running p.client.outcome ≡ false
@@ -266,19 +270,39 @@ moves_fall (e ∷ es) w v (u, one, rest) i =
     let later = moves_fall es u v rest i in
     omega (arith, first, later)
 
+-- an event of a job, at its endpoint
+pub at_own : (i : ℕ) (x : JobEvent) (w v : WorldCore) → Leads source_state (job_event_of i x) w v → AtEndpoint w i x v
+at_own i Connect w v l = l
+at_own i (ToDaemon n) w v l = l
+at_own i (ToClient n) w v l = l
+at_own i DataConnect w v l = l
+at_own i DataTurn w v l = l
+at_own i (DataToClient n) w v l = l
+at_own i LoseControl w v l = l
+at_own i LoseImage w v l = l
+at_own i Cancel w v l = l
+
+pub move_lowers : (es : List Event) (w v : WorldCore) → Runs source_state es w v → MoveLowers es w v
+move_lowers es w v run i own are can some =
+    first_runs (λ (y : WorldCore). left_at y i < left_at w i) (job_event_of i own) [] w v (subst (λ (xs : List Event). Runs source_state xs w v) are run) (λ u leads rest.
+    let a = at_own i own w u leads in
+    let h = a.happens can.0 can.1 in
+    let now : slice_get v.endpoints i ≡ Some h.0 = ap (λ (y : WorldCore). slice_get y.endpoints i) rest ∙ (ap (λ (es : List Endpoint). slice_get es i) h.2 ∙ set_here w.endpoints i can.0 h.0 can.1) in
+    let was : left_at w i ≡ moves_left_of can.0 = ap moves_answered can.1 in
+    let less = one_less w.daemon u.daemon can.0 h.0 own (subst (λ (n : ℕ). 0 < n) was some) can.2 h.1 in
+    subst (λ (o : Option Endpoint). moves_answered o < left_at w i) (sym now) (subst (λ (n : ℕ). moves_left_of h.0 < n) (sym was) less))
+
 -- ---- what ends a job that runs
 
-set_here : (endpoints : List Endpoint) (i : ℕ) (p q : Endpoint) → slice_get endpoints i ≡ Some p → slice_get (slice_set endpoints i q) i ≡ Some q
-set_here [] i p q at = absurd (let clash : None ≡ Some p = at in cc)
-set_here (x ∷ endpoints) zero p q at = refl
-set_here (x ∷ endpoints) (suc i) p q at = set_here endpoints i p q at
+pub ended_stays : (es : List Event) (w v : WorldCore) (i : ℕ) (status : Status) (why : Why) → Runs source_state es w v → outcome_at w i ≡ Some (outcomes.Ended status why) → outcome_at v i ≡ Some (outcomes.Ended status why)
+ended_stays es w v i status why run is = (over_stays es w v run i (outcomes.Ended status why) is (λ r. cc)).outcome ∙ is
 
 set_same : (endpoints : List Endpoint) (i : ℕ) (p : Endpoint) → slice_get endpoints i ≡ Some p → slice_set endpoints i p ≡ endpoints
 set_same [] i p at = absurd (let clash : None ≡ Some p = at in cc)
 set_same (x ∷ endpoints) zero p at = ap (λ (y : Endpoint). y ∷ endpoints) (sym (same_some x p at))
 set_same (x ∷ endpoints) (suc i) p at = ap (λ (es : List Endpoint). x ∷ es) (set_same endpoints i p at)
 
-running_in : (endpoints : List Endpoint) (i : ℕ) (o : Option Endpoint) → slice_get endpoints i ≡ o → option_map (λ (p : Endpoint). p.client.outcome) o ≡ Some outcomes.Running → (p : Endpoint) × (slice_get endpoints i ≡ Some p) × (p.client.outcome ≡ outcomes.Running)
+pub running_in : (endpoints : List Endpoint) (i : ℕ) (o : Option Endpoint) → slice_get endpoints i ≡ o → option_map (λ (p : Endpoint). p.client.outcome) o ≡ Some outcomes.Running → (p : Endpoint) × (slice_get endpoints i ≡ Some p) × (p.client.outcome ≡ outcomes.Running)
 running_in endpoints i None at e = absurd (let clash : None ≡ Some outcomes.Running = e in cc)
 running_in endpoints i (Some p) at e = (p, at, (let both : Some p.client.outcome ≡ Some outcomes.Running = e in cc))
 
@@ -291,19 +315,18 @@ cancel_one w v i a e =
     ap (option_map (λ (p : Endpoint). p.client.outcome)) now ∙ ap (λ (p : Endpoint). Some p.client.outcome) does.1.rest
 
 pub cancel_ends : (es : List Event) (w v : WorldCore) → Runs source_state es w v → CancelEnds es w v
-cancel_ends es w v run i are e = by_one (subst (λ (xs : List Event). Runs source_state xs w v) are run)
-  where
-    by_one : Runs source_state (events.Cancel i ∷ []) w v → outcome_at v i ≡ Some (outcomes.Ended statuses.Cancelled whys.Cancelled)
-    by_one (u, one, rest) = ap (λ (y : WorldCore). outcome_at y i) rest ∙ cancel_one w u i one e
+cancel_ends es w v run i front back split =
+    let s = runs_split front (events.Cancel i ∷ back) w v (subst (λ (xs : List Event). Runs source_state xs w v) split run) in
+    (s.0, s.1, s.2, λ runs. first_runs (λ (y : WorldCore). outcome_at y i ≡ Some (outcomes.Ended statuses.Cancelled whys.Cancelled)) (events.Cancel i) back s.0 v s.2 (λ x one rest. ended_stays back x v i statuses.Cancelled whys.Cancelled rest (cancel_one s.0 x i one runs)))
 
 same_world : (w v : WorldCore) → v.daemon ≡ w.daemon → v.endpoints ≡ w.endpoints → v ≡ w
 same_world w v a b = ap (λ (d : Core). record v { daemon = d }) a ∙ ap (λ (es : List Endpoint). record w { endpoints = es }) b
 
-lost_runs : (b : Bool) (c : ClientState) → b ≡ true → (cond b (after_client_end statuses.IoError whys.Lost c) c).outcome ≡ outcomes.Ended statuses.IoError whys.Lost
+pub lost_runs : (b : Bool) (c : ClientState) → b ≡ true → (cond b (after_client_end statuses.IoError whys.Lost c) c).outcome ≡ outcomes.Ended statuses.IoError whys.Lost
 lost_runs true c e = refl
 lost_runs false c e = absurd (let clash : false ≡ true = e in cc)
 
-lose_one : (w v : WorldCore) (i : ℕ) → AtEndpoint w i LoseControl v → outcome_at w i ≡ Some outcomes.Running → (outcome_at v i ≡ Some (outcomes.Ended statuses.IoError whys.Lost)) ⊎ (v ≡ w)
+pub lose_one : (w v : WorldCore) (i : ℕ) → AtEndpoint w i LoseControl v → outcome_at w i ≡ Some outcomes.Running → (outcome_at v i ≡ Some (outcomes.Ended statuses.IoError whys.Lost)) ⊎ (v ≡ w)
 lose_one w v i a e =
     let there = running_in w.endpoints i (slice_get w.endpoints i) refl e in
     let h = a.happens there.0 there.1 in
@@ -315,9 +338,3 @@ lose_one w v i a e =
           let same = h.1.cannot never in
           inr (same_world w v same.0 (h.2 ∙ (ap (λ (q : Endpoint). slice_set w.endpoints i q) same.1 ∙ set_same w.endpoints i there.0 there.1)))
     ]
-
-pub loss_ends : (es : List Event) (w v : WorldCore) → Runs source_state es w v → LossEnds es w v
-loss_ends es w v run i are e = by_one (subst (λ (xs : List Event). Runs source_state xs w v) are run)
-  where
-    by_one : Runs source_state (events.LoseControl i ∷ []) w v → (outcome_at v i ≡ Some (outcomes.Ended statuses.IoError whys.Lost)) ⊎ (v ≡ w)
-    by_one (u, one, rest) = subst (λ (y : WorldCore). (outcome_at y i ≡ Some (outcomes.Ended statuses.IoError whys.Lost)) ⊎ (y ≡ w)) (sym rest) (lose_one w u i one e)

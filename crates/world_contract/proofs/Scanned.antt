@@ -116,33 +116,6 @@ name_by h name (Some j) device e at =
 pub name_of : (h : History) (name : List ℕ) (device : DeviceState) → slice_get h.devices (place_named (infos_of h) name) ≡ Some device → device.info.name ≡ name
 name_of h name device at = name_by h name (position (is_name name) (infos_of h)) device refl at
 
--- ---- a file that is meant
-
-pub is_scan : (h : History) (job : Job) (begin : Begin) (file : List ℕ) → IsBegun h (place_named (infos_of h) job.device) begin → IsMeant (make_at h (place_named (infos_of h) job.device)) job.settings.items begin file → IsScan h job file
-is_scan h job begin file there meant =
-    let device = there.0.0 in
-    let at = there.0.1 in
-    let b = sources_of h (place_named (infos_of h) job.device) in
-    let m : IsMeant (make_of b (Some device)) job.settings.items begin file = subst (λ (o : Option DeviceState). IsMeant (make_of b o) job.settings.items begin file) at meant in
-    let put = nearest_for device.setup.scene.kind device.setup.order job.settings.items begin.options m.in_force in
-    let name : device.info.name ≡ job.device = name_of h job.device device at in
-    let page = there.1 device at in
-    record {
-      settled = record {
-        device = device;
-        is_there = contains_at h.devices (place_named (infos_of h) job.device) device at;
-        named = name;
-        setup = begin.options;
-        placed = put.0;
-        in_force = put.1;
-      };
-      held = page.0;
-      came = subst (λ (x : List ℕ). CameFor h x page.0) name page.1;
-      picture = m.picture;
-      meant = ap (λ (x : PageView). meaning_of x begin.options.scene) page.2 ∙ m.meant;
-      denotes = m.denotes;
-    }
-
 -- where all pages that came for the job's device are steady, its sources are
 pub steady_for : (h : History) (w : WorldCore) (job : Job) (l : LedTo h w) (k : PromisesAreKept source_state h.events (at_first h w job l) l.first w) (i : ℕ) → slice_get h.jobs i ≡ Some job → IsSteady h job.device → (make_for k.run.ghost_then.system i).steady ≡ true
 steady_for h w job l k i at steady = ap (λ (make : Make). make.steady) (make_there h w job l k i at) ∙ steady_there h (place_named (infos_of h) job.device) job.device (λ device there. name_of h job.device device there) steady
@@ -152,18 +125,3 @@ pub meant_there : (h : History) (w : WorldCore) (i : ℕ) (job : Job) (l : LedTo
 meant_there h w i job l k begin file at m =
     subst (λ (make : Make). IsMeant make job.settings.items begin file) (make_there h w job l k i at)
     (subst (λ (j : Job). IsMeant (make_for k.run.ghost_then.system i) j.settings.items begin file) (job_there h w job l k i at) m)
-
-pub scan_right : AllIsKept → NotesAreTrue → (h : History) (w : WorldCore) (i : ℕ) (job : Job) (endpoint : Endpoint) (reports : Reports) (file : List ℕ) → IsJob h w i job endpoint → IsSteady h job.device → job.task ≡ tasks.Scan → endpoint.client.outcome ≡ Done reports → endpoint.file ≡ Some file → IsScan h job file
-scan_right all notes h w i job endpoint reports file j steady scan done is =
-    let k = kept_by all h w job j.led in
-    let s = k.promises.scans i endpoint reports file j.endpoint_at (ap (λ (x : Job). x.task) (job_there h w job j.led k i j.job_at) ∙ scan) done is in
-    let begun = subst (λ (d : ℕ). AllByRecursion (IsBegun h d) (job_state k.run.ghost_then i).session.started) (wants_there h w job j.led i j.job_at) (begun_there notes h w job j.led k i) in
-    let first = subst (AllByRecursion (IsBegun h (place_named (infos_of h) job.device))) s.started begun in
-    is_scan h job s.begin file first.0 (meant_there h w i job j.led k s.begin file j.job_at (s.meant (steady_for h w job j.led k i j.job_at steady)))
-
-pub page_right : AllIsKept → NotesAreTrue → (h : History) (w : WorldCore) (i n : ℕ) (job : Job) (endpoint : Endpoint) (file : List ℕ) → IsJob h w i job endpoint → IsSteady h job.device → n < endpoint.finished → slice_get endpoint.pages n ≡ Some (Some file) → IsScan h job file
-page_right all notes h w i n job endpoint file j steady low is =
-    let k = kept_by all h w job j.led in
-    let s = k.promises.pages i n endpoint file j.endpoint_at low is in
-    let begun = subst (λ (d : ℕ). AllByRecursion (IsBegun h d) (job_state k.run.ghost_then i).session.started) (wants_there h w job j.led i j.job_at) (begun_there notes h w job j.led k i) in
-    is_scan h job s.begin file (at_all (IsBegun h (place_named (infos_of h) job.device)) _ n s.begin begun s.started) (meant_there h w i job j.led k s.begin file j.job_at (s.meant (steady_for h w job j.led k i j.job_at steady)))

@@ -7,19 +7,17 @@ use Rattle.scan_job.specs.declared.job.Job.{Job}
 use Rattle.scan_job.specs.declared.outcome.Outcome.{Outcome}
 use Rattle.scan_job.specs.declared.outcome.Outcome.TheVariants.{Done, Ended, Running}
 use Rattle.scan_job.specs.declared.outcome.Why.{Why}
-use Rattle.scan_job.specs.declared.outcome.Why.TheVariants as whys
-use Rattle.sane_fixed.specs.declared.status.Status.TheVariants as codes
 use Rattle.net_client.specs.ClientStates.{ClientState}
 use Rattle.scan_world.specs.declared.endpoint.Endpoint.{Endpoint}
 use Rattle.scan_world.specs.declared.event.Event.{Event}
 use Rattle.scan_world.specs.Worlds.{AreNew, Runs, WorldCore}
 use Rattle.world_refines.specs.MainTheorem.{AreTrueLoads}
-use Rattle.world_contract.specs.Histories.{History, LedTo}
-use Rattle.world_contract.specs.Calls.{EndedIn, NamesIoError, HadFailure, IsJobAt, KeepsEnding, outcome_at, starved_at, history_up_to}
+use Rattle.world_contract.specs.Histories.{History, LedTo, history_up_to}
+use Rattle.world_contract.specs.Calls.{EndedIn, KeepsEnding, outcome_at, starved_at}
 use Rattle.world_contract.specs.Laws.{Below}
 use Rattle.world_contract.specs.Promise.{OutcomeIsKept}
-use Rattle.world_contract.proofs.Calls.{endpoint_there, led_then, outcome_call, outcome_there}
-use Rattle.world_contract.proofs.Ended.{failed_at_end}
+use Rattle.world_contract.proofs.Calls.{outcome_call}
+use Rattle.world_contract.proofs.Led.{led_then}
 use Rattle.world_contract.proofs.Over.{over_stays}
 
 -- ---- at first each job runs
@@ -44,41 +42,26 @@ not_running status why e = cc
 is_ended : (status other : Status) (why reason : Why) → ◌≡◌ {A = Option Outcome} (Some (Ended status why)) (Some (Ended other reason)) → Ended other reason ≡ Ended status why
 is_ended status other why reason same = cc
 
--- an ending by IO_ERROR that was answered
-failed_call : Below → (h : History) (v : WorldCore) (i : ℕ) (job : Job) → IsJobAt h v i job → outcome_at v i ≡ Some (Ended codes.IoError whys.Answer) → HadFailure h i job ⊎ NamesIoError h job
-failed_call below h v i job at is =
-    let p = endpoint_there below h v i job at in
-    failed_at_end below h v i job p.0 p.1 (outcome_there v.endpoints i p.0 (Ended codes.IoError whys.Answer) p.1.endpoint_at is)
-
 abbrev Kept : History → WorldCore → ℕ → Job → Type 0
-Kept h v i job = (o : Outcome) × (outcome_at v i ≡ Some o) × OutcomeIsKept h i job (starved_at v i) o
+Kept h v i job = (o : Outcome) × (outcome_at v i ≡ Some o) × OutcomeIsKept h v i job (starved_at v i) o
 
 -- in this event, or where it still runs behind it in a later one
 here_or_later : (h : History) (w u v : WorldCore) (i : ℕ) (job : Job) (status : Status) (why : Why) (e : Event) (es seen : List Event) → outcome_at w i ≡ Some (Ended status why) → h.events ≡ seen ++ e ∷ es → LedTo (history_up_to h seen) u → outcome_at u i ≡ Some Running → Runs source_state (e ∷ []) u v → LedTo (history_up_to h (seen ++ e ∷ [])) v → Runs source_state es v w →
-    (outcome_at v i ≡ Some Running → EndedIn h w i job status why) → (outcome_at v i ≡ Some (Ended codes.IoError whys.Answer) → HadFailure (history_up_to h (seen ++ e ∷ [])) i job ⊎ NamesIoError (history_up_to h (seen ++ e ∷ [])) job) →
-    Kept (history_up_to h (seen ++ e ∷ [])) v i job → EndedIn h w i job status why
-here_or_later h w u v i job status why e es seen is split led ran leads led_on rest later failed (Running, there, keeps) = later there
-here_or_later h w u v i job status why e es seen is split led ran leads led_on rest later failed (Done reports, there, keeps) =
+    (outcome_at v i ≡ Some Running → EndedIn h w i job status why) → Kept (history_up_to h (seen ++ e ∷ [])) v i job → EndedIn h w i job status why
+here_or_later h w u v i job status why e es seen is split led ran leads led_on rest later (Running, there, keeps) = later there
+here_or_later h w u v i job status why e es seen is split led ran leads led_on rest later (Done reports, there, keeps) =
     let stays = (over_stays es v w rest i (Done reports) there (λ r. cc)).outcome in
     absurd (let clash : ◌≡◌ {A = Option Outcome} (Some (Ended status why)) (Some (Done reports)) = sym is ∙ (stays ∙ there) in cc)
-here_or_later h w u v i job status why e es seen is split led ran leads led_on rest later failed (Ended other reason, there, keeps) =
+here_or_later h w u v i job status why e es seen is split led ran leads led_on rest later (Ended other reason, there, keeps) =
     let stays = (over_stays es v w rest i (Ended other reason) there (not_running other reason)).outcome in
     let same : ◌≡◌ {A = Option Outcome} (Some (Ended status why)) (Some (Ended other reason)) = sym is ∙ (stays ∙ there) in
     record {
-      front = seen;
       event = e;
-      back = es;
-      split = split;
-      before = u;
-      led_before = led;
+      at = record { front = seen; back = es; split = split; before = u; led_before = led; behind = v; leads = leads; rest = rest };
       ran = ran;
-      after = v;
-      leads = leads;
-      led_after = led_on;
       ended = there ∙ sym same;
-      rest = rest;
+      led_behind = led_on;
       caused = (keeps.ended status why (is_ended status other why reason same)).caused;
-      failed = λ io answered. failed (there ∙ sym same ∙ ap (λ (s : Status). Some (Ended s why)) io ∙ ap (λ (r : Why). Some (Ended codes.IoError r)) answered);
     }
 
 ends_from : Below → (h : History) (w : WorldCore) (i : ℕ) (job : Job) (status : Status) (why : Why) → slice_get h.jobs i ≡ Some job → outcome_at w i ≡ Some (Ended status why) → (es seen : List Event) (u : WorldCore) → h.events ≡ seen ++ es → LedTo (history_up_to h seen) u → AreTrueLoads source_state es → Runs source_state es u w → outcome_at u i ≡ Some Running → EndedIn h w i job status why
@@ -88,7 +71,6 @@ ends_from below h w i job status why at is (e ∷ es) seen u split led loads (v,
     let on : LedTo (history_up_to h (seen ++ e ∷ [])) v = led_then (history_up_to h seen) (e ∷ []) u v led (loads.0, tt) (v, leads, refl) in
     here_or_later h w u v i job status why e es seen is split led ran (v, leads, refl) on rest
     (ends_from below h w i job status why at is es (seen ++ e ∷ []) v (split ∙ sym (append_assoc seen (e ∷ []) es)) on loads.1 rest)
-    (failed_call below (history_up_to h (seen ++ e ∷ [])) v i job (record { led = on; job_at = at }))
     (outcome_call below v i (outcome_at v i) refl (history_up_to h (seen ++ e ∷ [])) job (record { led = on; job_at = at }))
 
 pub ending_call : Below → (w : WorldCore) (i : ℕ) (given : Option Outcome) → given ≡ outcome_at w i → KeepsEnding w i given

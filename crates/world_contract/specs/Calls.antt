@@ -1,31 +1,34 @@
 -- What the calls of a world answer, and what each promises, for whatever history led to the world.
-use Rattle.std.specs.Prelude.{ℕ, ◌≡◌, ◌≢◌, ◌⊎◌, ◌<◌, ◌≤◌, Bool, false, min, Option, Some, None, option_map, option_and_then, List, [], ◌∷◌, ◌++◌, Contains, length, slice_get, true, map}
-use Rattle.std.specs.List.{AllByRecursion}
+use Rattle.std.specs.Prelude.{ℕ, ◌≡◌, ◌≢◌, ◌⊎◌, ◌<◌, ◌≤◌, ◌^◌, if◌then◌else◌, Bool, false, min, Option, Some, None, option_map, option_and_then, List, [], ◌∷◌, ◌++◌, Contains, length, slice_get, true, map}
+use Rattle.page_picture.specs.SourceView.{source_state}
+use Rattle.page_picture.specs.declared.sources.kinds.Source.{Source}
+use Rattle.sane_fixed.specs.declared.status.Status.{Status}
+use Rattle.sane_fixed.specs.declared.status.Status.TheVariants as statuses
+use Rattle.device_api.specs.State.{DeviceState, is_at_rest, page_of}
+use Rattle.saned_requests.specs.declared.session.Session.{Session}
+use Rattle.saned_core.specs.DaemonStates.{Core}
+use Rattle.client_replies.specs.ProtocolStates.{is_batch}
 use Rattle.scan_job.specs.declared.job.Job.{Job}
 use Rattle.scan_job.specs.declared.outcome.Outcome.{Outcome}
 use Rattle.scan_job.specs.declared.outcome.Outcome.TheVariants.{Running, Ended}
 use Rattle.scan_job.specs.declared.outcome.Why.{Why}
 use Rattle.scan_job.specs.declared.outcome.Why.TheVariants as whys
-use Rattle.sane_fixed.specs.declared.status.Status.{Status}
-use Rattle.sane_fixed.specs.declared.status.Status.TheVariants as statuses
-use Rattle.saned_core.specs.DaemonStates.{Core}
-use Rattle.scan_world.specs.declared.event.Event.{Event}
-use Rattle.scan_world.specs.declared.event.Event.TheVariants.{Cancel, Load, LoseControl, Unplug}
-use Rattle.scan_world.specs.declared.event.JobEvent.{JobEvent}
 use Rattle.scan_world.specs.declared.endpoint.Endpoint.{Endpoint}
+use Rattle.scan_world.specs.declared.event.Event.{Event}
+use Rattle.scan_world.specs.declared.event.Event.TheVariants.{Cancel, Connect, Load, LoseControl, LoseImage, ToDaemon}
+use Rattle.scan_world.specs.declared.event.JobEvent.{JobEvent}
+use Rattle.scan_world.specs.declared.event.JobEvent.TheVariants as moves
 use Rattle.scan_world.specs.Endpoints.{finished_page}
 use Rattle.scan_world.specs.JobEvents.{job_event_of}
 use Rattle.scan_world.specs.JobMoves.{IsNextMove, moves_left_of}
 use Rattle.scan_world.specs.Rounds.{total_left}
-use Rattle.scan_world.specs.Worlds.{Runs, WorldCore}
-use Rattle.page_picture.specs.SourceView.{source_state}
-use Rattle.world_contract.specs.Histories.{History, LedTo, and_then}
-use Rattle.world_contract.specs.Page.{Settled}
-use Rattle.world_contract.specs.Endings.{IsEndingExplained}
-use Rattle.world_contract.specs.Promise.{JobAnswers, CountIsKept, FileIsKept, MoveIsKept, MovesAreKept, OutcomeIsKept, PageIsKept}
+use Rattle.scan_world.specs.Worlds.{Leads, Runs, WorldCore}
 use Rattle.world_refines.specs.Answering.{HasUnsaidReply}
-use Rattle.world_refines.specs.FailedSources.{FailedIn}
 use Rattle.world_refines.specs.NewWorlds.{info_of_state}
+use Rattle.world_contract.specs.Endings.{IsEndingExplained}
+use Rattle.world_contract.specs.Histories.{History, LedTo, Moment, and_then, history_up_to}
+use Rattle.world_contract.specs.Promise.{JobAnswers, CountIsKept, FileIsKept, MoveIsKept, MovesAreKept, OutcomeIsKept, PageIsKept}
+use Rattle.world_contract.specs.Sessions.{CanAt, Has, SessionAt}
 
 -- ---- what they answer of job i
 
@@ -79,8 +82,7 @@ pub record AnswersAre (w : WorldCore) (i : ℕ) (a : JobAnswers) : Type 0 where
 
 -- ---- what they promise of it
 
--- **for each history (`IsJobAt`, `ForEach`, `KeepsOutcome`, `KeepsScanFile`, `KeepsPage`, `KeepsPageCount`, `KeepsMemory`,
--- `KeepsMove`, `KeepsMoves`)**: that an answer is kept for whatever history led to the world and has the job in that place.
+-- the history led to the world, and the job is the one of that place
 pub record IsJobAt (h : History) (w : WorldCore) (i : ℕ) (job : Job) : Type 0 where
   pub led : LedTo h w
   pub job_at : slice_get h.jobs i ≡ Some job
@@ -91,58 +93,27 @@ ForEach w i Promise = (h : History) (job : Job) → IsJobAt h w i job → Promis
 
 -- `outcome`: there is one
 abbrev pub KeepsOutcome : WorldCore → ℕ → Option Outcome → Type 0
-KeepsOutcome w i given = ForEach w i (λ h job. (outcome : Outcome) × (given ≡ Some outcome) × OutcomeIsKept h i job (starved_at w i) outcome)
+KeepsOutcome w i given = ForEach w i (λ h job. (outcome : Outcome) × (given ≡ Some outcome) × OutcomeIsKept h w i job (starved_at w i) outcome)
 
--- the same, of these events alone
-abbrev pub history_up_to : History → List Event → History
-history_up_to h events = record h { events = events }
-
--- **had a failure (`HadFailure`, `NamesIoError`)**: a source of the job's device failed in one of the events of a history:
--- of a world to which those in front of it led, and the daemon that it led to; the settings of a job in force on its device
--- say IO_ERROR.
-pub record HadFailure (h : History) (i : ℕ) (job : Job) : Type 0 where
-  pub front : List Event
-  pub event : Event
-  pub back : List Event
-  pub split : h.events ≡ front ++ event ∷ back
-  pub before : WorldCore
-  pub led_before : LedTo (history_up_to h front) before
-  pub behind : WorldCore
-  pub leads : Runs source_state (event ∷ []) before behind
-  pub failed : FailedIn before behind.daemon i job.device
-
--- or `read-return-value` says IO_ERROR, by its settings
-abbrev pub NamesIoError : History → Job → Type 0
-NamesIoError h job = (s : Settled h job) × (s.setup.told ≡ Some statuses.IoError)
-
--- **ended in (`EndedIn`, `history_up_to`, `KeepsEnding`)**: a job ended in one of the events of a history: a world to which
--- those in front of it led had it running, and that to which it led from there had it ended so, by a cause among the events
--- up to it; and where IO_ERROR was answered, by a failure in one of these, unless `read-return-value` says it.
+-- It ended in one of the events: the world in front of it had it running, and the world behind it had it ended so, by a cause among the
+-- events up to it.
 pub record EndedIn (h : History) (w : WorldCore) (i : ℕ) (job : Job) (status : Status) (why : Why) : Type 0 where
-  pub front : List Event
   pub event : Event
-  pub back : List Event
-  pub split : h.events ≡ front ++ event ∷ back
-  pub before : WorldCore
-  pub led_before : LedTo (history_up_to h front) before
-  pub ran : outcome_at before i ≡ Some Running
-  pub after : WorldCore
-  pub leads : Runs source_state (event ∷ []) before after
-  pub led_after : LedTo (history_up_to h (front ++ event ∷ [])) after
-  pub ended : outcome_at after i ≡ Some (Ended status why)
-  pub rest : Runs source_state back after w
-  pub caused : IsEndingExplained (history_up_to h (front ++ event ∷ [])) i job (starved_at after i) status why
-  pub failed : status ≡ statuses.IoError → why ≡ whys.Answer → HadFailure (history_up_to h (front ++ event ∷ [])) i job ⊎ NamesIoError (history_up_to h (front ++ event ∷ [])) job
+  pub at : Moment h w event
+  pub ran : outcome_at at.before i ≡ Some Running
+  pub ended : outcome_at at.behind i ≡ Some (Ended status why)
+  pub led_behind : LedTo (history_up_to h (at.front ++ event ∷ [])) at.behind
+  pub caused : IsEndingExplained (history_up_to h (at.front ++ event ∷ [])) at.behind i job (starved_at at.behind i) status why
 
 -- so did each that ended
 abbrev pub KeepsEnding : WorldCore → ℕ → Option Outcome → Type 0
 KeepsEnding w i given = ForEach w i (λ h job. (status : Status) (why : Why) → given ≡ Some (Ended status why) → EndedIn h w i job status why)
 
 abbrev pub KeepsScanFile : WorldCore → ℕ → Option (List ℕ) → Type 0
-KeepsScanFile w i given = ForEach w i (λ h job. (outcome : Outcome) → outcome_at w i ≡ Some outcome → FileIsKept h job (starved_at w i) outcome given)
+KeepsScanFile w i given = ForEach w i (λ h job. (outcome : Outcome) → outcome_at w i ≡ Some outcome → FileIsKept h w i job (starved_at w i) outcome given)
 
 abbrev pub KeepsPage : WorldCore → ℕ → ℕ → Option (List ℕ) → Type 0
-KeepsPage w i k given = ForEach w i (λ h job. PageIsKept h job (starved_at w i) (finished_at w i) k given)
+KeepsPage w i k given = ForEach w i (λ h job. PageIsKept h w i job (starved_at w i) (finished_at w i) k given)
 
 abbrev pub KeepsPageCount : WorldCore → ℕ → ℕ → Type 0
 KeepsPageCount w i given = ForEach w i (λ h job. (outcome : Outcome) → outcome_at w i ≡ Some outcome → CountIsKept job outcome given)
@@ -155,9 +126,7 @@ KeepsMemory w i given = ForEach w i (λ h job. given ≡ false → (file_answere
 abbrev pub HadUnsaidReply : History → Job → Type 0
 HadUnsaidReply h job = HasUnsaidReply h.users (map info_of_state h.devices) job
 
--- **good move (`IsGoodMove`, `HadUnsaidReply`)**: a job has a next move just where it runs, and it is the loss of the
--- control connection only where the job is told as out of memory, or where a reply to something that it asks cannot be said
--- on the wire.
+-- `next_move`: it is the loss of the control connection only where the job is told as out of memory, or had such a reply
 pub record IsGoodMove (h : History) (w : WorldCore) (i : ℕ) (job : Job) (given : Option Event) : Type 0 where
   pub move : (outcome : Outcome) → outcome_at w i ≡ Some outcome → MoveIsKept outcome given
   pub loss : given ≡ Some (LoseControl i) → (starved_at w i ≡ true) ⊎ HadUnsaidReply h job
@@ -167,6 +136,12 @@ KeepsMove w i given = ForEach w i (λ h job. IsGoodMove h w i job given)
 
 abbrev pub KeepsMoves : WorldCore → ℕ → ℕ → Type 0
 KeepsMoves w i given = ForEach w i (λ h job. (outcome : Outcome) → outcome_at w i ≡ Some outcome → MovesAreKept outcome given)
+
+-- ---- what a new world has
+
+-- at most 2^34 moves are left of a job, and 2^36 of a batch
+abbrev pub FewMoves : List Job → WorldCore → Type 0
+FewMoves jobs w = (i : ℕ) (job : Job) → slice_get jobs i ≡ Some job → left_at w i ≤ (if is_batch job.task then 2 ^ 36 else 2 ^ 34)
 
 -- ---- what events leave of a job
 
@@ -181,40 +156,95 @@ pub record JobStays (w v : WorldCore) (i : ℕ) : Type 0 where
 abbrev pub OverStays : WorldCore → WorldCore → Type 0
 OverStays w v = (i : ℕ) (outcome : Outcome) → outcome_at w i ≡ Some outcome → outcome ≢ Running → JobStays w v i
 
+-- none of these events is the job's
+abbrev pub AreOthers : List Event → ℕ → Type 0
+AreOthers events i = (own : JobEvent) → Contains events (job_event_of i own) → ⊥
+
 -- a job that no event came to is as it was: so out of memory, too, it is told only behind an event of its own
 abbrev pub OthersStay : List Event → WorldCore → WorldCore → Type 0
-OthersStay events w v = (i : ℕ) → ((own : JobEvent) → Contains events (job_event_of i own) → ⊥) → slice_get v.endpoints i ≡ slice_get w.endpoints i
+OthersStay events w v = (i : ℕ) → AreOthers events i → slice_get v.endpoints i ≡ slice_get w.endpoints i
 
 -- no event brings moves back
 abbrev pub MovesFall : WorldCore → WorldCore → Type 0
 MovesFall w v = (i : ℕ) → left_at v i ≤ left_at w i
 
+-- an event of a job that can happen to it lowers its moves
+abbrev pub MoveLowers : List Event → WorldCore → WorldCore → Type 0
+MoveLowers events w v =
+    (i : ℕ) (own : JobEvent) → events ≡ job_event_of i own ∷ [] → CanAt w i own → 0 < left_at w i → left_at v i < left_at w i
+
+-- Of the event, wherever it stands among these: those in front of it lead to a world of which this holds, and it and the others from there
+-- to v.
+abbrev pub Reaches : List Event → WorldCore → WorldCore → Event → (List Event → WorldCore → Type 0) → Type 0
+Reaches events w v e Holds =
+    (front back : List Event) → events ≡ front ++ e ∷ back
+    → (u : WorldCore) × Runs source_state front w u × Runs source_state (e ∷ back) u v × Holds front u
+
 -- a job that runs ends by a cancel
 abbrev pub CancelEnds : List Event → WorldCore → WorldCore → Type 0
-CancelEnds events w v = (i : ℕ) → events ≡ Cancel i ∷ [] → outcome_at w i ≡ Some Running → outcome_at v i ≡ Some (Ended statuses.Cancelled whys.Cancelled)
+CancelEnds events w v =
+    (i : ℕ) → Reaches events w v (Cancel i) (λ front u. outcome_at u i ≡ Some Running
+    → outcome_at v i ≡ Some (Ended statuses.Cancelled whys.Cancelled))
 
--- and by the loss of its control connection, unless there is none to be lost
-abbrev pub LossEnds : List Event → WorldCore → WorldCore → Type 0
-LossEnds events w v = (i : ℕ) → events ≡ LoseControl i ∷ [] → outcome_at w i ≡ Some Running → (outcome_at v i ≡ Some (Ended statuses.IoError whys.Lost)) ⊎ (v ≡ w)
+-- once it was connected, by the loss of its control connection
+abbrev pub LossEnds : History → List Event → WorldCore → WorldCore → Type 0
+LossEnds h events w v =
+    (i : ℕ) → Reaches events w v (LoseControl i) (λ front u. outcome_at u i ≡ Some Running
+    → Contains (h.events ++ front) (Connect i) → outcome_at v i ≡ Some (Ended statuses.IoError whys.Lost))
+
+-- and by that of its data connection, where that stands
+abbrev pub ImageLossEnds : List Event → WorldCore → WorldCore → Type 0
+ImageLossEnds events w v =
+    (i : ℕ) → Reaches events w v (LoseImage i) (λ front u. outcome_at u i ≡ Some Running
+    → CanAt u i moves.LoseImage → outcome_at v i ≡ Some (Ended statuses.IoError whys.Lost))
+
+-- ---- what they leave of devices
+
+-- two clients never hold one device
+abbrev pub OneHolder : WorldCore → Type 0
+OneHolder w = (i j : ℕ) (name : List ℕ) (a b : DeviceState) → Has w i name a → Has w j name b → i ≡ j
+
+-- events of others, and devices that are taken out, leave a session as it stands, with all that it has
+abbrev pub SessionsStay : List Event → WorldCore → WorldCore → Type 0
+SessionsStay events w v =
+    (i : ℕ) (s : Session DeviceState) → AreOthers events i
+    → ((name : List ℕ) (source : Source) → Contains events (Load name source) → ⊥) → SessionAt w i s → SessionAt v i s
+
+-- they and pages that are laid in leave a device that it has within a scan
+abbrev pub ScansStay : List Event → WorldCore → WorldCore → Type 0
+ScansStay events w v =
+    (i : ℕ) (name : List ℕ) (d : DeviceState) → AreOthers events i → is_at_rest d.phase ≡ false → Has w i name d → Has v i name d
+
+-- Within a scan the page stays: a device that a session has in front of an event and behind it, neither time at rest, has the same first
+-- page; so far as the event is a request of the job, while the job runs.
+abbrev pub PageStays : List Event → WorldCore → WorldCore → Type 0
+PageStays events w v =
+    (i : ℕ) (name : List ℕ) (a b : DeviceState) (e : Event) → events ≡ e ∷ []
+    → ((n : ℕ) → e ≡ ToDaemon i n → outcome_at w i ≡ Some Running) → Has w i name a → Has v i name b
+    → is_at_rest a.phase ≡ false → is_at_rest b.phase ≡ false → page_of b ≡ page_of a
+
+-- and a start takes the first page of those that the device has
+abbrev pub StartsOnFirst : List Event → WorldCore → WorldCore → Type 0
+StartsOnFirst events w v =
+    (i n : ℕ) (name : List ℕ) (a b : DeviceState) → events ≡ ToDaemon i n ∷ [] → outcome_at w i ≡ Some Running
+    → Has w i name a → Has v i name b → is_at_rest b.phase ≡ false → page_of b ≡ page_of a
 
 -- ---- moves until no job runs
+
+-- each of these events is the next move of a job, in the world that those in front of it led to
+abbrev pub AreNextMoves : List Event → WorldCore → WorldCore → Type 0
+AreNextMoves [] w v = v ≡ w
+AreNextMoves (e ∷ es) w v = (i : ℕ) × IsMoveAt w i (Some e) × ((u : WorldCore) × Leads source_state e w u × AreNextMoves es u v)
 
 -- none of these jobs runs
 abbrev pub NoneRuns : List Job → WorldCore → Type 0
 NoneRuns jobs w = (i : ℕ) (job : Job) (outcome : Outcome) → slice_get jobs i ≡ Some job → outcome_at w i ≡ Some outcome → outcome ≢ Running
 
--- no page was laid in, and no device taken out
-abbrev pub LoadsNothing : Event → Type 0
-LoadsNothing (Load name source) = ⊥
-LoadsNothing (Unplug name) = ⊥
-LoadsNothing event = Unit {0}
-
--- **ran out (`RunsOut`, `LoadsNothing`, `NoneRuns`, `KeepsRunning`)**: moves came, at most as many as all jobs had left,
--- none of which lays a page in or takes a device out, and then no job runs.
+-- `run_all`: next moves came, at most as many as all jobs had left, which led to the new world; and then no job runs
 pub record RunsOut (h : History) (old new : WorldCore) : Type 0 where
   pub moves : List Event
   pub few : length moves ≤ total_left old.endpoints
-  pub quiet : AllByRecursion LoadsNothing moves
+  pub next : AreNextMoves moves old new
   pub led : LedTo (and_then h moves) new
   pub over : NoneRuns h.jobs new
 

@@ -1,68 +1,110 @@
--- WHAT EXPLAINS AN ENDING.
-use Rattle.std.specs.Prelude.{ℕ, ◌≡◌, ◌≢◌, ◌⊎◌, ◌++◌, Bool, true, false, Some, None, List, ◌∷◌, Contains, slice_get}
+-- WHAT EXPLAINS AN ENDING: an event of the job, and what stood in the world in front of it.
+use Rattle.std.specs.Prelude.{ℕ, ◌≡◌, ◌≢◌, ◌⊎◌, ◌++◌, Bool, true, false, Some, None, List, [], ◌∷◌, Contains}
 use Rattle.sane_fixed.specs.declared.status.Status.{Status}
 use Rattle.sane_fixed.specs.declared.status.Status.TheVariants.{Cancelled, DeviceBusy, Inval, Eof, NoDocs, IoError, NoMem, AccessDenied}
 use Rattle.md5_auth.specs.ChallengeReading.{challenge_of}
 use Rattle.page_picture.specs.Meaning.{meaning_of}
-use Rattle.page_picture.specs.declared.scene.DeviceKind.TheVariants.{Feeder}
 use Rattle.scan_frames.specs.declared.setup.Setup.{Setup}
-use Rattle.device_api.specs.State.{DeviceState, HeldPage}
+use Rattle.device_api.specs.State.{DeviceState, page_of}
 use Rattle.device_api.specs.InForce.{Placement}
+use Rattle.dispatch.specs.Table.{find_name}
+use Rattle.saned_requests.specs.declared.session.AwaitedAuthorization.{AwaitedAuthorization}
+use Rattle.saned_requests.specs.declared.session.Session.{Session}
+use Rattle.client_replies.specs.ProtocolStates.{scans}
 use Rattle.scan_job.specs.declared.job.Job.{Job}
 use Rattle.scan_job.specs.declared.outcome.Why.{Why}
 use Rattle.scan_job.specs.declared.outcome.Why.TheVariants as whys
-use Rattle.scan_world.specs.declared.event.Event.{Event}
-use Rattle.scan_world.specs.declared.event.Event.TheVariants.{Connect, ToDaemon, ToClient, DataTurn, DataToClient, LoseControl, LoseImage, Cancel, Unplug}
+use Rattle.scan_world.specs.declared.event.Event.TheVariants.{Cancel}
+use Rattle.scan_world.specs.declared.event.JobEvent.TheVariants.{ToClient, DataTurn, DataToClient, LoseControl, LoseImage}
+use Rattle.scan_world.specs.Worlds.{WorldCore}
 use Rattle.world_refines.specs.GhostStates.{backend_of, is_allowed_for, is_guarded}
+use Rattle.world_refines.specs.FailedSources.{FailedIn}
 use Rattle.world_contract.specs.Histories.{History}
-use Rattle.world_contract.specs.Page.{AreInForce, CameFor, Settled}
+use Rattle.world_contract.specs.Page.{AreInForce, Settled}
+use Rattle.world_contract.specs.Sessions.{Asked, Happened, Has, IsAtOpen, IsAtStart, SessionAt}
 
--- the event came, behind the connection of job i
-abbrev pub Came : History → ℕ → Event → Type 0
-Came h i event = (front back : List Event) × (h.events ≡ front ++ event ∷ back) × Contains front (Connect i)
+-- ---- the rows
 
--- each device of the name was taken out in one of the events
-abbrev pub IsUnlisted : History → List Event → List ℕ → Type 0
-IsUnlisted h events name = (device : DeviceState) → Contains h.devices device → device.info.name ≡ name → Contains events (Unplug name)
+-- a connection of the job was lost
+abbrev pub WasLost : History → WorldCore → ℕ → Type 0
+WasLost h w i = Happened h w i LoseControl ⊎ Happened h w i LoseImage
+
+-- its client had no memory for a piece that came to it
+abbrev pub WasStarved : History → WorldCore → ℕ → Type 0
+WasStarved h w i = (n : ℕ) × (Happened h w i (ToClient n) ⊎ Happened h w i (DataToClient n))
+
+-- it scans, and `read-return-value`, as its settings put it in force, says this status in a turn of its frame
+abbrev pub NamesStatus : History → WorldCore → ℕ → Job → Status → Type 0
+NamesStatus h w i job status =
+    Happened h w i DataTurn × (scans job.task ≡ true) × ((s : Settled h job) × (s.setup.told ≡ Some status))
 
 -- on no device of the name can the settings be in force
 abbrev pub IsUnforced : History → Job → Type 0
-IsUnforced h job = (device : DeviceState) → Contains h.devices device → device.info.name ≡ job.device → (placed : List Placement) (setup : Setup) → AreInForce device job placed setup → ⊥
+IsUnforced h job =
+    (device : DeviceState) → Contains h.devices device → device.info.name ≡ job.device
+    → (placed : List Placement) (setup : Setup) → AreInForce device job placed setup → ⊥
 
--- they are, and mean no picture on a page that came for it
-abbrev pub MeansNoPicture : History → Job → Type 0
-MeansNoPicture h job = (s : Settled h job) × (held : HeldPage) × CameFor h job.device held × (meaning_of held.page s.setup.scene ≡ None)
+-- as it asked for its device, none of the name was listed
+abbrev pub WasUnlisted : History → WorldCore → ℕ → Job → Type 0
+WasUnlisted h w i job = (asked : Asked h w i IsAtOpen) × (find_name job.device asked.at.before.daemon.registry ≡ None)
 
--- each device of the name is a feeder
-abbrev pub AreFeeders : History → List ℕ → Type 0
-AreFeeders h name = (device : DeviceState) → Contains h.devices device → device.info.name ≡ name → device.setup.scene.kind ≡ Feeder
+-- another job's session had it
+abbrev pub WasHeld : History → WorldCore → ℕ → Job → Type 0
+WasHeld h w i job = (asked : Asked h w i IsAtOpen) × (j : ℕ) × (d : DeviceState) × (j ≢ i) × Has asked.at.before j job.device d
 
--- another job names the device
-abbrev pub IsShared : History → ℕ → Job → Type 0
-IsShared h i job = (j : ℕ) × (other : Job) × (j ≢ i) × (slice_get h.jobs j ≡ Some other) × (other.device ≡ job.device)
+-- a line of the users names its backend, and its user and password are not allowed for the challenge that its session had sent
+pub record WasDisallowed (h : History) (w : WorldCore) (i : ℕ) (job : Job) : Type 0 where
+  pub asked : Asked h w i IsAtOpen
+  pub session : Session DeviceState
+  pub stands : SessionAt asked.at.before i session
+  pub sent : AwaitedAuthorization
+  pub awaited : session.awaited ≡ Some sent
+  pub guarded : is_guarded h.users (backend_of job.device) ≡ true
+  pub denied : is_allowed_for h.users job.user job.password (backend_of job.device) (challenge_of sent.resource) ≡ false
+
+-- as it asked for a start, the device that its session had had no page
+abbrev pub HadNoPage : History → WorldCore → ℕ → Job → Type 0
+HadNoPage h w i job = (asked : Asked h w i IsAtStart) × (d : DeviceState) × Has asked.at.before i job.device d × (d.pages ≡ [])
+
+-- that had the options which its settings put in force, and they mean no picture on its first page
+pub record HadNoPicture (h : History) (w : WorldCore) (i : ℕ) (job : Job) : Type 0 where
+  pub asked : Asked h w i IsAtStart
+  pub device : DeviceState
+  pub has : Has asked.at.before i job.device device
+  pub settled : Settled h job
+  pub options : settled.setup ≡ device.setup
+  pub none : meaning_of (page_of device) device.setup.scene ≡ None
+
+-- the source of its first page failed in that, or in a turn of the frame, and counted it
+abbrev pub HadFailed : History → WorldCore → ℕ → Job → Type 0
+HadFailed h w i job =
+    ((asked : Asked h w i IsAtStart) × FailedIn asked.at.before asked.at.behind.daemon i job.device)
+    ⊎ ((turn : Happened h w i DataTurn) × FailedIn turn.0.before turn.0.behind.daemon i job.device)
+
+-- what the daemon's answer with this status comes from, where `read-return-value` does not say it
+abbrev pub AnswerIsExplained : History → WorldCore → ℕ → Job → Status → Type 0
+AnswerIsExplained h w i job Inval = IsUnforced h job ⊎ (WasUnlisted h w i job ⊎ HadNoPicture h w i job)
+AnswerIsExplained h w i job DeviceBusy = WasHeld h w i job
+AnswerIsExplained h w i job AccessDenied = WasDisallowed h w i job
+AnswerIsExplained h w i job NoDocs = HadNoPage h w i job
+AnswerIsExplained h w i job IoError = HadFailed h w i job
+AnswerIsExplained h w i job status = ⊥
+
+-- THE TABLE: what explains that job i ended with a status and a why. No other two of them occur.
+abbrev pub IsEndingExplained : History → WorldCore → ℕ → Job → Bool → Status → Why → Type 0
+IsEndingExplained h w i job starved status whys.Cancelled = (status ≡ Cancelled) × Contains h.events (Cancel i)
+IsEndingExplained h w i job starved status whys.Lost = (status ≡ IoError) × (WasLost h w i ⊎ (starved ≡ true))
+IsEndingExplained h w i job starved status whys.Short = (status ≡ IoError) × NamesStatus h w i job Eof
+IsEndingExplained h w i job starved status whys.Setting = (status ≡ Inval) × IsUnforced h job
+IsEndingExplained h w i job starved status whys.Memory = (status ≡ NoMem) × WasStarved h w i
+IsEndingExplained h w i job starved status whys.Answer =
+    ((status ≢ Eof) × NamesStatus h w i job status) ⊎ AnswerIsExplained h w i job status
+IsEndingExplained h w i job starved status why = ⊥
+
+-- ---- and where a job is done
 
 -- no line of the users names the device's backend, or the user and password are allowed for some challenge
 abbrev pub JobIsPermitted : History → Job → Type 0
-JobIsPermitted h job = (is_guarded h.users (backend_of job.device) ≡ false) ⊎ ((sent : List ℕ) × (is_allowed_for h.users job.user job.password (backend_of job.device) (challenge_of sent) ≡ true))
-
--- **caused (`IsEndingExplained`, `Came`, `IsUnlisted`, `IsUnforced`, `MeansNoPicture`, `AreFeeders`, `IsShared`,
--- `JobIsPermitted`)**: the table of endings: a status and a why, with what among the devices, users, jobs and events
--- explains it, where an event of the job but a cancel came behind its connection, and a request that found its device not
--- listed behind the events that took out each of its name; so where no page source for a device can fail, a job there is
--- answered IO_ERROR only as its `read-return-value` says.
---
--- THE TABLE: by each of these a job may end so
-pub data IsEndingExplained (h : History) (i : ℕ) (job : Job) (starved : Bool) (status : Status) (why : Why) : Type 0 where
-  GaveUp : (status ≡ Cancelled) × (why ≡ whys.Cancelled) → Contains h.events (Cancel i) → IsEndingExplained h i job starved status why
-  LostLink : (status ≡ IoError) × (why ≡ whys.Lost) → Came h i (LoseControl i) ⊎ Came h i (LoseImage i) → IsEndingExplained h i job starved status why
-  Starved : (status ≡ IoError) × (why ≡ whys.Lost) → starved ≡ true → IsEndingExplained h i job starved status why
-  SourceFailed : (status ≡ IoError) × (why ≡ whys.Answer) → (n : ℕ) → Came h i (ToDaemon i n) ⊎ Came h i (DataTurn i) → (held : HeldPage) → CameFor h job.device held → held.infallible ≡ false → IsEndingExplained h i job starved status why
-  NamesEof : (status ≡ IoError) × (why ≡ whys.Short) → Came h i (DataTurn i) → (s : Settled h job) → s.setup.told ≡ Some Eof → IsEndingExplained h i job starved status why
-  NamesStatus : (status ≢ Eof) × (why ≡ whys.Answer) → Came h i (DataTurn i) → (s : Settled h job) → s.setup.told ≡ Some status → IsEndingExplained h i job starved status why
-  Unforced : (status ≡ Inval) × ((why ≡ whys.Setting) ⊎ (why ≡ whys.Answer)) → IsUnforced h job → IsEndingExplained h i job starved status why
-  Unlisted : (status ≡ Inval) × (why ≡ whys.Answer) → (n : ℕ) → (came : Came h i (ToDaemon i n)) → IsUnlisted h came.0 job.device → IsEndingExplained h i job starved status why
-  HadNoPicture : (status ≡ Inval) × (why ≡ whys.Answer) → (n : ℕ) → Came h i (ToDaemon i n) → MeansNoPicture h job → IsEndingExplained h i job starved status why
-  WasHeld : (status ≡ DeviceBusy) × (why ≡ whys.Answer) → (n : ℕ) → Came h i (ToDaemon i n) → IsShared h i job → IsEndingExplained h i job starved status why
-  Disallowed : (status ≡ AccessDenied) × (why ≡ whys.Answer) → (n : ℕ) → Came h i (ToDaemon i n) → is_guarded h.users (backend_of job.device) ≡ true → IsEndingExplained h i job starved status why
-  TrayWasEmpty : (status ≡ NoDocs) × (why ≡ whys.Answer) → (n : ℕ) → Came h i (ToDaemon i n) → AreFeeders h job.device → IsEndingExplained h i job starved status why
-  ClientStarved : (status ≡ NoMem) × (why ≡ whys.Memory) → (n : ℕ) → Came h i (ToClient i n) ⊎ Came h i (DataToClient i n) → IsEndingExplained h i job starved status why
+JobIsPermitted h job =
+    (is_guarded h.users (backend_of job.device) ≡ false)
+    ⊎ ((sent : List ℕ) × (is_allowed_for h.users job.user job.password (backend_of job.device) (challenge_of sent) ≡ true))

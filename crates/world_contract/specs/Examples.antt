@@ -14,7 +14,8 @@ use Rattle.scan_job.specs.declared.job.Job.{Job}
 use Rattle.scan_job.specs.declared.outcome.Why.TheVariants.{Answer}
 use Rattle.scan_world.specs.declared.event.Event.{Event}
 use Rattle.scan_world.specs.declared.event.Event.TheVariants.{Connect, ToDaemon, ToClient}
-use Rattle.world_contract.specs.Histories.{History}
+use Rattle.scan_world.specs.Worlds.{WorldCore}
+use Rattle.world_contract.specs.Histories.{History, LedTo}
 use Rattle.world_contract.specs.Settings.{AreSettingsPut}
 use Rattle.world_contract.specs.Endings.{IsEndingExplained}
 
@@ -37,5 +38,7 @@ until_busy = Connect 0 ∷ ToDaemon 0 4096 ∷ ToClient 0 4096 ∷ ToDaemon 0 40
 pub record HasExplanation (first second : Job) : Type 0 where
   pub history : History
   pub jobs : history.jobs ≡ first ∷ second ∷ []
+  pub world : WorldCore
+  pub led : LedTo history world
   pub starved : Bool
-  pub caused : IsEndingExplained history 1 second starved DeviceBusy Answer
+  pub caused : IsEndingExplained history world 1 second starved DeviceBusy Answer

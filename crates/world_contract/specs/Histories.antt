@@ -1,5 +1,5 @@
--- What was handed to a world over all its calls, and that it led to it.
-use Rattle.std.specs.Prelude.{◌≡◌, ◌++◌, List, [], All}
+-- What was handed to a world over all its calls, that it led to it, and each of its events with the worlds around it.
+use Rattle.std.specs.Prelude.{◌≡◌, ◌++◌, List, [], ◌∷◌, All}
 use Rattle.page_picture.specs.SourceView.{source_state}
 use Rattle.md5_auth.specs.declared.users.Entry.{Entry}
 use Rattle.device_api.specs.ScannerLimits.{HasLimits}
@@ -39,3 +39,19 @@ pub record LedTo (h : History) (w : WorldCore) : Type 0 where
   pub fit : All IsFitJob h.jobs
   pub loads : AreTrueLoads source_state h.events
   pub runs : Runs source_state h.events first w
+
+-- the same, of these events alone
+abbrev pub history_up_to : History → List Event → History
+history_up_to h events = record h { events = events }
+
+-- An event of a history that led to the world w: what came in front of it led to the world before it, it led from there to the one behind
+-- it, and what came later from there to w.
+pub record Moment (h : History) (w : WorldCore) (e : Event) : Type 0 where
+  pub front : List Event
+  pub back : List Event
+  pub split : h.events ≡ front ++ e ∷ back
+  pub before : WorldCore
+  pub led_before : LedTo (history_up_to h front) before
+  pub behind : WorldCore
+  pub leads : Runs source_state (e ∷ []) before behind
+  pub rest : Runs source_state back behind w

@@ -1,10 +1,11 @@
 pub mod Histories
+pub mod Sessions
 pub mod Settings
 pub mod Page
 pub mod Reports
 pub mod Endings
 pub mod Promise
 pub mod Calls
-pub mod Marks
 pub mod Laws
+pub mod Lies
 pub mod Examples

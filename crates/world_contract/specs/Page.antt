@@ -6,12 +6,15 @@ use Rattle.page_picture.specs.Meaning.{meaning_of}
 use Rattle.page_picture.specs.SourceView.{source_state}
 use Rattle.page_picture.specs.declared.sources.kinds.Source.{Source}
 use Rattle.scan_frames.specs.declared.setup.Setup.{Setup}
-use Rattle.device_api.specs.State.{DeviceState, HeldPage, held_from}
+use Rattle.page_picture.specs.Page.{PageView}
+use Rattle.device_api.specs.State.{DeviceState, HeldPage, held_from, is_at_rest, page_of}
 use Rattle.device_api.specs.InForce.{Placement}
 use Rattle.device_api.specs.Values.{defaults}
 use Rattle.scan_job.specs.declared.job.Job.{Job}
 use Rattle.scan_world.specs.declared.event.Event.TheVariants.{Load}
+use Rattle.scan_world.specs.Worlds.{WorldCore}
 use Rattle.world_contract.specs.Histories.{History}
+use Rattle.world_contract.specs.Sessions.{Asked, Has, HasFinished, IsAtStart}
 use Rattle.world_contract.specs.Settings.{AreSettingsPut}
 
 -- **scan (`CameFor`, `IsSteady`, `AreInForce`, `Settled`, `IsScan`)**: a page that was in a device of a name as the world
@@ -39,11 +42,22 @@ pub record Settled (h : History) (job : Job) : Type 0 where
   pub placed : List Placement
   pub in_force : AreInForce device job placed setup
 
--- a file that denotes exactly the picture that the job's settings mean on a page that came for its device
-pub record IsScan (h : History) (job : Job) (file : List ℕ) : Type 0 where
+-- Job i asked for a start as so many pages of it were finished, and its session had the device at rest, with this page first.
+pub record StartedOn (h : History) (w : WorldCore) (i : ℕ) (job : Job) (count : ℕ) (page : PageView) : Type 0 where
+  pub asked : Asked h w i IsAtStart
+  pub finished : HasFinished asked.at.before i count
+  pub device : DeviceState
+  pub has : Has asked.at.before i job.device device
+  pub rests : is_at_rest device.phase ≡ true
+  pub first : page_of device ≡ page
+
+-- a file that denotes exactly the picture that the job's settings mean on a page that came for its device, and of which it asked for a start
+-- behind so many pages
+pub record IsScan (h : History) (w : WorldCore) (i : ℕ) (job : Job) (count : ℕ) (file : List ℕ) : Type 0 where
   pub settled : Settled h job
   pub held : HeldPage
   pub came : CameFor h job.device held
+  pub started : StartedOn h w i job count held.page
   pub picture : Picture
   pub meant : meaning_of held.page settled.setup.scene ≡ Some picture
   pub denotes : Denotes file picture

@@ -1,10 +1,11 @@
 -- THE PROMISE, of one job: what each call of a world answers of it is right.
-use Rattle.std.specs.Prelude.{ℕ, ◌≡◌, ◌≢◌, ◌⊎◌, ◌<◌, ◌≤◌, Bool, true, Option, Some, None, IsSome, List, Contains}
+use Rattle.std.specs.Prelude.{ℕ, ◌≡◌, ◌≢◌, ◌⊎◌, ◌<◌, ◌≤◌, ◌-◌, Bool, true, false, [], Option, Some, None, IsSome, List, Contains}
 use Rattle.sane_fixed.specs.declared.status.Status.{Status}
 use Rattle.sane_fixed.specs.declared.status.Status.TheVariants.{Good, Eof}
 use Rattle.netpbm.specs.Pnm.{IsWhole}
 use Rattle.device_api.specs.State.{DeviceState}
-use Rattle.sane_fixed.specs.declared.device_info.DeviceInfo.{DeviceInfo}
+use Rattle.client_replies.specs.ProtocolStates.{scans}
+use Rattle.dispatch.specs.Table.{listed_infos}
 use Rattle.scan_job.specs.declared.job.Job.{Job}
 use Rattle.scan_job.specs.declared.job.Task.TheVariants as tasks
 use Rattle.scan_job.specs.declared.outcome.Outcome.{Outcome}
@@ -15,43 +16,48 @@ use Rattle.scan_world.specs.declared.event.Event.{Event}
 use Rattle.world_contract.specs.Histories.{History}
 use Rattle.world_contract.specs.Page.{IsScan, IsSteady}
 use Rattle.world_contract.specs.Reports.{AreSettingsAnswered}
+use Rattle.scan_world.specs.Worlds.{WorldCore}
 use Rattle.world_contract.specs.Endings.{IsEndingExplained, JobIsPermitted}
+use Rattle.world_contract.specs.Sessions.{Asked, IsAtList}
 
 -- a job that is done
-pub record JobIsDone (h : History) (job : Job) (reports : Reports) : Type 0 where
+pub record JobIsDone (h : History) (w : WorldCore) (i : ℕ) (job : Job) (reports : Reports) : Type 0 where
   -- but for a list, each setting was given the nearest admitted value, on the device that the job names
   pub answered : (device : DeviceState) → job.task ≢ tasks.List → Contains h.devices device → device.info.name ≡ job.device → AreSettingsAnswered device job reports.settings
   -- and it was permitted
   pub permitted : job.task ≢ tasks.List → JobIsPermitted h job
-  -- what a list names are devices of the world
-  pub listed : (info : DeviceInfo) → job.task ≡ tasks.List → Contains reports.devices info → (device : DeviceState) × Contains h.devices device × (device.info ≡ info)
+  -- a list tells the devices that were listed as it asked for them: all, once, in their order
+  pub listed : job.task ≡ tasks.List → (asked : Asked h w i IsAtList) × (reports.devices ≡ listed_infos asked.at.before.daemon.registry)
 
 -- a job that ended otherwise names a status, and has its cause
-pub record JobHasEnded (h : History) (i : ℕ) (job : Job) (starved : Bool) (status : Status) (why : Why) : Type 0 where
+pub record JobHasEnded (h : History) (w : WorldCore) (i : ℕ) (job : Job) (starved : Bool) (status : Status) (why : Why) : Type 0 where
   pub not_good : status ≢ Good
   pub not_eof : status ≢ Eof
-  pub caused : IsEndingExplained h i job starved status why
+  pub caused : IsEndingExplained h w i job starved status why
 
 -- **kept (`OutcomeIsKept`, `JobIsDone`, `JobHasEnded`, `FileIsKept`, `PageIsKept`, `CountIsKept`, `MoveIsKept`,
 -- `MovesAreKept`, `JobAnswers`, `JobIsKept`)**: what each call answers of a job is right, and all of them together.
 --
 -- `outcome`
-pub record OutcomeIsKept (h : History) (i : ℕ) (job : Job) (starved : Bool) (outcome : Outcome) : Type 0 where
-  pub done : (reports : Reports) → outcome ≡ Done reports → JobIsDone h job reports
-  pub ended : (status : Status) (why : Why) → outcome ≡ Ended status why → JobHasEnded h i job starved status why
+pub record OutcomeIsKept (h : History) (w : WorldCore) (i : ℕ) (job : Job) (starved : Bool) (outcome : Outcome) : Type 0 where
+  pub done : (reports : Reports) → outcome ≡ Done reports → JobIsDone h w i job reports
+  pub ended : (status : Status) (why : Why) → outcome ≡ Ended status why → JobHasEnded h w i job starved status why
 
 -- `file`
-pub record FileIsKept (h : History) (job : Job) (starved : Bool) (outcome : Outcome) (file : Option (List ℕ)) : Type 0 where
-  -- of a scan that is done, where the pages that came for its device are steady: exactly the picture that its settings mean on one
-  pub scanned : (reports : Reports) (bytes : List ℕ) → IsSteady h job.device → job.task ≡ tasks.Scan → outcome ≡ Done reports → file ≡ Some bytes → IsScan h job bytes
+pub record FileIsKept (h : History) (w : WorldCore) (i : ℕ) (job : Job) (starved : Bool) (outcome : Outcome) (file : Option (List ℕ)) : Type 0 where
+  -- of a scan that is done, where the pages that came for its device are steady: exactly the picture that its settings mean on that of its
+  -- start
+  pub scanned : (reports : Reports) (bytes : List ℕ) → IsSteady h job.device → job.task ≡ tasks.Scan → outcome ≡ Done reports → file ≡ Some bytes → IsScan h w i job 0 bytes
   -- it is whole only of such a scan: of a job that runs, that ended otherwise, or that is no scan it is not
   pub whole : (bytes : List ℕ) → file ≡ Some bytes → IsWhole bytes → (reports : Reports) × (job.task ≡ tasks.Scan) × (outcome ≡ Done reports)
   -- it is missing only where there was no memory for it
   pub missing : file ≡ None → starved ≡ true
+  -- and that of a job which does not scan stays empty
+  pub empty : scans job.task ≡ false → file ≡ Some []
 
 -- `file_at` of page k, from 1, of so many that are finished, whatever became of the job
-pub record PageIsKept (h : History) (job : Job) (starved : Bool) (finished k : ℕ) (file : Option (List ℕ)) : Type 0 where
-  pub scanned : (bytes : List ℕ) → file ≡ Some bytes → (0 < k) × (k ≤ finished) × (IsSteady h job.device → IsScan h job bytes)
+pub record PageIsKept (h : History) (w : WorldCore) (i : ℕ) (job : Job) (starved : Bool) (finished k : ℕ) (file : Option (List ℕ)) : Type 0 where
+  pub scanned : (bytes : List ℕ) → file ≡ Some bytes → (0 < k) × (k ≤ finished) × (IsSteady h job.device → IsScan h w i job (k - 1) bytes)
   pub missing : 0 < k → k ≤ finished → file ≡ None → starved ≡ true
 
 -- `finished`: a batch that is done has all its pages, or fewer and at least one
@@ -79,10 +85,10 @@ pub record JobAnswers : Type 0 where
   pub moves_left : ℕ
 
 -- ALL IS KEPT, of job i
-pub record JobIsKept (h : History) (i : ℕ) (job : Job) (a : JobAnswers) : Type 0 where
-  pub outcome : OutcomeIsKept h i job a.starved a.outcome
-  pub file : FileIsKept h job a.starved a.outcome a.file
-  pub pages : (k : ℕ) → PageIsKept h job a.starved a.finished k (a.file_at k)
+pub record JobIsKept (h : History) (w : WorldCore) (i : ℕ) (job : Job) (a : JobAnswers) : Type 0 where
+  pub outcome : OutcomeIsKept h w i job a.starved a.outcome
+  pub file : FileIsKept h w i job a.starved a.outcome a.file
+  pub pages : (k : ℕ) → PageIsKept h w i job a.starved a.finished k (a.file_at k)
   pub count : CountIsKept job a.outcome a.finished
   pub move : MoveIsKept a.outcome a.next_move
   pub moves : MovesAreKept a.outcome a.moves_left

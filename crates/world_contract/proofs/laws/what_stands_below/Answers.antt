@@ -10,4 +10,9 @@ returns c = record {
   last = c.outcomes_last.ensures;
   grounds = c.causes_are_grounded.ensures;
   same = c.settings_mean_the_same.ensures;
+  follows = c.a_run_refines.ensures;
+  outcomes = c.outcomes_are_right.ensures;
+  losses = c.losses_are_explained.ensures;
+  scans = c.a_scan_is_meant.ensures;
+  pages = c.pages_are_meant.ensures;
 }

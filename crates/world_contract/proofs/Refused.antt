@@ -1,0 +1,152 @@
+-- Why the promise refuses what it refuses.
+use Rattle.std.specs.Prelude.{◌≢◌, ◌<◌, option_map, slice_get, Contains}
+use Rattle.std.proofs.Common.{◌≡◌, ◌∙◌, ◌⊎◌, ℕ, List, [], ◌∷◌, Bool, true, false, Option, Some, None, inl, inr, refl, sym, ap, subst, arith}
+use Rattle.page_picture.specs.SourceView.{source_state}
+use Rattle.sane_fixed.specs.declared.status.Status.{Status}
+use Rattle.sane_fixed.specs.declared.status.Status.TheVariants as statuses
+use Rattle.saned_core.specs.DaemonStates.{Core}
+use Rattle.scan_job.specs.declared.job.Job.{Job}
+use Rattle.scan_job.specs.declared.outcome.Outcome.{Outcome}
+use Rattle.scan_job.specs.declared.outcome.Outcome.TheVariants.{Running, Ended}
+use Rattle.scan_job.specs.declared.outcome.Why.TheVariants as whys
+use Rattle.scan_world.specs.declared.endpoint.Endpoint.{Endpoint}
+use Rattle.scan_world.specs.declared.event.Event.{Event}
+use Rattle.scan_world.specs.declared.event.Event.TheVariants as events
+use Rattle.scan_world.specs.declared.event.Event.TheVariants.{Cancel, ToDaemon}
+use Rattle.scan_world.specs.declared.event.JobEvent.{JobEvent}
+use Rattle.scan_world.specs.declared.event.JobEvent.TheVariants as moves
+use Rattle.scan_world.specs.JobEvents.{Can, job_event_of}
+use Rattle.scan_world.specs.JobMoves.{IsFirstMove, IsNext, in_order}
+use Rattle.scan_world.specs.Worlds.{WorldCore}
+use Rattle.client_replies.specs.ProtocolStates.{is_running}
+use Rattle.world_contract.specs.Calls.{AreNextMoves, CancelEnds, MovesNext, outcome_at}
+use Rattle.world_contract.specs.Endings.{AnswerIsExplained, NamesStatus}
+use Rattle.world_contract.specs.Histories.{History}
+use Rattle.world_contract.specs.Lies.{Always, BusyIsNoLie, CancelledIsNoLie, DeniedIsNoLie, EmptyIsNoLie, FailedIsNoLie, GivenUpIsNoLie, GoneOnIsNoLie, IdleIsNoLie, InvalIsNoLie, ListIsNoLie, LostIsNoLie, MemoryIsNoLie, NamesNothing, SharedIsNoLie, SwappedIsNoLie}
+
+-- ---- endings
+
+unnamed : (h : History) (w : WorldCore) (i : ℕ) (job : Job) (status : Status) → NamesNothing h job → NamesStatus h w i job status → ⊥
+unnamed h w i job status nothing (turn, scanning, (settled, told)) = let clash : None ≡ Some status = sym (nothing settled) ∙ told in cc
+
+-- an answer whose status is not named comes from something
+by_answer : (h : History) (w : WorldCore) (i : ℕ) (job : Job) (status : Status) → NamesNothing h job → (AnswerIsExplained h w i job status → ⊥) → ((status ≢ statuses.Eof) × NamesStatus h w i job status) ⊎ AnswerIsExplained h w i job status → ⊥
+by_answer h w i job status nothing none (inl (other, named)) = unnamed h w i job status nothing named
+by_answer h w i job status nothing none (inr answered) = none answered
+
+pub busy : BusyIsNoLie
+busy h w i job starved nothing alone = by_answer h w i job statuses.DeviceBusy nothing (λ (asked, j, d, other, has). other (alone asked.n asked.at j d has))
+
+pub inval : InvalIsNoLie
+inval h w i job starved nothing forced listed meant = by_answer h w i job statuses.Inval nothing by_case
+  where
+    by_case : AnswerIsExplained h w i job statuses.Inval → ⊥
+    by_case (inl unforced) = forced unforced
+    by_case (inr (inl (asked, none))) = listed asked.n asked.at none
+    by_case (inr (inr none)) = meant none.asked.n none.asked.at none.device none.has none.none
+
+pub denied : DeniedIsNoLie
+denied h w i job starved nothing right = by_answer h w i job statuses.AccessDenied nothing (λ d. (let clash : true ≡ false = sym (right d.sent.resource) ∙ d.denied in cc))
+
+pub empty : EmptyIsNoLie
+empty h w i job starved nothing some = by_answer h w i job statuses.NoDocs nothing (λ (asked, d, has, none). some asked.n asked.at d has none)
+
+pub failed : FailedIsNoLie
+failed h w i job starved nothing none = by_answer h w i job statuses.IoError nothing by_case
+  where
+    by_case : AnswerIsExplained h w i job statuses.IoError → ⊥
+    by_case (inl (asked, failed)) = none (ToDaemon i asked.n) asked.at failed
+    by_case (inr (turn, failed)) = none _ turn.0 failed
+
+pub lost : LostIsNoLie
+lost h w i job control image (same, inl (inl happened)) = control happened
+lost h w i job control image (same, inl (inr happened)) = image happened
+lost h w i job control image (same, inr starved) = let clash : false ≡ true = starved in cc
+
+pub memory : MemoryIsNoLie
+memory h w i job starved replies pieces (same, (n, inl happened)) = replies n happened
+memory h w i job starved replies pieces (same, (n, inr happened)) = pieces n happened
+
+pub cancelled : CancelledIsNoLie
+cancelled h w i job starved none (same, among) = none among
+
+-- ---- a list
+
+pub listed : ListIsNoLie
+listed h w i job reports infos list always other done =
+    let r = done.listed list in
+    other (r.1 ∙ always r.0.n r.0.at)
+
+-- ---- a run
+
+pub idle : IdleIsNoLie
+idle w i own can some lowers = let less = lowers i own refl can some in omega (arith, less)
+
+not_both : (o : Option Outcome) → o ≡ Some Running → o ≡ Some (Ended statuses.Cancelled whys.Cancelled) → ⊥
+not_both o runs ended = let clash : ◌≡◌ {A = Option Outcome} (Some Running) (Some (Ended statuses.Cancelled whys.Cancelled)) = sym runs ∙ ended in cc
+
+pub gone_on : GoneOnIsNoLie
+gone_on w v i ran runs ends =
+    let found = ends i [] [] refl in
+    not_both (outcome_at v i) runs (found.3 (ap (λ (x : WorldCore). outcome_at x i) found.1 ∙ ran))
+
+-- no next move is a cancel
+abbrev AreOtherMoves : List JobEvent → Type 0
+AreOtherMoves [] = Unit {0}
+AreOtherMoves (m ∷ ms) = (moves.Cancel ≡ m → ⊥) × AreOtherMoves ms
+
+no_cancel : (d : Core) (p : Endpoint) (ms : List JobEvent) → AreOtherMoves ms → IsFirstMove d p ms moves.Cancel → ⊥
+no_cancel d p [] none (is, over, can) = let clash : moves.Cancel ≡ moves.LoseControl = is in cc
+no_cancel d p (m ∷ ms) none (inl (can, is)) = none.0 is
+no_cancel d p (m ∷ ms) none (inr (never, more)) = no_cancel d p ms none.1 more
+
+other_moves : AreOtherMoves in_order
+other_moves = (
+  λ is. (let clash : moves.Cancel ≡ moves.Connect = is in cc),
+  (
+    λ is. (let clash : moves.Cancel ≡ moves.ToDaemon 4096 = is in cc),
+    (
+      λ is. (let clash : moves.Cancel ≡ moves.ToClient 4096 = is in cc),
+      (
+        λ is. (let clash : moves.Cancel ≡ moves.DataConnect = is in cc),
+        (λ is. (let clash : moves.Cancel ≡ moves.DataToClient 4096 = is in cc), (λ is. (let clash : moves.Cancel ≡ moves.DataTurn = is in cc), tt)),
+      ),
+    ),
+  ),
+)
+
+cancel_is : (j i : ℕ) (x : JobEvent) → Cancel i ≡ job_event_of j x → x ≡ moves.Cancel
+cancel_is j i moves.Connect e = absurd (let clash : Cancel i ≡ events.Connect j = e in cc)
+cancel_is j i (moves.ToDaemon n) e = absurd (let clash : Cancel i ≡ ToDaemon j n = e in cc)
+cancel_is j i (moves.ToClient n) e = absurd (let clash : Cancel i ≡ events.ToClient j n = e in cc)
+cancel_is j i moves.DataConnect e = absurd (let clash : Cancel i ≡ events.DataConnect j = e in cc)
+cancel_is j i moves.DataTurn e = absurd (let clash : Cancel i ≡ events.DataTurn j = e in cc)
+cancel_is j i (moves.DataToClient n) e = absurd (let clash : Cancel i ≡ events.DataToClient j n = e in cc)
+cancel_is j i moves.LoseControl e = absurd (let clash : Cancel i ≡ events.LoseControl j = e in cc)
+cancel_is j i moves.LoseImage e = absurd (let clash : Cancel i ≡ events.LoseImage j = e in cc)
+cancel_is j i moves.Cancel e = refl
+
+next_not : (d : Core) (j i : ℕ) (p : Endpoint) (o : Option JobEvent) (b : Bool) → is_running p.client.outcome ≡ b → Some (Cancel i) ≡ option_map (job_event_of j) o → (is_running p.client.outcome ≡ true → IsNext d p in_order o) → (is_running p.client.outcome ≡ false → o ≡ None) → ⊥
+next_not d j i p None b at is runs over = let clash : Some (Cancel i) ≡ None = is in cc
+next_not d j i p (Some x) true at is runs over =
+    let same : Cancel i ≡ job_event_of j x = (let both : Some (Cancel i) ≡ Some (job_event_of j x) = is in cc) in
+    no_cancel d p in_order other_moves (subst (IsFirstMove d p in_order) (cancel_is j i x same) (runs at))
+next_not d j i p (Some x) false at is runs over = let clash : Some x ≡ None = over at in cc
+
+cancel_next : (d : Core) (j i : ℕ) (o : Option Endpoint) → MovesNext d j o (Some (Cancel i)) → ⊥
+cancel_next d j i None next = let clash : Some (Cancel i) ≡ None = next in cc
+cancel_next d j i (Some p) next = next_not d j i p next.job_event (is_running p.client.outcome) refl next.event_is next.runs next.over
+
+pub given_up : GivenUpIsNoLie
+given_up h w v i out is = by_first (subst (λ (es : List Event). AreNextMoves es w v) is out.next)
+  where
+    by_first : AreNextMoves (Cancel i ∷ []) w v → ⊥
+    by_first (j, next, rest) = cancel_next w.daemon j i (slice_get w.endpoints j) next
+
+-- ---- devices
+
+pub shared : SharedIsNoLie
+shared w i j name a b apart x y one = apart (one i j name a b x y)
+
+pub swapped : SwappedIsNoLie
+swapped w v i name a b e runs x y was busy other stays = other (stays i name a b e refl (λ n is. runs) x y was busy)

@@ -1,0 +1,21 @@
+-- The events of a history, each with the worlds around it: what stood in front of one, and what it left.
+pub mod Entries
+pub mod Requests
+pub mod Waiting
+pub mod Stands
+pub mod Tray
+pub mod Whole
+pub mod Moments
+pub mod Judged
+pub mod Listed
+pub mod Holder
+pub mod Linked
+pub mod ImageLost
+pub mod Others
+pub mod Reading
+pub mod Paging
+pub mod Asking
+pub mod Delivered
+pub mod Unfiled
+pub mod Started
+pub mod Filed

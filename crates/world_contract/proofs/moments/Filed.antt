@@ -1,0 +1,171 @@
+-- A file that is meant: on the page of its start.
+use Rattle.std.specs.Prelude.{cond, length, map, slice_get, slice_index_or, if◌then◌else◌, ◌<◌, ◌≤◌, ◌+◌}
+use Rattle.std.specs.List.{AllByRecursion}
+use Rattle.std.proofs.Common.{◌≡◌, ◌∙◌, ℕ, zero, suc, arith, List, [], ◌∷◌, ◌++◌, Bool, true, false, Option, Some, None, refl, sym, ap, subst}
+use Rattle.std.proofs.lemmas.Option.{get_or_from_slice_get}
+use Rattle.page_picture.specs.Meaning.{meaning_of}
+use Rattle.page_picture.specs.Page.{PageView}
+use Rattle.page_picture.specs.Shows.{Frame}
+use Rattle.page_picture.specs.SourceView.{source_state}
+use Rattle.device_api.specs.State.{DeviceState}
+use Rattle.frame_join.specs.FrameHistory.{JoinHistory, is_joined}
+use Rattle.scan_job.specs.declared.job.Job.{Job}
+use Rattle.scan_job.specs.declared.job.Task.{Task}
+use Rattle.scan_job.specs.declared.job.Task.TheVariants as tasks
+use Rattle.scan_job.specs.declared.outcome.Outcome.{Outcome}
+use Rattle.scan_job.specs.declared.outcome.Outcome.TheVariants.{Done}
+use Rattle.scan_job.specs.declared.report.Reports.{Reports}
+use Rattle.client_replies.specs.ProtocolStates.{is_batch}
+use Rattle.client_refines.specs.ClientRefinement.{task_of, wholes}
+use Rattle.system_model.specs.AbstractDevices.{Begin}
+use Rattle.system_model.specs.Client as rules
+use Rattle.system_model.specs.Client.{AbstractJob, JobStage}
+use Rattle.system_model.specs.Devices.{Make}
+use Rattle.system_model.specs.Invariants.{IsRightlyDone, StageInvariant}
+use Rattle.system_model.specs.SystemStates.{JobState, SystemState, device_for, make_for, wanted_place}
+use Rattle.system_model.specs.Transitions.{after_all}
+use Rattle.scan_world.specs.declared.endpoint.Endpoint.{Endpoint}
+use Rattle.scan_world.specs.JobEvents.{is_done}
+use Rattle.scan_world.specs.Worlds.{WorldCore}
+use Rattle.world_refines.specs.GhostStates.{Ghost, job_state, place_named}
+use Rattle.world_refines.specs.NewWorlds.{make_of}
+use Rattle.world_refines.specs.WorldPromises.{IsMeant, IsOutcome}
+use Rattle.world_refines.specs.WorldRefinement.{KeepsFiles, WorldRefines, is_laid}
+use Rattle.world_refines.proofs.frames.Paged.{woken_pages}
+use Rattle.world_refines.proofs.job_events.Constant.{Fixed, all_fixed, makes_stay}
+use Rattle.world_contract.specs.Histories.{History, LedTo}
+use Rattle.world_contract.specs.Laws.{Below}
+use Rattle.world_contract.specs.Page.{CameFor, IsScan, IsSteady, StartedOn}
+use Rattle.world_contract.proofs.Begun.{wants_all}
+use Rattle.world_contract.proofs.Ended.{comes_there, first_here, laws_of, steps_of_one}
+use Rattle.world_contract.proofs.Jobs.{IsJob}
+use Rattle.world_contract.proofs.Lists.{contains_at}
+use Rattle.world_contract.proofs.Nearest.{nearest_for}
+use Rattle.world_contract.proofs.Scanned.{at_first, infos_of, name_of, wants_there}
+use Rattle.world_contract.proofs.Sources.{make_at, sources_of, steady_there}
+use Rattle.world_contract.proofs.moments.Moments.{Comes}
+use Rattle.world_contract.proofs.moments.Started.{StartFact, app_length, mapped_length, starts_first}
+
+-- ---- the job of these steps, and its device
+
+job_of : (below : Below) (h : History) (w : WorldCore) (job : Job) (l : LedTo h w) (i : ℕ) → slice_get h.jobs i ≡ Some job → (comes_there below h w job l).ghost_then.jobs i ≡ job
+job_of below h w job l i at =
+    let k = comes_there below h w job l in
+    ap (λ (f : Fixed). f.3 i) (all_fixed source_state h.events (at_first h w job l) k.steps k.ghost_then k.comes) ∙ get_or_from_slice_get h.jobs i job job at
+
+make_of_it : (below : Below) (h : History) (w : WorldCore) (job : Job) (l : LedTo h w) (i : ℕ) → slice_get h.jobs i ≡ Some job → make_for (comes_there below h w job l).ghost_then.system i ≡ make_at h (place_named (infos_of h) job.device)
+make_of_it below h w job l i at =
+    let k = comes_there below h w job l in
+    let t = at_first h w job l in
+    ap (λ (s : SystemState). make_for s i) k.rules_are
+    ∙ (ap (λ (m : ℕ → Make). m (wanted_place (after_all t.system k.steps) i)) (makes_stay t.system k.steps)
+    ∙ ap (λ (d : ℕ). make_at h d) (wants_all k.steps t.system i ∙ wants_there h w job l i at))
+
+steady_then : (below : Below) (h : History) (w : WorldCore) (job : Job) (l : LedTo h w) (i : ℕ) → slice_get h.jobs i ≡ Some job → IsSteady h job.device → (make_for (comes_there below h w job l).ghost_then.system i).steady ≡ true
+steady_then below h w job l i at steady = ap (λ (make : Make). make.steady) (make_of_it below h w job l i at) ∙ steady_there h (place_named (infos_of h) job.device) job.device (λ device there. name_of h job.device device there) steady
+
+meant_then : (below : Below) (h : History) (w : WorldCore) (i : ℕ) (job : Job) (l : LedTo h w) (begin : Begin) (file : List ℕ) → slice_get h.jobs i ≡ Some job → IsMeant (make_for (comes_there below h w job l).ghost_then.system i) ((comes_there below h w job l).ghost_then.jobs i).settings.items begin file → IsMeant (make_at h (place_named (infos_of h) job.device)) job.settings.items begin file
+meant_then below h w i job l begin file at m =
+    let u = (comes_there below h w job l).ghost_then in
+    subst (λ (make : Make). IsMeant make job.settings.items begin file) (make_of_it below h w job l i at)
+    (subst (λ (j : Job). IsMeant (make_for u.system i) j.settings.items begin file) (job_of below h w job l i at) m)
+
+-- ---- its finished pages
+
+start_of : (below : Below) (h : History) (w : WorldCore) (i : ℕ) (job : Job) (l : LedTo h w) → slice_get h.jobs i ≡ Some job → (k : ℕ) (b : Begin) → k < length (job_state (comes_there below h w job l).ghost_then i).client.pages → slice_get (job_state (comes_there below h w job l).ghost_then i).session.started k ≡ Some b → StartFact h w i job k b
+start_of below h w i job l at k b low started =
+    let c = comes_there below h w job l in
+    let t = at_first h w job l in
+    let facts = starts_first (laws_of below) h w i job c.steps t.system (first_here below h w i job l at) (steps_of_one below h w job l) c.answered c.legal refl in
+    facts k b (subst (λ (s : SystemState). k < length (s.job i).client.pages) c.rules_are low) (subst (λ (s : SystemState). slice_get (s.job i).session.started k ≡ Some b) c.rules_are started)
+
+joined_of : (a b c : Bool) → cond a (cond b c false) false ≡ true → c ≡ true
+joined_of true true c e = e
+joined_of true false c e = absurd (let clash : false ≡ true = e in cc)
+joined_of false b c e = absurd (let clash : false ≡ true = e in cc)
+
+one_whole : (frames : List Frame) (b : Bool) → b ≡ true → (if b then frames ∷ [] else []) ≡ frames ∷ []
+one_whole frames true e = refl
+one_whole frames false e = absurd (let clash : false ≡ true = e in cc)
+
+behind_length : {X : Type 0} (xs : List X) (x : X) → length (xs ++ x ∷ []) ≡ length xs + 1
+behind_length [] x = refl
+behind_length (y ∷ xs) x = let more = behind_length xs x in omega (arith, more)
+
+by_laid : (task : Task) (past : JoinHistory) (pages : List JoinHistory) (p : Endpoint) (all : List (List Frame)) (laid : Bool) → is_laid task p.client.outcome past ≡ laid → KeepsFiles laid past pages p → all ≡ map (λ (q : JoinHistory). q.ended) pages ++ wholes past.ended → p.finished ≤ length all
+by_laid task past pages p all false e files is =
+    let few = app_length (map (λ (q : JoinHistory). q.ended) pages) (wholes past.ended) in
+    let same = mapped_length (λ (q : JoinHistory). q.ended) pages in
+    let count = files.count in
+    subst (λ (xs : List (List Frame)). p.finished ≤ length xs) (sym is) (omega (arith, few, same, count))
+by_laid task past pages p all true e files is =
+    let joined : is_joined past.ended ≡ true = joined_of (is_done p.client.outcome) (is_batch task) (is_joined past.ended) e in
+    let whole : wholes past.ended ≡ past.ended ∷ [] = one_whole past.ended (is_joined past.ended) joined in
+    let count : p.finished ≡ length pages + 1 = files.count ∙ behind_length pages past in
+    let as_many = behind_length (map (λ (q : JoinHistory). q.ended) pages) past.ended in
+    let same = mapped_length (λ (q : JoinHistory). q.ended) pages in
+    subst (λ (xs : List (List Frame)). p.finished ≤ length xs) (sym (is ∙ ap (λ (x : List (List Frame)). map (λ (q : JoinHistory). q.ended) pages ++ x) whole)) (omega (arith, count, as_many, same))
+
+finished_low : (u : Ghost) (w : WorldCore) (i : ℕ) (p : Endpoint) → WorldRefines u w → slice_get w.endpoints i ≡ Some p → p.finished ≤ length (job_state u i).client.pages
+finished_low u w i p h at =
+    let s = h.endpoints i p at in
+    let me = job_state u i in
+    by_laid (u.jobs i).task (u.history i) (u.pages i) p me.client.pages (is_laid (u.jobs i).task p.client.outcome (u.history i)) refl s.talks.files (sym (woken_pages me.client.stage me.client) ∙ s.talks.reads.files.all)
+
+-- a scan that is done has one
+one_page : (u : Ghost) (w : WorldCore) (i : ℕ) (job : Job) (p : Endpoint) (reports : Reports) → WorldRefines u w → IsOutcome u i (Done reports) → slice_get w.endpoints i ≡ Some p → u.jobs i ≡ job → job.task ≡ tasks.Scan → 0 < length (job_state u i).client.pages
+one_page u w i job p reports h done at own scan =
+    let me = job_state u i in
+    let task : me.session.job.task ≡ rules.Scan = ap (λ (j : AbstractJob). j.task) (h.endpoints i p at).job_is ∙ ap task_of (ap (λ (j : Job). j.task) own ∙ scan) in
+    let right : IsRightlyDone (make_for u.system i) me.session me.client me.session.job.task = subst (StageInvariant i (make_for u.system i) me (device_for u.system i)) done.stage (h.sound.talks i) in
+    let one = (subst (IsRightlyDone (make_for u.system i) me.session me.client) task right).1 in
+    omega (arith, one)
+
+-- ---- a file that is meant
+
+pub is_scan : (h : History) (w : WorldCore) (i : ℕ) (job : Job) (count : ℕ) (begin : Begin) (file : List ℕ) → StartFact h w i job count begin → IsMeant (make_at h (place_named (infos_of h) job.device)) job.settings.items begin file → IsScan h w i job count file
+is_scan h w i job count begin file fact meant =
+    let there = fact.begun in
+    let device = there.0.0 in
+    let at = there.0.1 in
+    let b = sources_of h (place_named (infos_of h) job.device) in
+    let m : IsMeant (make_of b (Some device)) job.settings.items begin file = subst (λ (o : Option DeviceState). IsMeant (make_of b o) job.settings.items begin file) at meant in
+    let put = nearest_for device.setup.scene.kind device.setup.order job.settings.items begin.options m.in_force in
+    let name : device.info.name ≡ job.device = name_of h job.device device at in
+    let page = there.1 device at in
+    record {
+      settled = record {
+        device = device;
+        is_there = contains_at h.devices (place_named (infos_of h) job.device) device at;
+        named = name;
+        setup = begin.options;
+        placed = put.0;
+        in_force = put.1;
+      };
+      held = page.0;
+      came = subst (λ (x : List ℕ). CameFor h x page.0) name page.1;
+      started = subst (StartedOn h w i job count) (sym page.2) fact.started;
+      picture = m.picture;
+      meant = ap (λ (x : PageView). meaning_of x begin.options.scene) page.2 ∙ m.meant;
+      denotes = m.denotes;
+    }
+
+pub scan_right : Below → (h : History) (w : WorldCore) (i : ℕ) (job : Job) (p : Endpoint) (reports : Reports) (file : List ℕ) → IsJob h w i job p → IsSteady h job.device → job.task ≡ tasks.Scan → p.client.outcome ≡ Done reports → p.file ≡ Some file → IsScan h w i job 0 file
+scan_right below h w i job p reports file j steady scan done is =
+    let k = comes_there below h w job j.led in
+    let u = k.ghost_then in
+    let own = job_of below h w job j.led i j.job_at in
+    let s = below.scans u w i p reports file k.stands j.endpoint_at (ap (λ (x : Job). x.task) own ∙ scan) done is in
+    let promise = subst (IsOutcome u i) done (below.outcomes u w i p k.stands j.endpoint_at) in
+    let low = one_page u w i job p reports k.stands promise j.endpoint_at own scan in
+    let fact = start_of below h w i job j.led j.job_at 0 s.begin low (ap (λ (bs : List Begin). slice_get bs 0) s.started) in
+    is_scan h w i job 0 s.begin file fact (meant_then below h w i job j.led s.begin file j.job_at (s.meant (steady_then below h w job j.led i j.job_at steady)))
+
+pub page_right : Below → (h : History) (w : WorldCore) (i n : ℕ) (job : Job) (p : Endpoint) (file : List ℕ) → IsJob h w i job p → IsSteady h job.device → n < p.finished → slice_get p.pages n ≡ Some (Some file) → IsScan h w i job n file
+page_right below h w i n job p file j steady low is =
+    let k = comes_there below h w job j.led in
+    let u = k.ghost_then in
+    let s = below.pages u w i n p file k.stands j.endpoint_at low is in
+    let most = finished_low u w i p k.stands j.endpoint_at in
+    let fact = start_of below h w i job j.led j.job_at n s.begin (omega (arith, low, most)) s.started in
+    is_scan h w i job n s.begin file fact (meant_then below h w i job j.led s.begin file j.job_at (s.meant (steady_then below h w job j.led i j.job_at steady)))

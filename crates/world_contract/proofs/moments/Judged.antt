@@ -1,0 +1,356 @@
+-- What each cause that a job met comes from, of the world in front of its event; and so why a job ended.
+use Rattle.std.specs.Prelude.{cond, eqb, option_map, map, slice_get, slice_index_or, Contains}
+use Rattle.std.specs.List.{AllByRecursion}
+use Rattle.std.proofs.Common.{◌≡◌, ◌∙◌, ◌⊎◌, ◌≢◌, ℕ, List, [], ◌∷◌, ◌++◌, Bool, true, false, Option, Some, None, inl, inr, refl, sym, ap, subst, eqb-true}
+use Rattle.std.proofs.lemmas.Option.{get_or_from_slice_get}
+use Rattle.device_api.specs.Kinds.{Page}
+use Rattle.device_api.specs.State.{DeviceState}
+use Rattle.page_picture.specs.Meaning.{meaning_of}
+use Rattle.scan_frames.specs.declared.setup.Setup.{Setup}
+use Rattle.scan_job.specs.declared.job.Job.{Job}
+use Rattle.scan_job.specs.declared.job.Task.{Task}
+use Rattle.scan_job.specs.declared.job.Task.TheVariants as tasks
+use Rattle.scan_laws.specs.Passes.{IsInScan}
+use Rattle.dispatch.specs.Table.{find_name}
+use Rattle.md5_auth.specs.ChallengeReading.{challenge_of}
+use Rattle.client_replies.specs.declared.progress.Progress.{Progress}
+use Rattle.client_replies.specs.ProtocolStates.{scans}
+use Rattle.client_refines.specs.ClientRefinement.{requested_setting, task_of}
+use Rattle.system_model.specs.AbstractMessages.{AbstractRequest, Challenge, Open, Authorize, Start, Status, Why, Eof}
+use Rattle.system_model.specs.AbstractDevices.{AbstractDevice, Resting}
+use Rattle.system_model.specs.AbstractInForce.{abstract_in_force}
+use Rattle.system_model.specs.Actions
+use Rattle.system_model.specs.Actions.{Action, job_after_action}
+use Rattle.system_model.specs.Causes.{Cause, IsExplained, Explains, GaveUp, LinkLost, LinkOutOfMemory, WasUnsaid, SourceFailed, NamesEof, Names, Unforced, WasUnlisted, HadNoPicture, WasHeld, Disallowed, TrayWasEmpty, TrayRanOut, ClientOutOfMemory, IsCauseAmong}
+use Rattle.system_model.specs.Client.{AbstractJob as RuledJob, JobStage, Idle, Running, Done, Ended, ClientView}
+use Rattle.system_model.specs.Daemon.{FailureCounts, Streaming}
+use Rattle.system_model.specs.Sync.{Scans}
+use Rattle.system_model.specs.Devices.{Make, picture_frames, read_status_of}
+use Rattle.system_model.specs.Invariants.{IsCaused, StageInvariant}
+use Rattle.system_model.specs.ModelPromises.{CausesAreGrounded}
+use Rattle.system_model.specs.SystemStates.{JobState, SystemState, listed_devices, make_for, device_for, wanted_place}
+use Rattle.system_model.specs.Transitions.{By, IsActionEnabled, IsHistory, IsEnabled, IsUnderWay, Loads, Transition, Unplugs, after_transition, after_all}
+use Rattle.scan_world.specs.declared.event.Event.TheVariants.{Cancel}
+use Rattle.scan_world.specs.declared.event.JobEvent.TheVariants.{DataTurn}
+use Rattle.scan_world.specs.Worlds.{WorldCore}
+use Rattle.daemon_refines.specs.ContextRefinement.{abstract_device}
+use Rattle.world_refines.specs.FailedSources.{AllAlong, FailedIn}
+use Rattle.world_refines.specs.GhostStates.{Ghost, backend_of, is_allowed_for, is_guarded, name_at, place_named, abstract_job}
+use Rattle.world_refines.proofs.job_events.Constant.{Fixed}
+use Rattle.world_contract.specs.Calls.{HadUnsaidReply}
+use Rattle.world_contract.specs.Endings as rows
+use Rattle.world_contract.specs.Histories.{History}
+use Rattle.world_contract.specs.Sessions.{Asked, Happened, Has, IsAtOpen, IsAtStart, WaitsAt}
+use Rattle.world_contract.proofs.Along.{Fine, Here, IsTold, Laws, NotForced, Own, fine_then, own_place, settled_by, told_by}
+use Rattle.world_contract.proofs.Asked.{AsksGuarded, asks_then}
+use Rattle.world_contract.proofs.Begun.{job_same, party_stays}
+use Rattle.world_contract.proofs.Events.{stops_event}
+use Rattle.world_contract.proofs.Evident.{Begins, Comes, IsAnswer, IsFailedAnswer, Opens, StartsEmpty, all_come, causes_by, met_by}
+use Rattle.world_contract.proofs.Lists.{all_each, all_then, contains_in}
+use Rattle.world_contract.proofs.NoPictures.{IsSet, no_meaning, starting}
+use Rattle.world_contract.proofs.Options.{streaming}
+use Rattle.world_contract.proofs.Pages.{HasDevice, IsOfOne, name_there}
+use Rattle.world_contract.proofs.Scanned.{infos_of, name_of}
+use Rattle.world_contract.proofs.Sources.{make_at}
+use Rattle.world_contract.proofs.moments.Entries.{linked_by, own_party}
+use Rattle.world_contract.proofs.moments.Moments.{AnsweredSo, AnswersAt, HappenedSo, job_at}
+use Rattle.world_contract.proofs.moments.Requests.{IsOpening}
+use Rattle.world_contract.proofs.moments.Stands.{awaits_there, holder_has, unlisted_none}
+use Rattle.world_contract.proofs.moments.Tray.{empty_there, page_there}
+use Rattle.world_contract.proofs.moments.Waiting.{WaitsFor, waits_there}
+
+-- ---- what a cause says
+
+-- the job scans, and its options name that status of a turn
+abbrev pub IsNamed : History → WorldCore → ℕ → Job → Status → Type 0
+IsNamed h w i job status = Happened h w i DataTurn × (scans job.task ≡ true) × IsTold h job status
+
+abbrev pub Evid : History → WorldCore → ℕ → Job → Cause → Type 0
+Evid h w i job GaveUp = Contains h.events (Cancel i)
+Evid h w i job LinkLost = rows.WasLost h w i
+Evid h w i job LinkOutOfMemory = Unit {0}
+Evid h w i job WasUnsaid = HadUnsaidReply h job
+Evid h w i job SourceFailed = rows.HadFailed h w i job
+Evid h w i job NamesEof = IsNamed h w i job Eof
+Evid h w i job (Names status) = IsNamed h w i job status
+Evid h w i job Unforced = ⊥
+Evid h w i job WasUnlisted = rows.WasUnlisted h w i job
+Evid h w i job HadNoPicture = rows.HadNoPicture h w i job
+Evid h w i job WasHeld = rows.WasHeld h w i job
+Evid h w i job Disallowed = rows.WasDisallowed h w i job
+Evid h w i job TrayWasEmpty = rows.HadNoPage h w i job
+Evid h w i job TrayRanOut = Unit {0}
+Evid h w i job ClientOutOfMemory = rows.WasStarved h w i
+
+abbrev pub StepSo : History → WorldCore → Job → SystemState → Transition → Type 0
+StepSo h w job s x = AnsweredSo h w job s x × HappenedSo h w job s x
+
+-- ---- one step of the job
+
+abbrev own_of : History → ℕ → Action → Type 0
+own_of h i x = IsOfOne h (By i x)
+
+of_deed : (h : History) (i : ℕ) (x y : Action) → x ≡ y → own_of h i x → own_of h i y
+of_deed h i x y e o = subst (own_of h i) e o
+
+-- what happened in a step of that kind
+happened_by : (h : History) (w : WorldCore) (job : Job) (s : SystemState) (i : ℕ) (x y : Action) → x ≡ y → StepSo h w job s (By i x) → HappenedSo h w job s (By i y)
+happened_by h w job s i x y e so = subst (λ (z : Action). HappenedSo h w job s (By i z)) e so.1
+
+link_lost : (h : History) (w : WorldCore) (job : Job) (s : SystemState) (i : ℕ) (x : Action) → (x ≡ Actions.Loses false) ⊎ (x ≡ Actions.LosesImage false) → StepSo h w job s (By i x) → rows.WasLost h w i
+link_lost h w job s i x (inl a) so = inl (happened_by h w job s i x (Actions.Loses false) a so)
+link_lost h w job s i x (inr a) so = inr (happened_by h w job s i x (Actions.LosesImage false) a so)
+
+-- ---- by the world in front of the event
+
+-- the answer, with the state that it is given in
+abbrev pub Front : History → WorldCore → Job → SystemState → ℕ → Type 0
+Front h w job s i = (fault : Option FailureCounts) × AnswersAt h w job s i fault
+
+front_by : (h : History) (w : WorldCore) (i : ℕ) (job : Job) (s : SystemState) (x : Action) → IsAnswer x → IsUnderWay (s.job i).client.stage → StepSo h w job s (By i x) → Front h w job s i
+front_by h w i job s x a on so = (a.1, (subst (λ (y : Action). AnsweredSo h w job s (By i y)) a.2 so.0) on)
+
+infos_there : (h : History) (w : WorldCore) (job : Job) (s : SystemState) (i : ℕ) (a : Front h w job s i) → a.1.ghost.infos ≡ infos_of h
+infos_there h w job s i a = ap (λ (f : Fixed). f.1) a.1.fixed
+
+-- the client waits for the answer to that request
+abbrev pub asked_there : (h : History) (w : WorldCore) (i : ℕ) (job : Job) (s : SystemState) (Waits : Progress → Type 0) (q : AbstractRequest) (rest : List AbstractRequest) → IsUnderWay (s.job i).client.stage → (a : Front h w job s i) → (s.job i).todo ≡ q ∷ rest → WaitsFor q ≡ Waits → Asked h w i Waits
+asked_there h w i job s Waits q rest on a todo is = record {
+  n = a.1.n;
+  at = a.1.at;
+  could = a.1.could;
+  whole = a.1.whole;
+  waits = subst (WaitsAt a.1.at.before i) is (waits_there a.1.ghost a.1.at.before i q rest a.1.stands (subst (λ (u : SystemState). IsUnderWay (u.job i).client.stage) (sym a.1.state) on) (ap (λ (u : SystemState). (u.job i).todo) a.1.state ∙ todo));
+}
+
+open_waits : (q : AbstractRequest) → IsOpening q → WaitsFor q ≡ IsAtOpen
+open_waits Open opening = refl
+open_waits (Authorize challenge) opening = refl
+open_waits q opening = absurd opening
+
+abbrev asked_open : (h : History) (w : WorldCore) (i : ℕ) (job : Job) (s : SystemState) → IsUnderWay (s.job i).client.stage → (a : Front h w job s i) → Opens (s.job i) → Asked h w i IsAtOpen
+asked_open h w i job s on a o = asked_there h w i job s IsAtOpen o.0 o.1 on a o.2 (open_waits o.0 o.3)
+
+abbrev pub asked_start : (h : History) (w : WorldCore) (i : ℕ) (job : Job) (s : SystemState) → IsUnderWay (s.job i).client.stage → (a : Front h w job s i) → (rest : List AbstractRequest) → (s.job i).todo ≡ Start ∷ rest → Asked h w i IsAtStart
+asked_start h w i job s on a rest todo = asked_there h w i job s IsAtStart Start rest on a todo refl
+
+-- whoever holds the device that the job names has it
+pub has_there : (h : History) (w : WorldCore) (i : ℕ) (job : Job) (s : SystemState) (j : ℕ) → Own h i job → Fine h job s → (a : Front h w job s i) → (device_for s i).holder ≡ Some j → (d : DeviceState) × Has a.1.at.before j job.device d × (device_for s i ≡ abstract_device (Some j) d) × IsInScan d
+has_there h w i job s j o f a held =
+    let d = place_named (infos_of h) job.device in
+    let place : wanted_place s i ≡ d = f.places i ∙ own_place h i job o.at in
+    let there : HasDevice h d = subst (HasDevice h) place ((f.slots (wanted_place s i)).held j held) in
+    let name : name_at (infos_of h) d ≡ Some job.device = name_there h.devices d there.0 there.1 ∙ ap (λ (n : List ℕ). Some n) (name_of h job.device there.0 there.1) in
+    let named : name_at a.1.ghost.infos (wanted_place s i) ≡ Some job.device = subst (λ (k : ℕ). name_at a.1.ghost.infos k ≡ Some job.device) (sym place) (subst (λ (infos : _). name_at infos d ≡ Some job.device) (sym (infos_there h w job s i a)) name) in
+    let r = holder_has a.1.ghost a.1.at.before (wanted_place s i) j job.device a.1.stands (ap (λ (u : SystemState). (u.device (wanted_place s i)).holder) a.1.state ∙ held) named in
+    (r.0, r.1, sym (ap (λ (u : SystemState). u.device (wanted_place s i)) a.1.state) ∙ r.2, r.3)
+
+held_by_other : (h : History) (w : WorldCore) (i : ℕ) (job : Job) (s : SystemState) (j : ℕ) → Here h i job s → IsUnderWay (s.job i).client.stage → Front h w job s i → Opens (s.job i) → (device_for s i).holder ≡ Some j → j ≢ i → rows.WasHeld h w i job
+held_by_other h w i job s j e on a opens held other =
+    let r = has_there h w i job s j e.own_job e.fine a held in
+    (asked_open h w i job s on a opens, j, r.0, other, r.1)
+
+not_listed : (h : History) (w : WorldCore) (i : ℕ) (job : Job) (s : SystemState) → Here h i job s → IsUnderWay (s.job i).client.stage → Front h w job s i → Opens (s.job i) → (device_for s i).listed ≡ false → rows.WasUnlisted h w i job
+not_listed h w i job s e on a opens none =
+    let place : wanted_place s i ≡ place_named (infos_of h) job.device = e.fine.places i ∙ own_place h i job e.own_job.at in
+    let off : (s.device (place_named (infos_of h) job.device)).listed ≡ false = subst (λ (d : ℕ). (s.device d).listed ≡ false) place none in
+    let there : (a.1.ghost.system.device (place_named a.1.ghost.infos job.device)).listed ≡ false =
+    subst (λ (infos : _). (a.1.ghost.system.device (place_named infos job.device)).listed ≡ false) (sym (infos_there h w job s i a))
+    (ap (λ (u : SystemState). (u.device (place_named (infos_of h) job.device)).listed) a.1.state ∙ off) in
+    (asked_open h w i job s on a opens, unlisted_none a.1.ghost a.1.at.before job.device a.1.stands there)
+
+not_allowed : (h : History) (w : WorldCore) (i : ℕ) (job : Job) (s : SystemState) → Here h i job s → IsUnderWay (s.job i).client.stage → (s.job i).served ≡ true → Front h w job s i → Opens (s.job i) → (c : Challenge) → (s.job i).session.awaited ≡ Some c → (s.job i).session.job.allows c ≡ false → rows.WasDisallowed h w i job
+not_allowed h w i job s e on served a opens c awaited denied =
+    let linked = linked_by i (make_for s i) (s.job i) (device_for s i) (s.job i).client.stage (e.sound.talks i) on served in
+    let r = awaits_there a.1.ghost a.1.at.before i c a.1.stands (slice_get a.1.at.before.endpoints i) refl (ap (λ (u : SystemState). (u.job i).served) a.1.state ∙ served) (ap (λ (u : SystemState). (u.job i).linked) a.1.state ∙ linked) (ap (λ (u : SystemState). (u.job i).session.awaited) a.1.state ∙ awaited) in
+    let no : is_allowed_for h.users job.user job.password (backend_of job.device) (challenge_of c) ≡ false = ap (λ (j : RuledJob). j.allows c) (sym e.is) ∙ denied in
+    record {
+      asked = asked_open h w i job s on a opens;
+      session = r.0;
+      stands = r.2;
+      sent = r.1;
+      awaited = r.3;
+      guarded = ap (λ (j : RuledJob). j.guarded) (sym e.is) ∙ e.asks c awaited;
+      denied = subst (λ (x : _). is_allowed_for h.users job.user job.password (backend_of job.device) (challenge_of x) ≡ false) r.4 no;
+    }
+
+no_page : (h : History) (w : WorldCore) (i : ℕ) (job : Job) (s : SystemState) → Here h i job s → IsUnderWay (s.job i).client.stage → Front h w job s i → StartsEmpty (s.job i) (device_for s i) → rows.HadNoPage h w i job
+no_page h w i job s e on a c =
+    let held = empty_there i (make_for s i) (s.job i) (device_for s i) (s.job i).client.stage (e.sound.talks i) on c in
+    let r = has_there h w i job s i e.own_job e.fine a held.0 in
+    (asked_start h w i job s on a c.0 c.1, r.0, r.1, held.1 r.0 r.2 r.3)
+
+no_meaning_there : (h : History) (w : WorldCore) (i : ℕ) (job : Job) (s : SystemState) → Here h i job s → IsUnderWay (s.job i).client.stage → (a : Front h w job s i) → (rest : List AbstractRequest) → (s.job i).todo ≡ Start ∷ rest → IsSet i (make_for s i) (s.job i).session (device_for s i) → (page : Page) (later : List Page) → (device_for s i).tray ≡ page ∷ later → picture_frames (make_for s i) (device_for s i).options page ≡ [] → (device_for s i).phase ≡ Resting → rows.HadNoPicture h w i job
+no_meaning_there h w i job s e on a rest todo set page later tray none rests =
+    let settled = settled_by h i job s e.own_job e.fine e.is set.0 set.1 in
+    let r = has_there h w i job s i e.own_job e.fine a set.0 in
+    let setup : (device_for s i).options ≡ r.0.setup = ap (λ (dev : AbstractDevice). dev.options) r.2 in
+    let first = page_there (Some i) (device_for s i) r.0 page later rests tray r.2 r.3 in
+    record {
+      asked = asked_start h w i job s on a rest todo;
+      device = r.0;
+      has = r.1;
+      settled = settled.0;
+      options = settled.1 ∙ setup;
+      none = ap (λ (p : Page). meaning_of p r.0.setup.scene) first ∙ (ap (λ (y : Setup). meaning_of page y.scene) (sym setup) ∙ no_meaning (make_for s i) (device_for s i).options page none);
+    }
+
+source_failed : (h : History) (w : WorldCore) (i : ℕ) (job : Job) (s : SystemState) (x : Action) → (IsFailedAnswer x × Begins (s.job i)) ⊎ ((fault : FailureCounts) × (x ≡ Actions.TurnsFault fault)) → IsUnderWay (s.job i).client.stage → StepSo h w job s (By i x) → slice_get h.jobs i ≡ Some job → rows.HadFailed h w i job
+source_failed h w i job s x (inl (a, begins)) on so at =
+    let m : AnswersAt h w job s i (Some a.1) = (subst (λ (y : Action). AnsweredSo h w job s (By i y)) a.2 so.0) on in
+    inl (asked_start h w i job s on (Some a.1, m) begins.0 begins.1, subst (λ (j : Job). FailedIn m.at.before m.at.behind.daemon i j.device) (get_or_from_slice_get h.jobs i job job at) m.failed)
+source_failed h w i job s x (inr a) on so at =
+    let f = happened_by h w job s i x (Actions.TurnsFault a.0) a.1 so in
+    inr (f.0, subst (λ (j : Job). FailedIn f.0.0.before f.0.0.behind.daemon i j.device) (get_or_from_slice_get h.jobs i job job at) f.1)
+
+served_by_step : (i : ℕ) (k : Make) (p : JobState) (dev : AbstractDevice) (x : Action) → IsAnswer x → IsActionEnabled i k p dev x → p.served ≡ true
+served_by_step i k p dev x a may = (subst (IsActionEnabled i k p dev) a.2 may).0
+
+scans_so : (task : Task) → Scans (task_of task) → scans task ≡ true
+scans_so tasks.List is = absurd is
+scans_so tasks.Show is = absurd is
+scans_so tasks.SetOnly is = absurd is
+scans_so tasks.Scan is = refl
+scans_so (tasks.Batch count) is = refl
+
+named_by : (h : History) (w : WorldCore) (i : ℕ) (job : Job) (s : SystemState) (status : Status) → Here h i job s → IsUnderWay (s.job i).client.stage → (s.job i).session.transfer ≡ Streaming → (device_for s i).holder ≡ Some i → read_status_of (make_for s i) (device_for s i).options ≡ Some status → Happened h w i DataTurn → IsNamed h w i job status
+named_by h w i job s status e on streams held reads turn =
+    let streamed = streaming i (make_for s i) (s.job i) (device_for s i) (s.job i).client.stage on (e.sound.talks i) streams in
+    (turn, scans_so job.task (subst (λ (j : RuledJob). Scans j.task) e.is streamed.1), told_by h i job s status e.own_job e.fine e.is held streamed.0 reads)
+
+evid : (h : History) (w : WorldCore) (i : ℕ) (job : Job) (s : SystemState) (x : Action) → Here h i job s → IsUnderWay (s.job i).client.stage → own_of h i x → StepSo h w job s (By i x) → IsEnabled s (By i x) → (c : Cause) → Comes i (make_for s i) (s.job i) (device_for s i) x c → Evid h w i job c
+evid h w i job s x e on of so may GaveUp c = let o = of_deed h i x Actions.Stops c of in stops_event (Contains h.events) (infos_of h) i o.event (contains_in h.events o.event o.among) o.is
+evid h w i job s x e on of so may LinkLost c = link_lost h w job s i x c so
+evid h w i job s x e on of so may LinkOutOfMemory c = tt
+evid h w i job s x e on of so may WasUnsaid c = (of_deed h i x (Actions.Breaks false) c of).cut job e.own_job.at
+evid h w i job s x e on of so may SourceFailed c = source_failed h w i job s x c on so e.own_job.at
+evid h w i job s x e on of so may NamesEof c = named_by h w i job s Eof e on c.1 c.2 c.3 (happened_by h w job s i x Actions.TurnsShort c.0 so)
+evid h w i job s x e on of so may (Names status) c = named_by h w i job s status e on c.1 c.2 c.3 (happened_by h w job s i x (Actions.TurnsNamed status) c.0 so)
+evid h w i job s x e on of so may Unforced c = absurd c
+evid h w i job s x e on of so may WasUnlisted c = not_listed h w i job s e on (front_by h w i job s x c.0 on so) c.1 c.2
+evid h w i job s x e on of so may HadNoPicture c =
+    no_meaning_there h w i job s e on (front_by h w i job s x c.0 on so) c.1.0 c.1.1 (starting i (make_for s i) (s.job i) (device_for s i) (s.job i).client.stage c.1.0 on (e.sound.talks i) c.1.1) c.1.2.0 c.1.2.1 c.1.2.2 c.1.2.3 c.2
+evid h w i job s x e on of so may WasHeld c = held_by_other h w i job s c.2.0 e on (front_by h w i job s x c.0 on so) c.1 c.2.1 c.2.2
+evid h w i job s x e on of so may Disallowed c = not_allowed h w i job s e on (served_by_step i (make_for s i) (s.job i) (device_for s i) x c.0 may) (front_by h w i job s x c.0 on so) c.1 c.2.0 c.2.1 c.2.2
+evid h w i job s x e on of so may TrayWasEmpty c = no_page h w i job s e on (front_by h w i job s x c.0 on so) c.1
+evid h w i job s x e on of so may TrayRanOut c = tt
+evid h w i job s x e on of so may ClientOutOfMemory c = happened_by h w job s i x Actions.RunsOutOfMemory c so
+
+-- ---- what the job met
+
+abbrev pub EndedBy : History → WorldCore → ℕ → Job → List Cause → Status → Why → Type 0
+EndedBy h w i job met status why = ((c : Cause) × Evid h w i job c × IsCauseAmong c met × Explains c status why) ⊎ (NotForced h job × Explains Unforced status why)
+
+-- each cause that a job met that is under way is so, and an ending is by one of them
+abbrev pub Judged : History → WorldCore → ℕ → Job → List Cause → JobStage → Type 0
+Judged h w i job met Idle = AllByRecursion (Evid h w i job) met
+Judged h w i job met (Running g) = AllByRecursion (Evid h w i job) met
+Judged h w i job met Done = Unit {0}
+Judged h w i job met (Ended status why) = EndedBy h w i job met status why
+
+abbrev pub JudgedAt : History → WorldCore → ℕ → Job → SystemState → Type 0
+JudgedAt h w i job s = Judged h w i job (s.job i).session.met (s.job i).client.stage
+
+pick : (h : History) (w : WorldCore) (i : ℕ) (job : Job) (status : Status) (why : Why) (met : List Cause) → AllByRecursion (Evid h w i job) met → IsExplained status why met → (c : Cause) × Evid h w i job c × IsCauseAmong c met × Explains c status why
+pick h w i job status why [] a e = absurd e
+pick h w i job status why (c ∷ met) a (inl e) = (c, a.0, inl refl, e)
+pick h w i job status why (c ∷ met) a (inr e) = let r = pick h w i job status why met a.1 e in (r.0, r.1, inr r.2, r.3)
+
+forced_same : (h : History) (w : WorldCore) (i : ℕ) (job : Job) (s : SystemState) → Here h i job s → abstract_in_force (make_for s i) (s.job i).session.job.settings ≡ None → NotForced h job
+forced_same h w i job s e none =
+    let place : wanted_place s i ≡ place_named (infos_of h) job.device = e.fine.places i ∙ own_place h i job e.own_job.at in
+    let make : make_for s i ≡ make_at h (place_named (infos_of h) job.device) = ap (λ (m : ℕ → Make). m (wanted_place s i)) e.fine.makes ∙ ap (make_at h) place in
+    subst (λ (k : Make). abstract_in_force k (map requested_setting job.settings.items) ≡ None) make (ap (λ (j : RuledJob). abstract_in_force (make_for s i) j.settings) (sym e.is) ∙ none)
+
+caused : (h : History) (w : WorldCore) (i : ℕ) (job : Job) (s : SystemState) (status : Status) (why : Why) → Here h i job s → AllByRecursion (Evid h w i job) (s.job i).session.met → IsCaused (make_for s i) (s.job i).session status why → EndedBy h w i job (s.job i).session.met status why
+caused h w i job s status why e a (inl c) = inl (pick h w i job status why (s.job i).session.met a c)
+caused h w i job s status why e a (inr c) = inr (forced_same h w i job s e c.0, c.1)
+
+-- all of its causes are so
+judge_all : (h : History) (w : WorldCore) (i : ℕ) (job : Job) (s : SystemState) (stage : JobStage) → (s.job i).client.stage ≡ stage → Here h i job s → AllByRecursion (Evid h w i job) (s.job i).session.met → Judged h w i job (s.job i).session.met stage
+judge_all h w i job s Idle at e a = a
+judge_all h w i job s (Running g) at e a = a
+judge_all h w i job s Done at e a = tt
+judge_all h w i job s (Ended status why) at e a = caused h w i job s status why e a (subst (λ (st : JobStage). StageInvariant i (make_for s i) (s.job i) (device_for s i) st) at (e.sound.talks i))
+
+met_then : CausesAreGrounded → (h : History) (w : WorldCore) (i : ℕ) (job : Job) (s : SystemState) (x : Action) → Here h i job s → IsUnderWay (s.job i).client.stage → own_of h i x → StepSo h w job s (By i x) → IsEnabled s (By i x) → AllByRecursion (Evid h w i job) (s.job i).session.met → AllByRecursion (Evid h w i job) ((after_transition s (By i x)).job i).session.met
+met_then so h w i job s x e on of step legal a =
+    let causes = causes_by i (make_for s i) (listed_devices s) (s.job i) (device_for s i) x in
+    let fresh = all_each (Comes i (make_for s i) (s.job i) (device_for s i) x) (Evid h w i job) causes (evid h w i job s x e on of step legal) (all_come so i (make_for s i) (listed_devices s) (s.job i) (device_for s i) x legal) in
+    subst (AllByRecursion (Evid h w i job)) (sym (ap (λ (p : JobState). p.session.met) (own_party s i x) ∙ met_by i (make_for s i) (listed_devices s) (s.job i) (device_for s i) x)) (all_then (Evid h w i job) causes (s.job i).session.met fresh a)
+
+-- what a job that is over met changes nothing
+more_ended : (h : History) (w : WorldCore) (i : ℕ) (job : Job) (old new : List Cause) (status : Status) (why : Why) → ((c : Cause) → IsCauseAmong c old → IsCauseAmong c new) → EndedBy h w i job old status why → EndedBy h w i job new status why
+more_ended h w i job old new status why grow (inl (c, e, m, x)) = inl (c, e, grow c m, x)
+more_ended h w i job old new status why grow (inr n) = inr n
+
+judged_over : (h : History) (w : WorldCore) (i : ℕ) (job : Job) (old new : List Cause) (stage : JobStage) → (IsUnderWay stage → ⊥) → ((c : Cause) → IsCauseAmong c old → IsCauseAmong c new) → Judged h w i job old stage → Judged h w i job new stage
+judged_over h w i job old new Idle off grow j = absurd (off tt)
+judged_over h w i job old new (Running g) off grow j = absurd (off tt)
+judged_over h w i job old new Done off grow j = tt
+judged_over h w i job old new (Ended status why) off grow j = more_ended h w i job old new status why grow j
+
+met_more : (c : Cause) (xs old : List Cause) → IsCauseAmong c old → IsCauseAmong c (xs ++ old)
+met_more c [] old m = m
+met_more c (x ∷ xs) old m = inr (met_more c xs old m)
+
+grows : (s : SystemState) (i : ℕ) (x : Action) (c : Cause) → IsCauseAmong c (s.job i).session.met → IsCauseAmong c ((after_transition s (By i x)).job i).session.met
+grows s i x c m =
+    let causes = causes_by i (make_for s i) (listed_devices s) (s.job i) (device_for s i) x in
+    subst (IsCauseAmong c) (sym (ap (λ (p : JobState). p.session.met) (own_party s i x) ∙ met_by i (make_for s i) (listed_devices s) (s.job i) (device_for s i) x)) (met_more c causes (s.job i).session.met m)
+
+own_step : Laws → (h : History) (w : WorldCore) (i : ℕ) (job : Job) (s : SystemState) (x : Action) (stage : JobStage) → (s.job i).client.stage ≡ stage → Here h i job s → Here h i job (after_transition s (By i x)) → own_of h i x → StepSo h w job s (By i x) → IsEnabled s (By i x) → JudgedAt h w i job s → JudgedAt h w i job (after_transition s (By i x))
+own_step laws h w i job s x Idle at e f of step legal j =
+    judge_all h w i job (after_transition s (By i x)) ((after_transition s (By i x)).job i).client.stage refl f
+    (met_then laws.grounds h w i job s x e (subst IsUnderWay (sym at) tt) of step legal (subst (Judged h w i job (s.job i).session.met) at j))
+own_step laws h w i job s x (Running g) at e f of step legal j =
+    judge_all h w i job (after_transition s (By i x)) ((after_transition s (By i x)).job i).client.stage refl f
+    (met_then laws.grounds h w i job s x e (subst IsUnderWay (sym at) tt) of step legal (subst (Judged h w i job (s.job i).session.met) at j))
+own_step laws h w i job s x Done at e f of step legal j =
+    let off : IsUnderWay (s.job i).client.stage → ⊥ = λ on. subst IsUnderWay at on in
+    subst (λ (st : JobStage). Judged h w i job ((after_transition s (By i x)).job i).session.met st) (sym (ap (λ (m : ClientView). m.stage) (laws.last s i x legal off)))
+    (judged_over h w i job (s.job i).session.met ((after_transition s (By i x)).job i).session.met (s.job i).client.stage off (grows s i x) j)
+own_step laws h w i job s x (Ended status why) at e f of step legal j =
+    let off : IsUnderWay (s.job i).client.stage → ⊥ = λ on. subst IsUnderWay at on in
+    subst (λ (st : JobStage). Judged h w i job ((after_transition s (By i x)).job i).session.met st) (sym (ap (λ (m : ClientView). m.stage) (laws.last s i x legal off)))
+    (judged_over h w i job (s.job i).session.met ((after_transition s (By i x)).job i).session.met (s.job i).client.stage off (grows s i x) j)
+
+abbrev judged_party : History → WorldCore → ℕ → Job → JobState → Type 0
+judged_party h w i job p = Judged h w i job p.session.met p.client.stage
+
+by_step : Laws → (h : History) (w : WorldCore) (i : ℕ) (job : Job) (s : SystemState) (j : ℕ) (x : Action) (b : Bool) → eqb i j ≡ b → Here h i job s → Here h i job (after_transition s (By j x)) → IsOfOne h (By j x) → StepSo h w job s (By j x) → IsEnabled s (By j x) → JudgedAt h w i job s → JudgedAt h w i job (after_transition s (By j x))
+by_step laws h w i job s j x false e here now of step legal judged = subst (judged_party h w i job) (sym (party_stays s j x i e)) judged
+by_step laws h w i job s j x true e here now of step legal judged =
+    subst (λ (n : ℕ). Here h i job (after_transition s (By n x)) → IsOfOne h (By n x) → StepSo h w job s (By n x) → IsEnabled s (By n x) → JudgedAt h w i job (after_transition s (By n x))) (eqb-true i j e)
+    (λ f o r l. own_step laws h w i job s x (s.job i).client.stage refl here f o r l judged) now of step legal
+
+one_step : Laws → (h : History) (w : WorldCore) (i : ℕ) (job : Job) (s : SystemState) (x : Transition) → Here h i job s → Here h i job (after_transition s x) → IsOfOne h x → StepSo h w job s x → IsEnabled s x → JudgedAt h w i job s → JudgedAt h w i job (after_transition s x)
+one_step laws h w i job s (By j x) here now of step legal judged = by_step laws h w i job s j x (eqb i j) refl here now of step legal judged
+one_step laws h w i job s (Loads d page) here now of step legal judged = judged
+one_step laws h w i job s (Unplugs d) here now of step legal judged = judged
+
+asks_by : (s : SystemState) (j : ℕ) (x : Action) (i : ℕ) (b : Bool) → eqb i j ≡ b → AsksGuarded (s.job i) → AsksGuarded ((after_transition s (By j x)).job i)
+asks_by s j x i false e h = subst AsksGuarded (sym (party_stays s j x i e)) h
+asks_by s j x i true e h =
+    subst (λ (n : ℕ). AsksGuarded ((after_transition s (By n x)).job i)) (eqb-true i j e)
+    (subst AsksGuarded (sym (own_party s i x)) (asks_then i (make_for s i) (listed_devices s) (s.job i) (device_for s i) x h))
+
+still_asks : (s : SystemState) (x : Transition) (i : ℕ) → AsksGuarded (s.job i) → AsksGuarded ((after_transition s x).job i)
+still_asks s (By j x) i h = asks_by s j x i (eqb i j) refl h
+still_asks s (Loads d page) i h = h
+still_asks s (Unplugs d) i h = h
+
+pub here_then : Laws → (h : History) (w : WorldCore) (i : ℕ) (job : Job) (s : SystemState) (x : Transition) → Here h i job s → IsOfOne h x → IsEnabled s x → Here h i job (after_transition s x)
+here_then laws h w i job s x e of legal = record {
+  own_job = e.own_job;
+  fine = fine_then laws.legal h job s x e.sound legal of e.fine;
+  is = job_same s x i ∙ e.is;
+  asks = still_asks s x i e.asks;
+  sound = laws.sound s (x ∷ []) e.sound (legal, tt);
+}
+
+pub all_judged : Laws → (h : History) (w : WorldCore) (i : ℕ) (job : Job) (xs : List Transition) (s : SystemState) → Here h i job s → AllByRecursion (IsOfOne h) xs → AllAlong (StepSo h w job) s xs → IsHistory s xs → JudgedAt h w i job s → JudgedAt h w i job (after_all s xs)
+all_judged laws h w i job [] s e of steps legal j = j
+all_judged laws h w i job (x ∷ xs) s e of steps legal j =
+    let now = here_then laws h w i job s x e of.0 legal.0 in
+    all_judged laws h w i job xs (after_transition s x) now of.1 steps.1 legal.1 (one_step laws h w i job s x e now of.0 steps.0 legal.0 j)

@@ -1,0 +1,343 @@
+-- The page of each start of a job: the first that its device had in the world in front of it, as so many of its pages were finished.
+use Rattle.std.specs.Prelude.{cond, eqb, length, map, slice_get, slice_index_or, ◌<◌, ◌≤◌, ◌+◌, if◌then◌else◌}
+use Rattle.std.specs.List.{AllByRecursion}
+use Rattle.std.proofs.Common.{◌≡◌, ◌∙◌, ◌⊎◌, ℕ, zero, suc, arith, List, [], ◌∷◌, ◌++◌, Bool, true, false, Option, Some, None, inl, inr, refl, sym, ap, subst, eqb-true}
+use Rattle.std.proofs.lemmas.List.{append-nil}
+use Rattle.std.proofs.lemmas.Option.{get_or_from_slice_get}
+use Rattle.frame_join.specs.FrameHistory.{JoinHistory, is_joined}
+use Rattle.page_picture.specs.Shows.{Frame}
+use Rattle.sane_fixed.specs.declared.device_info.DeviceInfo.{DeviceInfo}
+use Rattle.device_api.specs.Kinds.{Page}
+use Rattle.device_api.specs.State.{DeviceState, is_at_rest, page_of}
+use Rattle.scan_job.specs.declared.job.Job.{Job}
+use Rattle.scan_job.specs.declared.outcome.Outcome.{Outcome}
+use Rattle.scan_job.specs.declared.outcome.Outcome.TheVariants as outcomes
+use Rattle.client_replies.specs.ProtocolStates.{FitsAt, HistoryFits, IsBetweenFrames, target_of, is_batch}
+use Rattle.client_replies.specs.declared.progress.JobTarget.{JobTarget}
+use Rattle.client_replies.specs.declared.progress.Notes.{Notes}
+use Rattle.client_replies.specs.declared.progress.Progress.{Progress}
+use Rattle.client_replies.specs.declared.progress.Progress.TheVariants as stages
+use Rattle.client_refines.specs.ClientRefinement.{OutcomeRefines, WaitsAs, wholes}
+use Rattle.system_model.specs.AbstractDevices.{AbstractDevice, Begin, Between, Resting}
+use Rattle.system_model.specs.AbstractMessages.{AbstractRequest, Challenge, Init, GetDevices, Open, Authorize, Describe, Get, Set, Parameters, Start}
+use Rattle.system_model.specs.Actions
+use Rattle.system_model.specs.Actions.{Action, answer_next, environment_of, job_after_action, served_by}
+use Rattle.system_model.specs.Client.{AbstractJob, AbstractProgress, ClientView, JobStage, Idle, Running, Done, Ended, Greeting, Listing, Opening, Allowing, Describing, Putting, Getting, Starting, Shaping, Imaging, request_awaited}
+use Rattle.system_model.specs.Daemon.{FailureCounts}
+use Rattle.system_model.specs.Devices.{Make}
+use Rattle.system_model.specs.Invariants.{Invariant, PagesAreOfStarts, StageInvariant}
+use Rattle.system_model.specs.AbstractMessages.{RequestedSetting}
+use Rattle.system_model.specs.Sync.{ArePictures, InSync, Pauses, Ready}
+use Rattle.system_model.specs.SystemStates.{JobState, SessionView, SystemState, device_for, listed_devices, make_for, wanted_place}
+use Rattle.system_model.specs.Transitions.{By, IsEnabled, IsHistory, IsUnderWay, Loads, Transition, Unplugs, after_all, after_transition}
+use Rattle.scan_world.specs.declared.endpoint.Endpoint.{Endpoint}
+use Rattle.scan_world.specs.FileDraining.{HasFiles}
+use Rattle.scan_world.specs.JobEvents.{is_done}
+use Rattle.scan_world.specs.Worlds.{WorldCore}
+use Rattle.world_refines.specs.FailedSources.{AllAlong}
+use Rattle.world_refines.specs.GhostStates.{Ghost, place_named, place_of_info}
+use Rattle.world_refines.specs.WorldRefinement.{KeepsFiles, WorldRefines, client_at_greeting, is_laid}
+use Rattle.world_refines.proofs.frames.Paged.{woken_pages}
+use Rattle.world_contract.specs.Histories.{History}
+use Rattle.world_contract.specs.Page.{StartedOn}
+use Rattle.world_contract.specs.Sessions.{HasFinished}
+use Rattle.world_contract.proofs.Along.{Fine, Here, Laws, own_place}
+use Rattle.world_contract.proofs.Begun.{party_stays}
+use Rattle.world_contract.proofs.Evident.{IsAnswer}
+use Rattle.world_contract.proofs.NoPictures.{starting}
+use Rattle.world_contract.proofs.Pages.{HasDevice, IsBegun, IsOfDevice, IsOfOne}
+use Rattle.world_contract.proofs.Scanned.{infos_of}
+use Rattle.world_contract.proofs.moments.Entries.{own_party, past_end}
+use Rattle.world_contract.proofs.moments.Judged.{Front, asked_start, has_there, here_then}
+use Rattle.world_contract.proofs.moments.Moments.{AnsweredSo}
+use Rattle.world_contract.proofs.moments.Requests.{BeginsAt, answers_met}
+use Rattle.world_contract.proofs.moments.Tray.{page_there, rests_there}
+use Rattle.world_contract.proofs.moments.Waiting.{Runs, runs_by, woken}
+
+-- ---- as it starts, as many pages are finished as were started
+
+synced_ready : (i : ℕ) (k : Make) (b : SessionView) (m : ClientView) (dev : AbstractDevice) (g : AbstractProgress) (rest : List AbstractRequest) → Start ∷ rest ≡ request_awaited g → dev.phase ≡ Resting → InSync i k b m dev g → Ready i k b m dev × (g ≡ Starting)
+synced_ready i k b m dev Greeting rest e rests h = absurd (let clash : Start ∷ rest ≡ Init ∷ [] = e in cc)
+synced_ready i k b m dev Listing rest e rests h = absurd (let clash : Start ∷ rest ≡ GetDevices ∷ [] = e in cc)
+synced_ready i k b m dev Opening rest e rests h = absurd (let clash : Start ∷ rest ≡ Open ∷ [] = e in cc)
+synced_ready i k b m dev (Allowing c) rest e rests h = absurd (let clash : Start ∷ rest ≡ Authorize c ∷ [] = e in cc)
+synced_ready i k b m dev (Describing left) rest e rests h = absurd (let clash : Start ∷ rest ≡ Describe ∷ [] = e in cc)
+synced_ready i k b m dev (Putting n value requested left) rest e rests h = absurd (let clash : Start ∷ rest ≡ Set n value ∷ [] = e in cc)
+synced_ready i k b m dev (Getting n left) rest e rests h = absurd (let clash : Start ∷ rest ≡ Get n ∷ [] = e in cc)
+synced_ready i k b m dev Starting rest e rests (inl h) = (h, refl)
+synced_ready i k b m dev Starting rest e rests (inr h) = absurd (let clash : Resting ≡ Between h.last (h.frame ∷ h.more) = sym rests ∙ h.held.phase_is in cc)
+synced_ready i k b m dev Shaping rest e rests h = absurd (let clash : Start ∷ rest ≡ Parameters ∷ [] = e in cc)
+synced_ready i k b m dev (Imaging params heard) rest e rests h = absurd (let clash : Start ∷ rest ≡ [] = e in cc)
+
+none_asked : {A : Type 0} (todo rest : List AbstractRequest) → todo ≡ [] → todo ≡ Start ∷ rest → A
+none_asked todo rest none e = absurd (let clash : [] ≡ Start ∷ rest = sym none ∙ e in cc)
+
+-- it is ready to start a page
+pub starts_ready : (i : ℕ) (k : Make) (p : JobState) (dev : AbstractDevice) (stage : JobStage) (rest : List AbstractRequest) → IsUnderWay stage → StageInvariant i k p dev stage → p.todo ≡ Start ∷ rest → dev.phase ≡ Resting → Ready i k p.session p.client dev × (stage ≡ Running Starting)
+starts_ready i k p dev Idle rest on h e rests = none_asked p.todo rest h.1 e
+starts_ready i k p dev (Running g) rest on (inl h) e rests = let r = synced_ready i k p.session p.client dev g rest (sym e ∙ h.todo) rests h.in_sync in (r.0, ap (λ (x : AbstractProgress). Running x) r.1)
+starts_ready i k p dev (Running g) rest on (inr (inl h)) e rests = none_asked p.todo rest h.todo e
+starts_ready i k p dev (Running g) rest on (inr (inr h)) e rests = none_asked p.todo rest h.todo e
+starts_ready i k p dev Done rest on h e rests = absurd on
+starts_ready i k p dev (Ended status why) rest on h e rests = absurd on
+
+as_many : (k : Make) (settings : List RequestedSetting) (begins : List Begin) (pages : List (List Frame)) → ArePictures k settings begins pages → length begins ≡ length pages
+as_many k settings [] [] h = refl
+as_many k settings [] (page ∷ pages) h = absurd h
+as_many k settings (b ∷ begins) [] h = absurd h
+as_many k settings (b ∷ begins) (page ∷ pages) h = ap suc (as_many k settings begins pages h.1)
+
+-- the join of a client that starts has no whole picture
+between : (job : AbstractJob) (progress : Progress) (notes : Notes) (past : JoinHistory) (m : ClientView) → m.stage ≡ Running Starting → (progress ≡ stages.Turning → ⊥) → WaitsAs job progress notes past m → FitsAt progress past → IsBetweenFrames past
+between job stages.Greeting notes past m at unturned h fits = fits
+between job stages.Listing notes past m at unturned h fits = fits
+between job stages.Opening notes past m at unturned h fits = fits
+between job (stages.Allowing resource answer) notes past m at unturned h fits = fits
+between job stages.Reopening notes past m at unturned h fits = fits
+between job stages.Describing notes past m at unturned h fits = fits
+between job (stages.Putting n kind name asked) notes past m at unturned h fits = fits
+between job (stages.Getting n kind size) notes past m at unturned h fits = fits
+between job (stages.Starting first) notes past m at unturned h fits = fits
+between job (stages.Shaping port order) notes past m at unturned h fits = fits
+between job (stages.Imaging port made) notes past m at unturned h fits = absurd (let clash : Running (Imaging h.params h.payload) ≡ Running Starting = sym h.stage ∙ at in cc)
+between job stages.Turning notes past m at unturned h fits = absurd (unturned refl)
+between job stages.Over notes past m at unturned h fits = absurd h
+
+outcome_between : (place : DeviceInfo → ℕ) (target : JobTarget) (job : AbstractJob) (pages : List (List Frame)) (o : Outcome) (progress : Progress) (notes : Notes) (past : JoinHistory) (m : ClientView) → m.stage ≡ Running Starting → (progress ≡ stages.Turning → ⊥) → OutcomeRefines place target job pages o progress notes past m → HistoryFits target.task o progress past → (is_done o ≡ false) × IsBetweenFrames past
+outcome_between place target job pages outcomes.Running progress notes past m at unturned h fits = (refl, between job progress notes past m at unturned h.1 fits.1)
+outcome_between place target job pages (outcomes.Done reports) progress notes past m at unturned h fits = absurd (let clash : Done ≡ Running Starting = sym h.stage ∙ at in cc)
+outcome_between place target job pages (outcomes.Ended status why) progress notes past m at unturned h fits = absurd (let clash : Ended _ h.0 ≡ Running Starting = sym h.1.1 ∙ at in cc)
+
+pub mapped_length : {X Y : Type 0} (f : X → Y) (xs : List X) → length (map f xs) ≡ length xs
+mapped_length f [] = refl
+mapped_length f (x ∷ xs) = ap suc (mapped_length f xs)
+
+unlaid : (b c : Bool) → b ≡ false → cond b c false ≡ false
+unlaid false c e = refl
+unlaid true c e = absurd (let clash : true ≡ false = e in cc)
+
+none_whole : (frames : List Frame) (b : Bool) → (b ≡ false) → (if b then frames ∷ [] else []) ≡ []
+none_whole frames false e = refl
+none_whole frames true e = absurd (let clash : true ≡ false = e in cc)
+
+count_at : (t : Ghost) (w : WorldCore) (i : ℕ) (rest : List AbstractRequest) (o : Option Endpoint) → slice_get w.endpoints i ≡ o → WorldRefines t w → (t.system.job i).client.stage ≡ Running Starting → Ready i (make_for t.system i) (t.system.job i).session (t.system.job i).client (device_for t.system i) → HasFinished w i (length (t.system.job i).session.started)
+count_at t w i rest None at h stage ready = absurd (let clash : Idle ≡ Running Starting = sym (h.beyond i (past_end w.endpoints i at)).stage ∙ stage in cc)
+count_at t w i rest (Some p) at h stage ready =
+    let s = h.endpoints i p at in
+    let me = t.system.job i in
+    let past = t.history i in
+    let reads = s.talks.reads in
+    let fits : HistoryFits (target_of (t.jobs i)).task p.client.outcome p.client.progress past = subst (λ (x : JobTarget). HistoryFits x.task p.client.outcome p.client.progress past) s.talks.target s.talks.serves.fits in
+    let is = outcome_between (place_of_info t.infos) (target_of (t.jobs i)) me.session.job (map (λ (q : JoinHistory). q.ended) (t.pages i)) p.client.outcome p.client.progress p.client.notes past (client_at_greeting me.client.stage me.client) (woken me.client.stage me.client Starting stage refl) s.waits.unturned reads.stands fits in
+    let laid : is_laid (t.jobs i).task p.client.outcome past ≡ false = unlaid (is_done p.client.outcome) (cond (is_batch (t.jobs i).task) (is_joined past.ended) false) is.0 in
+    let files : HasFiles past.given (t.pages i) p = subst (λ (b : Bool). KeepsFiles b past (t.pages i) p) laid s.talks.files in
+    let pages : me.client.pages ≡ map (λ (q : JoinHistory). q.ended) (t.pages i) =
+    sym (woken_pages me.client.stage me.client) ∙ (reads.files.all ∙ (ap (λ (x : List (List Frame)). map (λ (q : JoinHistory). q.ended) (t.pages i) ++ x) (none_whole past.ended _ is.1.2) ∙ append-nil (map (λ (q : JoinHistory). q.ended) (t.pages i)))) in
+    let started : length me.session.started ≡ length me.client.pages = as_many (make_for t.system i) me.session.job.settings me.session.started me.client.pages ready.pictures in
+    (p, at, files.count ∙ (sym (mapped_length (λ (q : JoinHistory). q.ended) (t.pages i)) ∙ (ap length (sym pages) ∙ sym started)))
+
+-- ---- a start
+
+pub record StartFact (h : History) (w : WorldCore) (i : ℕ) (job : Job) (count : ℕ) (begin : Begin) : Type 0 where
+  pub begun : IsBegun h (place_named (infos_of h) job.device) begin
+  pub started : StartedOn h w i job count begin.page
+
+start_fact : (h : History) (w : WorldCore) (i : ℕ) (job : Job) (s : SystemState) (begin : Begin) → Here h i job s → IsUnderWay (s.job i).client.stage → Front h w job s i → (rest : List AbstractRequest) → (s.job i).todo ≡ Start ∷ rest → (device_for s i).phase ≡ Resting → (later : List Page) → (device_for s i).tray ≡ begin.page ∷ later → StartFact h w i job (length (s.job i).session.started) begin
+start_fact h w i job s begin e on a rest todo rests later tray =
+    let set = starting i (make_for s i) (s.job i) (device_for s i) (s.job i).client.stage rest on (e.sound.talks i) todo in
+    let r = has_there h w i job s i e.own_job e.fine a set.0 in
+    let place : wanted_place s i ≡ place_named (infos_of h) job.device = e.fine.places i ∙ own_place h i job e.own_job.at in
+    let pages = (subst (AllByRecursion (IsOfDevice h (wanted_place s i))) tray (e.fine.slots (wanted_place s i)).pages).0 in
+    let begun : IsBegun h (wanted_place s i) begin = ((e.fine.slots (wanted_place s i)).held i set.0, pages) in
+    let ready = starts_ready i (make_for s i) (s.job i) (device_for s i) (s.job i).client.stage rest on (e.sound.talks i) todo rests in
+    let finished : HasFinished a.1.at.before i (length (a.1.ghost.system.job i).session.started) =
+    count_at a.1.ghost a.1.at.before i rest (slice_get a.1.at.before.endpoints i) refl a.1.stands
+    (ap (λ (u : SystemState). (u.job i).client.stage) a.1.state ∙ ready.1)
+    (subst (λ (u : SystemState). Ready i (make_for u i) (u.job i).session (u.job i).client (device_for u i)) (sym a.1.state) ready.0) in
+    record {
+      begun = subst (λ (d : ℕ). IsBegun h d begin) place begun;
+      started = record {
+        asked = asked_start h w i job s on a rest todo;
+        finished = subst (λ (u : SystemState). HasFinished a.1.at.before i (length (u.job i).session.started)) a.1.state finished;
+        device = r.0;
+        has = r.1;
+        rests = rests_there (Some i) (device_for s i) r.0 rests r.2 r.3;
+        first = page_there (Some i) (device_for s i) r.0 begin.page later rests tray r.2 r.3;
+      };
+    }
+
+-- ---- of a job, each by its number
+
+abbrev AreStarts : History → WorldCore → ℕ → Job → ℕ → List Begin → Type 0
+AreStarts h w i job n [] = Unit {0}
+AreStarts h w i job n (b ∷ begins) = StartFact h w i job n b × AreStarts h w i job (n + 1) begins
+
+one_more : (h : History) (w : WorldCore) (i : ℕ) (job : Job) (n : ℕ) (begins : List Begin) (b : Begin) → AreStarts h w i job n begins → StartFact h w i job (n + length begins) b → AreStarts h w i job n (begins ++ b ∷ [])
+one_more h w i job n [] b all fact = (let same : n + 0 ≡ n = omega arith in subst (λ (k : ℕ). StartFact h w i job k b) same fact, tt)
+one_more h w i job n (c ∷ begins) b all fact = (all.0, one_more h w i job (n + 1) begins b all.1 (let same : n + suc (length begins) ≡ n + 1 + length begins = omega arith in subst (λ (k : ℕ). StartFact h w i job k b) same fact))
+
+start_at : (h : History) (w : WorldCore) (i : ℕ) (job : Job) (n k : ℕ) (begins : List Begin) (b : Begin) → AreStarts h w i job n begins → slice_get begins k ≡ Some b → StartFact h w i job (n + k) b
+start_at h w i job n k [] b all at = absurd (let clash : None ≡ Some b = at in cc)
+start_at h w i job n zero (c ∷ begins) b all at =
+    let one : c ≡ b = (let both : Some c ≡ Some b = at in cc) in
+    let same : n ≡ n + 0 = omega arith in
+    subst (λ (m : ℕ). StartFact h w i job m b) same (subst (StartFact h w i job n) one all.0)
+start_at h w i job n (suc k) (c ∷ begins) b all at = let same : n + 1 + k ≡ n + suc k = omega arith in subst (λ (m : ℕ). StartFact h w i job m b) same (start_at h w i job (n + 1) k begins b all.1 at)
+
+-- ---- a step
+
+started_next : (i : ℕ) (k : Make) (ds : List ℕ) (p : JobState) (dev : AbstractDevice) (challenge : Challenge) (fault : Option FailureCounts) (q : AbstractRequest) (rest : List AbstractRequest) → (answer_next i k ds p dev challenge fault (q ∷ rest)).session.started ≡ p.session.started ++ (served_by i k ds p dev challenge fault q).begun
+started_next i k ds p dev challenge fault q rest = refl
+
+started_by : (i : ℕ) (k : Make) (ds : List ℕ) (p : JobState) (dev : AbstractDevice) (x : Action) → ((job_after_action i k ds p dev x).session.started ≡ p.session.started) ⊎ IsAnswer x
+started_by i k ds p dev Actions.Connects = inl refl
+started_by i k ds p dev (Actions.Answers challenge fault) = inr (challenge, fault, refl)
+started_by i k ds p dev (Actions.Hears reply) = inl refl
+started_by i k ds p dev Actions.Dials = inl refl
+started_by i k ds p dev (Actions.Turns bytes) = inl refl
+started_by i k ds p dev Actions.TurnsLast = inl refl
+started_by i k ds p dev (Actions.TurnsNamed status) = inl refl
+started_by i k ds p dev Actions.TurnsShort = inl refl
+started_by i k ds p dev (Actions.TurnsFault fault) = inl refl
+started_by i k ds p dev Actions.TurnsOff = inl refl
+started_by i k ds p dev (Actions.Reads bytes) = inl refl
+started_by i k ds p dev (Actions.Finishes status) = inl refl
+started_by i k ds p dev (Actions.Loses memory) = inl refl
+started_by i k ds p dev (Actions.LosesImage memory) = inl refl
+started_by i k ds p dev (Actions.Breaks memory) = inl refl
+started_by i k ds p dev Actions.RunsOutOfMemory = inl refl
+started_by i k ds p dev Actions.Stops = inl refl
+
+-- an answer starts at most one page
+by_begun : (h : History) (w : WorldCore) (i : ℕ) (job : Job) (s : SystemState) (q : AbstractRequest) (rest : List AbstractRequest) (begun : List Begin) → Here h i job s → IsUnderWay (s.job i).client.stage → Front h w job s i → (s.job i).todo ≡ q ∷ rest → BeginsAt (device_for s i) q begun → AreStarts h w i job 0 (s.job i).session.started → AreStarts h w i job 0 ((s.job i).session.started ++ begun)
+by_begun h w i job s q rest [] e on a todo begins all = subst (AreStarts h w i job 0) (sym (append-nil (s.job i).session.started)) all
+by_begun h w i job s q rest (b ∷ more) e on a todo begins all =
+    let start : (s.job i).todo ≡ Start ∷ rest = todo ∙ ap (λ (x : AbstractRequest). x ∷ rest) begins.0 in
+    let fact = start_fact h w i job s b e on a rest start begins.1 begins.2.0 begins.2.1 in
+    let same : length (s.job i).session.started ≡ 0 + length (s.job i).session.started = omega arith in
+    subst (λ (xs : List Begin). AreStarts h w i job 0 ((s.job i).session.started ++ b ∷ xs)) (sym begins.3)
+    (one_more h w i job 0 (s.job i).session.started b all (subst (λ (n : ℕ). StartFact h w i job n b) same fact))
+
+answer_starts : (h : History) (w : WorldCore) (i : ℕ) (job : Job) (s : SystemState) (challenge : Challenge) (fault : Option FailureCounts) (qs : List AbstractRequest) → (s.job i).todo ≡ qs → Here h i job s → IsUnderWay (s.job i).client.stage → Front h w job s i → AreStarts h w i job 0 (s.job i).session.started → AreStarts h w i job 0 (answer_next i (make_for s i) (listed_devices s) (s.job i) (device_for s i) challenge fault qs).session.started
+answer_starts h w i job s challenge fault [] todo e on a all = all
+answer_starts h w i job s challenge fault (q ∷ rest) todo e on a all =
+    let p = s.job i in
+    let met = answers_met i (make_for s i) (device_for s i) p.session.transfer p.session.awaited (environment_of p.session (listed_devices s) challenge fault) q in
+    by_begun h w i job s q rest (served_by i (make_for s i) (listed_devices s) p (device_for s i) challenge fault q).begun e on a todo met.2 all
+
+step_starts : (h : History) (w : WorldCore) (i : ℕ) (job : Job) (s : SystemState) (x : Action) → Here h i job s → IsUnderWay (s.job i).client.stage → AnsweredSo h w job s (By i x) → AreStarts h w i job 0 (s.job i).session.started → AreStarts h w i job 0 ((after_transition s (By i x)).job i).session.started
+step_starts h w i job s x e on so all = subst (λ (p : JobState). AreStarts h w i job 0 p.session.started) (sym (own_party s i x)) (elim (started_by i (make_for s i) (listed_devices s) (s.job i) (device_for s i) x) [
+  | inl same ↦ subst (AreStarts h w i job 0) (sym same) all
+  | inr a ↦
+      let front : Front h w job s i = (a.1, (subst (λ (y : Action). AnsweredSo h w job s (By i y)) a.2 so) on) in
+      subst (λ (y : Action). AreStarts h w i job 0 (job_after_action i (make_for s i) (listed_devices s) (s.job i) (device_for s i) y).session.started) (sym a.2)
+      (answer_starts h w i job s a.0 a.1 (s.job i).todo refl e on front all)
+])
+
+-- ---- all steps: of a job that is over, those of its finished pages
+
+abbrev AreFirst : History → WorldCore → ℕ → Job → JobState → Type 0
+AreFirst h w i job p = (k : ℕ) (b : Begin) → k < length p.client.pages → slice_get p.session.started k ≡ Some b → StartFact h w i job k b
+
+abbrev Kept : History → WorldCore → ℕ → Job → JobState → JobStage → Type 0
+Kept h w i job p Idle = AreStarts h w i job 0 p.session.started
+Kept h w i job p (Running g) = AreStarts h w i job 0 p.session.started
+Kept h w i job p Done = AreFirst h w i job p
+Kept h w i job p (Ended status why) = AreFirst h w i job p
+
+all_first : (h : History) (w : WorldCore) (i : ℕ) (job : Job) (p : JobState) → AreStarts h w i job 0 p.session.started → AreFirst h w i job p
+all_first h w i job p all k b low at = let same : 0 + k ≡ k = omega arith in subst (λ (n : ℕ). StartFact h w i job n b) same (start_at h w i job 0 k p.session.started b all at)
+
+kept_all : (h : History) (w : WorldCore) (i : ℕ) (job : Job) (p : JobState) (stage : JobStage) → AreStarts h w i job 0 p.session.started → Kept h w i job p stage
+kept_all h w i job p Idle all = all
+kept_all h w i job p (Running g) all = all
+kept_all h w i job p Done all = all_first h w i job p all
+kept_all h w i job p (Ended status why) all = all_first h w i job p all
+
+-- what comes later stands behind those of the finished pages
+front_of : {X : Type 0} (xs ys : List X) (k : ℕ) → k < length xs → slice_get (xs ++ ys) k ≡ slice_get xs k
+front_of [] ys k low = absurd (omega (arith, low))
+front_of (x ∷ xs) ys zero low = refl
+front_of (x ∷ xs) ys (suc k) low = front_of xs ys k (omega (arith, low))
+
+pub app_length : {X : Type 0} (xs ys : List X) → length xs ≤ length (xs ++ ys)
+app_length [] ys = omega arith
+app_length (x ∷ xs) ys = let more = app_length xs ys in omega (arith, more)
+
+enough : (k : Make) (p : JobState) → PagesAreOfStarts k p.session p.client → length p.client.pages ≤ length p.session.started
+enough k p h =
+    let same = as_many k p.session.job.settings h.begins p.client.pages h.pictures in
+    let more = app_length h.begins h.later in
+    subst (λ (n : ℕ). n ≤ length p.session.started) same (subst (λ (xs : List Begin). length h.begins ≤ length xs) (sym h.started) more)
+
+over_first : (h : History) (w : WorldCore) (i : ℕ) (job : Job) (p q : JobState) (more : List Begin) → q.client ≡ p.client → q.session.started ≡ p.session.started ++ more → length p.client.pages ≤ length p.session.started → AreFirst h w i job p → AreFirst h w i job q
+over_first h w i job p q more client started enough first k b low at =
+    let pages : length q.client.pages ≡ length p.client.pages = ap (λ (m : ClientView). length m.pages) client in
+    let was : k < length p.client.pages = subst (λ (n : ℕ). k < n) pages low in
+    let within : k < length p.session.started = omega (arith, was, enough) in
+    first k b was (sym (front_of p.session.started more k within) ∙ (ap (λ (xs : List Begin). slice_get xs k) (sym started) ∙ at))
+
+grown_next : (i : ℕ) (k : Make) (ds : List ℕ) (p : JobState) (dev : AbstractDevice) (challenge : Challenge) (fault : Option FailureCounts) (qs : List AbstractRequest) → (more : List Begin) × ((answer_next i k ds p dev challenge fault qs).session.started ≡ p.session.started ++ more)
+grown_next i k ds p dev challenge fault [] = ([], sym (append-nil p.session.started))
+grown_next i k ds p dev challenge fault (q ∷ rest) = ((served_by i k ds p dev challenge fault q).begun, refl)
+
+grown : (s : SystemState) (i : ℕ) (x : Action) → (more : List Begin) × (((after_transition s (By i x)).job i).session.started ≡ (s.job i).session.started ++ more)
+grown s i x = elim (started_by i (make_for s i) (listed_devices s) (s.job i) (device_for s i) x) [
+  | inl same ↦ ([], ap (λ (p : JobState). p.session.started) (own_party s i x) ∙ (same ∙ sym (append-nil (s.job i).session.started)))
+  | inr a ↦
+      let g = grown_next i (make_for s i) (listed_devices s) (s.job i) (device_for s i) a.0 a.1 (s.job i).todo in
+      (g.0, ap (λ (p : JobState). p.session.started) (own_party s i x) ∙ (ap (λ (y : Action). (job_after_action i (make_for s i) (listed_devices s) (s.job i) (device_for s i) y).session.started) a.2 ∙ g.1))
+]
+
+over_step : Laws → (h : History) (w : WorldCore) (i : ℕ) (job : Job) (s : SystemState) (x : Action) (stage : JobStage) → (s.job i).client.stage ≡ stage → (IsUnderWay stage → ⊥) → Here h i job s → IsEnabled s (By i x) → AreFirst h w i job (s.job i) → AreFirst h w i job ((after_transition s (By i x)).job i)
+over_step laws h w i job s x stage at off e may first =
+    let g = grown s i x in
+    let client = laws.last s i x may (λ on. off (subst IsUnderWay at on)) in
+    over_first h w i job (s.job i) ((after_transition s (By i x)).job i) g.0 client g.1 (enough (make_for s i) (s.job i) (e.sound.pages i)) first
+
+abbrev KeptAt : History → WorldCore → ℕ → Job → SystemState → Type 0
+KeptAt h w i job s = Kept h w i job (s.job i) (s.job i).client.stage
+
+stage_stays : Laws → (s : SystemState) (i : ℕ) (x : Action) → IsEnabled s (By i x) → (IsUnderWay (s.job i).client.stage → ⊥) → ((after_transition s (By i x)).job i).client.stage ≡ (s.job i).client.stage
+stage_stays laws s i x may off = ap (λ (m : ClientView). m.stage) (laws.last s i x may off)
+
+own_step : Laws → (h : History) (w : WorldCore) (i : ℕ) (job : Job) (s : SystemState) (x : Action) (stage : JobStage) → (s.job i).client.stage ≡ stage → Here h i job s → AnsweredSo h w job s (By i x) → IsEnabled s (By i x) → Kept h w i job (s.job i) stage → KeptAt h w i job (after_transition s (By i x))
+own_step laws h w i job s x Idle at e so may kept = kept_all h w i job ((after_transition s (By i x)).job i) _ (step_starts h w i job s x e (subst IsUnderWay (sym at) tt) so kept)
+own_step laws h w i job s x (Running g) at e so may kept = kept_all h w i job ((after_transition s (By i x)).job i) _ (step_starts h w i job s x e (subst IsUnderWay (sym at) tt) so kept)
+own_step laws h w i job s x Done at e so may kept =
+    let q = (after_transition s (By i x)).job i in
+    subst (Kept h w i job q) (sym (stage_stays laws s i x may (λ on. subst IsUnderWay at on) ∙ at)) (over_step laws h w i job s x Done at (λ on. on) e may kept)
+own_step laws h w i job s x (Ended status why) at e so may kept =
+    let q = (after_transition s (By i x)).job i in
+    subst (Kept h w i job q) (sym (stage_stays laws s i x may (λ on. subst IsUnderWay at on) ∙ at)) (over_step laws h w i job s x (Ended status why) at (λ on. on) e may kept)
+
+abbrev kept_party : History → WorldCore → ℕ → Job → JobState → Type 0
+kept_party h w i job p = Kept h w i job p p.client.stage
+
+by_step : Laws → (h : History) (w : WorldCore) (i : ℕ) (job : Job) (s : SystemState) (j : ℕ) (x : Action) (b : Bool) → eqb i j ≡ b → Here h i job s → AnsweredSo h w job s (By j x) → IsEnabled s (By j x) → KeptAt h w i job s → KeptAt h w i job (after_transition s (By j x))
+by_step laws h w i job s j x false e here so may kept = subst (kept_party h w i job) (sym (party_stays s j x i e)) kept
+by_step laws h w i job s j x true e here so may kept =
+    subst (λ (n : ℕ). AnsweredSo h w job s (By n x) → IsEnabled s (By n x) → KeptAt h w i job (after_transition s (By n x))) (eqb-true i j e)
+    (λ r l. own_step laws h w i job s x (s.job i).client.stage refl here r l kept) so may
+
+one_step : Laws → (h : History) (w : WorldCore) (i : ℕ) (job : Job) (s : SystemState) (x : Transition) → Here h i job s → AnsweredSo h w job s x → IsEnabled s x → KeptAt h w i job s → KeptAt h w i job (after_transition s x)
+one_step laws h w i job s (By j x) here so may kept = by_step laws h w i job s j x (eqb i j) refl here so may kept
+one_step laws h w i job s (Loads d page) here so may kept = kept
+one_step laws h w i job s (Unplugs d) here so may kept = kept
+
+all_steps : Laws → (h : History) (w : WorldCore) (i : ℕ) (job : Job) (xs : List Transition) (s : SystemState) → Here h i job s → AllByRecursion (IsOfOne h) xs → AllAlong (AnsweredSo h w job) s xs → IsHistory s xs → KeptAt h w i job s → KeptAt h w i job (after_all s xs)
+all_steps laws h w i job [] s e of so may kept = kept
+all_steps laws h w i job (x ∷ xs) s e of so may kept =
+    all_steps laws h w i job xs (after_transition s x) (here_then laws h w i job s x e of.0 may.0) of.1 so.1 may.1 (one_step laws h w i job s x e so.0 may.0 kept)
+
+any_first : (h : History) (w : WorldCore) (i : ℕ) (job : Job) (p : JobState) (stage : JobStage) → Kept h w i job p stage → AreFirst h w i job p
+any_first h w i job p Idle kept = all_first h w i job p kept
+any_first h w i job p (Running g) kept = all_first h w i job p kept
+any_first h w i job p Done kept = kept
+any_first h w i job p (Ended status why) kept = kept
+
+-- the starts of the finished pages of a job
+pub starts_first : Laws → (h : History) (w : WorldCore) (i : ℕ) (job : Job) (steps : List Transition) (s : SystemState) → Here h i job s → AllByRecursion (IsOfOne h) steps → AllAlong (AnsweredSo h w job) s steps → IsHistory s steps → (s.job i).session.started ≡ [] → (k : ℕ) (b : Begin) → k < length ((after_all s steps).job i).client.pages → slice_get ((after_all s steps).job i).session.started k ≡ Some b → StartFact h w i job k b
+starts_first laws h w i job steps s e of so may none =
+    let first : KeptAt h w i job s = kept_all h w i job (s.job i) (s.job i).client.stage (subst (AreStarts h w i job 0) (sym none) tt) in
+    any_first h w i job ((after_all s steps).job i) ((after_all s steps).job i).client.stage (all_steps laws h w i job steps s e of so may first)
