@@ -2,9 +2,11 @@
 """Counts what a statement rests on: the definitions of specs/ that it reaches through `use` lines, and their lines without
 comments. Of structs and enums of the code, of std and of the kit it counts none.
 
-usage: python3 tests/closure.py [--list | --files] FILE NAME ..
+usage: python3 tests/closure.py [--list | --files] FILE NAME .. [-NAME ..]
 
     python3 tests/closure.py crates/netpbm/specs/Pnm.antt Denotes
+
+-NAME   definitions of that name are not opened, nor counted
 
 --list   each definition with its lines, those that others rest on first
 --files  each file with its definitions and their lines, in that order
@@ -95,8 +97,8 @@ class Specs:
             return (module, name) if name in own.lines else (module, own.variants[name]) if name in own.variants else None
         return (inner, last) if inner in self.modules and last in self.modules[inner].lines else None
 
-    def closure(self, roots):
-        """The definitions on which these rest, those that others rest on first."""
+    def closure(self, roots, closed=()):
+        """The definitions on which these rest, those that others rest on first; without those of such a name."""
         order, seen = [], set()
         work = [(it, False) for it in reversed(roots)]
         while work:
@@ -108,7 +110,7 @@ class Specs:
                 work.append((it, True))
                 for module, name in self.modules[it[0]].cites(it[1]):
                     found = self.find(module or it[0], name)
-                    if found and found not in seen:
+                    if found and found not in seen and found[1] not in closed:
                         work.append((found, False))
         return order
 
@@ -116,18 +118,18 @@ class Specs:
         return len(self.modules[it[0]].lines[it[1]])
 
 
-def count(specs, path, names):
+def count(specs, path, names, closed=()):
     """How many definitions a statement rests on, itself among them, and of how many lines; none where it is not there."""
     if any(not specs.find(module_of(path), it) for it in names):
         return 0, 0
-    order = specs.closure([(module_of(path), it) for it in names])
+    order = specs.closure([(module_of(path), it) for it in names], closed)
     return len(order), sum(specs.lines_of(it) for it in order)
 
 
-def by_file(specs, path, names):
+def by_file(specs, path, names, closed=()):
     """The files of what a statement rests on, in the order of reading: how many definitions of it are there, and of how many lines."""
     found = collections.OrderedDict()
-    for it in specs.closure([(module_of(path), name) for name in names]):
+    for it in specs.closure([(module_of(path), name) for name in names], closed):
         file = os.path.relpath(specs.modules[it[0]].path, specs.root)
         definitions, lines = found.get(file, (0, 0))
         found[file] = definitions + 1, lines + specs.lines_of(it)
@@ -135,17 +137,18 @@ def by_file(specs, path, names):
 
 
 def main(words):
-    path, *names = [it for it in words if not it.startswith("--")] or [""]
+    path, *names = [it for it in words if not it.startswith("-")] or [""]
+    closed = [it[1:] for it in words if re.match(r"-\w", it)]
     if not names or not path.endswith(".antt"):
         sys.exit(__doc__)
     specs = Specs()
     if "--files" in words:
-        for file, (definitions, lines) in by_file(specs, path, names).items():
+        for file, (definitions, lines) in by_file(specs, path, names, closed).items():
             print(f"| `{file}` | {definitions} | {lines} |")
     if "--list" in words:
-        for it in specs.closure([(module_of(path), name) for name in names]):
+        for it in specs.closure([(module_of(path), name) for name in names], closed):
             print(specs.lines_of(it), it[1], os.path.relpath(specs.modules[it[0]].path, ROOT))
-    print("%d definitions of %d lines" % count(specs, path, names))
+    print("%d definitions of %d lines" % count(specs, path, names, closed))
 
 
 if __name__ == "__main__":

@@ -62,6 +62,9 @@ moves_answered (Some p) = moves_left_of p
 abbrev pub left_at : WorldCore → ℕ → ℕ
 left_at w i = moves_answered (slice_get w.endpoints i)
 
+-- **all answers (`AnswersAre`, `outcome_at`, `file_answered`, `page_answered`, `finished_at`, `starved_at`, `IsMoveAt`,
+-- `left_at`)**: what the calls of a world answer of the job in a place.
+--
 -- the event is the next move of the job, if there is one
 abbrev pub MovesNext : Core → ℕ → Option Endpoint → Option Event → Type 0
 MovesNext d i None event = event ≡ None
@@ -83,6 +86,9 @@ pub record AnswersAre (w : WorldCore) (i : ℕ) (a : JobAnswers) : Type 0 where
 -- ---- what they promise of it
 
 -- the history led to the world, and the job is the one of that place
+-- **for each history (`IsJobAt`, `ForEach`, `KeepsOutcome`, `KeepsScanFile`, `KeepsPage`, `KeepsPageCount`,
+-- `KeepsMemory`, `KeepsMove`, `KeepsMoves`)**: that an answer is kept for whatever history led to the world and has the
+-- job in that place.
 pub record IsJobAt (h : History) (w : WorldCore) (i : ℕ) (job : Job) : Type 0 where
   pub led : LedTo h w
   pub job_at : slice_get h.jobs i ≡ Some job
@@ -95,6 +101,9 @@ ForEach w i Promise = (h : History) (job : Job) → IsJobAt h w i job → Promis
 abbrev pub KeepsOutcome : WorldCore → ℕ → Option Outcome → Type 0
 KeepsOutcome w i given = ForEach w i (λ h job. (outcome : Outcome) × (given ≡ Some outcome) × OutcomeIsKept h w i job (starved_at w i) outcome)
 
+-- **ended in (`EndedIn`, `KeepsEnding`)**: a job ended in one of the events of a history: the world in front of it had
+-- it running, the world behind it had it ended so, by a cause among the events up to it.
+--
 -- It ended in one of the events: the world in front of it had it running, and the world behind it had it ended so, by a cause among the
 -- events up to it.
 pub record EndedIn (h : History) (w : WorldCore) (i : ℕ) (job : Job) (status : Status) (why : Why) : Type 0 where
@@ -126,6 +135,10 @@ KeepsMemory w i given = ForEach w i (λ h job. given ≡ false → (file_answere
 abbrev pub HadUnsaidReply : History → Job → Type 0
 HadUnsaidReply h job = HasUnsaidReply h.users (map info_of_state h.devices) job
 
+-- **good move (`IsGoodMove`, `HadUnsaidReply`)**: a job has a next move just where it runs, and it is the loss of the
+-- control connection only where the job is told as out of memory, or where a reply to something that it asks cannot be
+-- said on the wire.
+--
 -- `next_move`: it is the loss of the control connection only where the job is told as out of memory, or had such a reply
 pub record IsGoodMove (h : History) (w : WorldCore) (i : ℕ) (job : Job) (given : Option Event) : Type 0 where
   pub move : (outcome : Outcome) → outcome_at w i ≡ Some outcome → MoveIsKept outcome given
@@ -139,12 +152,18 @@ KeepsMoves w i given = ForEach w i (λ h job. (outcome : Outcome) → outcome_at
 
 -- ---- what a new world has
 
+-- **few moves (`FewMoves`)**: at most 2^34 moves are left of each job, and 2^36 of a batch.
+--
 -- at most 2^34 moves are left of a job, and 2^36 of a batch
 abbrev pub FewMoves : List Job → WorldCore → Type 0
 FewMoves jobs w = (i : ℕ) (job : Job) → slice_get jobs i ≡ Some job → left_at w i ≤ (if is_batch job.task then 2 ^ 36 else 2 ^ 34)
 
 -- ---- what events leave of a job
 
+-- **left of a job (`JobStays`, `OverStays`, `AreOthers`, `OthersStay`, `MovesFall`, `MoveLowers`)**: what events leave
+-- of a job: one that is over shows what it showed; one that none of them came to is as it was; no moves come back, and
+-- an event that can happen lowers those of its job.
+--
 -- a job shows what it showed
 pub record JobStays (w v : WorldCore) (i : ℕ) : Type 0 where
   pub outcome : outcome_at v i ≡ outcome_at w i
@@ -173,6 +192,11 @@ abbrev pub MoveLowers : List Event → WorldCore → WorldCore → Type 0
 MoveLowers events w v =
     (i : ℕ) (own : JobEvent) → events ≡ job_event_of i own ∷ [] → CanAt w i own → 0 < left_at w i → left_at v i < left_at w i
 
+-- **ends (`Reaches`, `CancelEnds`, `LossEnds`, `ImageLossEnds`)**: an event, wherever it stands among some: those in
+-- front of it lead to a world, and it and those behind it on from there; where a job runs in that world, a cancel ends
+-- it as cancelled, the loss of its control connection, once that came, and of its data connection, where that stands,
+-- as lost.
+--
 -- Of the event, wherever it stands among these: those in front of it lead to a world of which this holds, and it and the others from there
 -- to v.
 abbrev pub Reaches : List Event → WorldCore → WorldCore → Event → (List Event → WorldCore → Type 0) → Type 0
@@ -200,6 +224,11 @@ ImageLossEnds events w v =
 
 -- ---- what they leave of devices
 
+-- **holders and pages (`OneHolder`, `SessionsStay`, `ScansStay`, `PageStays`, `StartsOnFirst`)**: jobs whose sessions
+-- have a device of one name are one; what comes to others, and devices taken out, leave a session as it stands, and
+-- pages laid in what it has within a scan; within a scan the first page of a device that a session has stays; a start
+-- takes the first of those that it has.
+--
 -- two clients never hold one device
 abbrev pub OneHolder : WorldCore → Type 0
 OneHolder w = (i j : ℕ) (name : List ℕ) (a b : DeviceState) → Has w i name a → Has w j name b → i ≡ j
@@ -231,6 +260,9 @@ StartsOnFirst events w v =
 
 -- ---- moves until no job runs
 
+-- **ran out (`RunsOut`, `AreNextMoves`, `NoneRuns`, `KeepsRunning`)**: next moves came, each that of a job in the world
+-- to which those in front of it led, at most as many as all jobs had left; and then no job runs.
+--
 -- each of these events is the next move of a job, in the world that those in front of it led to
 abbrev pub AreNextMoves : List Event → WorldCore → WorldCore → Type 0
 AreNextMoves [] w v = v ≡ w

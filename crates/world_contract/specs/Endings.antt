@@ -90,6 +90,15 @@ AnswerIsExplained h w i job NoDocs = HadNoPage h w i job
 AnswerIsExplained h w i job IoError = HadFailed h w i job
 AnswerIsExplained h w i job status = ⊥
 
+-- **caused (`IsEndingExplained`, `AnswerIsExplained`, `WasHeld`, `WasUnlisted`, `WasDisallowed`, `HadNoPage`,
+-- `HadNoPicture`, `HadFailed`, `WasLost`, `WasStarved`, `NamesStatus`, `IsUnforced`, `JobIsPermitted`)**: the table of
+-- endings: a status and a why, with what explains it: an event of the job, which could happen to it, and what stood in
+-- the world in front of it. Another session had the device; it was not listed; the user's password is not allowed for
+-- the challenge that was sent; the device had no page, or settings mean no picture on its first; its source failed; a
+-- connection was lost; a piece came to a client without memory; `read-return-value` says a status in a turn of a frame.
+-- Without an event: the settings can be in force on no device of the name; and of a job that is done, that it was
+-- permitted.
+--
 -- THE TABLE: what explains that job i ended with a status and a why. No other two of them occur.
 abbrev pub IsEndingExplained : History → WorldCore → ℕ → Job → Bool → Status → Why → Type 0
 IsEndingExplained h w i job starved status whys.Cancelled = (status ≡ Cancelled) × Contains h.events (Cancel i)

@@ -40,6 +40,10 @@ pub record LedTo (h : History) (w : WorldCore) : Type 0 where
   pub loads : AreTrueLoads source_state h.events
   pub runs : Runs source_state h.events first w
 
+-- **moment (`Moment`, `history_up_to`)**: an event of a history that led to a world, with the world in front of it, to
+-- which the events before it led, and the one behind it, from which those after it led on; and the history of the first
+-- events alone.
+--
 -- the same, of these events alone
 abbrev pub history_up_to : History → List Event → History
 history_up_to h events = record h { events = events }

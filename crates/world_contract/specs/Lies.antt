@@ -28,6 +28,14 @@ use Rattle.world_contract.specs.Sessions.{CanAt, Happened, Has}
 
 -- ---- of an ending
 
+-- **lies (`BusyIsNoLie`, `InvalIsNoLie`, `DeniedIsNoLie`, `EmptyIsNoLie`, `FailedIsNoLie`, `LostIsNoLie`,
+-- `MemoryIsNoLie`, `CancelledIsNoLie`, `ListIsNoLie`, `IdleIsNoLie`, `GoneOnIsNoLie`, `GivenUpIsNoLie`,
+-- `SharedIsNoLie`, `SwappedIsNoLie`, `Always`, `NamesNothing`)**: the smallest lies, each with the part of the promise
+-- that refuses it: an ending of each kind without what explains it; a list of other devices; a run that does nothing, a
+-- cancel that ends nothing, a `run_all` that gives a job up; a device of two holders, and another page in mid-scan.
+-- `Always` says what was so in front of each delivery of a job's requests, and `NamesNothing` that its options name no
+-- status.
+--
 -- this is so in front of each delivery of the job's requests
 abbrev pub Always : History → WorldCore → ℕ → (WorldCore → Type 0) → Type 0
 Always h w i Is = (n : ℕ) (at : Moment h w (ToDaemon i n)) → Is at.before

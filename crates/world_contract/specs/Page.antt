@@ -17,10 +17,12 @@ use Rattle.world_contract.specs.Histories.{History}
 use Rattle.world_contract.specs.Sessions.{Asked, Has, HasFinished, IsAtStart}
 use Rattle.world_contract.specs.Settings.{AreSettingsPut}
 
--- **scan (`CameFor`, `IsSteady`, `AreInForce`, `Settled`, `IsScan`)**: a page that was in a device of a name as the world
--- was made, or came for one with an event, taken or not; that each of them is steady; the settings of a job in force on a
--- device, each given the nearest admitted value; the device that a job names, with the options that its settings put in
--- force there; a file that denotes exactly what these mean on such a page.
+-- **scan (`CameFor`, `IsSteady`, `AreInForce`, `Settled`, `StartedOn`, `IsScan`)**: a page that was in a device of a
+-- name as the world was made, or came for one with an event, taken or not; that each of them is steady; the settings of
+-- a job in force on a device, each given the nearest admitted value; the device that a job names, with the options that
+-- its settings put in force there; that a job asked for a start while so many of its pages were finished, on this page,
+-- which the device that its session had at rest had first; a file that denotes exactly what the settings mean on such a
+-- page, that of such a start.
 pub data CameFor (h : History) (name : List ℕ) (held : HeldPage) : Type 0 where
   AtFirst : (device : DeviceState) → Contains h.devices device → device.info.name ≡ name → Contains device.pages held → CameFor h name held
   WithEvent : (source : Source) → Contains h.events (Load name source) → held_from (source_state source) ≡ held → CameFor h name held

@@ -16,6 +16,9 @@ use Rattle.scan_world.specs.JobEvents.{Can, job_event_of}
 use Rattle.scan_world.specs.Worlds.{WorldCore}
 use Rattle.world_contract.specs.Histories.{History, Moment}
 
+-- **has (`SessionAt`, `Has`)**: the session of a job in a world, that its connection leads to; and that it has a device
+-- of a name: a word of it stands for a lease of that.
+--
 -- endpoint i is linked to the session
 pub record SessionAt (w : WorldCore) (i : ℕ) (s : Session DeviceState) : Type 0 where
   pub endpoint : Endpoint
@@ -68,6 +71,11 @@ HasSent w i = (p : Endpoint) → slice_get w.endpoints i ≡ Some p → p.client
 
 -- ---- what came to the job
 
+-- **came to a job (`Happened`, `CanAt`, `Asked`, `WaitsAt`, `IsAtList`, `IsAtOpen`, `IsAtStart`, `HasFinished`,
+-- `HasSent`)**: an event of a job that could happen to it, in the world in front of it; and of these the delivery of
+-- the last bytes of a request, while its client waited for the answer to that: of a list, of the device's opening, with
+-- its authorization, or of a start; so many pages of the job are finished; nothing that its client wrote is on its way.
+--
 -- an event of job i that could happen to it
 abbrev pub Happened : History → WorldCore → ℕ → JobEvent → Type 0
 Happened h w i x = (at : Moment h w (job_event_of i x)) × CanAt at.before i x

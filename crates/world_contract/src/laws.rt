@@ -45,6 +45,8 @@ pub(crate) fn what_stands_below()
 /// ALL IS KEPT: what the calls of a world answer of each job is right, whatever was handed to it, in whatever order and pieces.
 #[tactic(none)]
 pub fn all_is_right()
+    /// All of it at once, of what the calls answer of one job.
+    /// Carried by: `all_is_right`: `JobIsKept`
     ensures { AllIsRight }
 {
     what_stands_below();

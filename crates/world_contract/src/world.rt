@@ -63,12 +63,18 @@ impl World {
         seed: [u8; 32],
         jobs: Vec<Job>,
     ) -> Result<World, (WorldFault, Vec<Box<dyn Device>>)>
+        /// `World::new` takes and refuses what `scan_world` says, and gives refused devices back as they were; to a new
+        /// world led that nothing has happened.
+        /// Carried by: `led`, `accepted`, `fault`, `back` of `World::new`
         ensures led { let states = map ⟦<Box<dyn Device> as Device>⟧.state devices.items in
             let h = begun states users jobs.items in
             IfOk result (λ w. LedTo h (seen_world ⟦<Box<dyn Device> as Device>⟧.state w.inner)) }
+        // It is the new world of these devices, users and jobs.
         ensures begins { let states = map ⟦<Box<dyn Device> as Device>⟧.state devices.items in
             IfOk result (λ w. IsInitialWorld states users seed jobs.items
             (seen_world ⟦<Box<dyn Device> as Device>⟧.state w.inner)) }
+        /// A job of a new world has at most 2^34 moves left, and a batch at most 2^36.
+        /// Carried by: `budget` of `World::new`
         ensures budget { IfOk result (λ w. FewMoves jobs.items
             (seen_world ⟦<Box<dyn Device> as Device>⟧.state w.inner)) }
         ensures accepted { let states = map ⟦<Box<dyn Device> as Device>⟧.state devices.items in
@@ -92,29 +98,39 @@ impl World {
 }
 
 impl World {
-    /// Events in this order; one that cannot happen changes nothing. Whatever led to the world, they came behind it. A job that
-    /// is over keeps what it shows, one that no event came to is as it was, moves never come back, and a cancel or a loss ends a
-    /// job that runs. Two clients never hold one device, what comes to others leaves what a session has, and no page changes
-    /// within a scan.
+    /// Events in this order; one that cannot happen changes nothing.
     pub fn run(&mut self, events: Vec<Event>)
+        /// `run` adds its events to whatever led to the world, and does exactly these.
+        /// Carried by: `led`, `runs` of `World::run`
         ensures runs { let w = seen_world ⟦<Box<dyn Device> as Device>⟧.state self.old.inner in
             let v = seen_world ⟦<Box<dyn Device> as Device>⟧.state self.new.inner in
             Runs source_state events.items w v }
         ensures led { let w = seen_world ⟦<Box<dyn Device> as Device>⟧.state self.old.inner in
             let v = seen_world ⟦<Box<dyn Device> as Device>⟧.state self.new.inner in
             (h : History) → LedTo h w → LedTo (and_then h events.items) v }
+        /// A job that is over keeps its outcome, its file and its finished pages, whatever comes.
+        /// Carried by: `over` of `World::run`, `World::run_all` and `jobs_end_once`
         ensures over { let w = seen_world ⟦<Box<dyn Device> as Device>⟧.state self.old.inner in
             let v = seen_world ⟦<Box<dyn Device> as Device>⟧.state self.new.inner in
             OverStays w v }
+        /// A job that no event came to is as it was: its outcome, its files, whether memory ran out.
+        /// Carried by: `others` of `World::run` and `jobs_end_once`
         ensures others { let w = seen_world ⟦<Box<dyn Device> as Device>⟧.state self.old.inner in
             let v = seen_world ⟦<Box<dyn Device> as Device>⟧.state self.new.inner in
             OthersStay events.items w v }
+        /// No event brings moves back, and one event that can happen to a job lowers the moves of that job, where it
+        /// has any left.
+        /// Carried by: `moves`, `lowers` of `World::run` and `jobs_end_once`
         ensures moves { let w = seen_world ⟦<Box<dyn Device> as Device>⟧.state self.old.inner in
             let v = seen_world ⟦<Box<dyn Device> as Device>⟧.state self.new.inner in
             MovesFall w v }
         ensures lowers { let w = seen_world ⟦<Box<dyn Device> as Device>⟧.state self.old.inner in
             let v = seen_world ⟦<Box<dyn Device> as Device>⟧.state self.new.inner in
             MoveLowers events.items w v }
+        /// A job that runs ends by a cancel as cancelled, wherever that stands among the events; by the loss of its
+        /// control connection as lost, where the event that connects it came before; and so by the loss of its data
+        /// connection, where that stands.
+        /// Carried by: `cancel`, `loss`, `image_loss` of `World::run`; `cancel` of `jobs_end_once`
         ensures cancel { let w = seen_world ⟦<Box<dyn Device> as Device>⟧.state self.old.inner in
             let v = seen_world ⟦<Box<dyn Device> as Device>⟧.state self.new.inner in
             CancelEnds events.items w v }
@@ -125,16 +141,29 @@ impl World {
             let w = seen self.old.inner in
             let v = seen self.new.inner in
             (h : History) → LedTo h w → ImageLossEnds events.items w v }
+        /// Two clients never hold one device: jobs whose sessions have a device of one name are one job.
+        /// Carried by: `one_holder` of `World::run` and `World::run_all`
         ensures one_holder { let seen = seen_world ⟦<Box<dyn Device> as Device>⟧.state in
             let w = seen self.old.inner in
             let v = seen self.new.inner in
             (h : History) → LedTo h w → OneHolder v }
+        /// Events of other jobs, and devices that are taken out, leave a session as it stands, with all that it has.
+        /// These, and pages that are laid in, leave a device that it has within a scan as it is.
+        /// Carried by: `sessions`, `scans` of `World::run`
         ensures sessions { let w = seen_world ⟦<Box<dyn Device> as Device>⟧.state self.old.inner in
             let v = seen_world ⟦<Box<dyn Device> as Device>⟧.state self.new.inner in
             (h : History) → LedTo h w → SessionsStay events.items w v }
         ensures scans { let w = seen_world ⟦<Box<dyn Device> as Device>⟧.state self.old.inner in
             let v = seen_world ⟦<Box<dyn Device> as Device>⟧.state self.new.inner in
             (h : History) → LedTo h w → ScansStay events.items w v }
+        /// Within a scan the page stays: a device that a session has in front of an event and behind it, neither time
+        /// at rest, has the same first page both times; where the event delivers requests of the session's own job, so
+        /// far as that runs.
+        /// Carried by: `page_stays` of `World::run`
+        ///
+        /// A start takes the first page: where requests of a job that runs were delivered, a device that its session
+        /// had and has, and has within a scan now, has the first page that it had.
+        /// Carried by: `first_page` of `World::run`
         ensures page_stays { let seen = seen_world ⟦<Box<dyn Device> as Device>⟧.state in
             let w = seen self.old.inner in
             let v = seen self.new.inner in
@@ -149,8 +178,11 @@ impl World {
         self.inner.run(events)
     }
 
-    /// Next moves of all jobs by turns: at most as many as they all had left, and then no job runs.
+    /// Next moves of all jobs by turns.
     pub fn run_all(&mut self)
+        /// `run_all` adds next moves alone: each is that of a job in the world to which those before it led; they are
+        /// at most as many as `moves_left` counts of all jobs, and then no job runs.
+        /// Carried by: `kept` of `World::run_all`: `RunsOut`, `AreNextMoves`
         ensures kept { let w = seen_world ⟦<Box<dyn Device> as Device>⟧.state self.old.inner in
             let v = seen_world ⟦<Box<dyn Device> as Device>⟧.state self.new.inner in
             KeepsRunning w v }
@@ -166,14 +198,68 @@ impl World {
         self.inner.run_all()
     }
 
-    /// How far job i is; none where there is no such job. One that is done was answered as it should be, and one that ended
-    /// otherwise did so in one of the events and has its cause among those up to that one. Where it was answered IO_ERROR its
-    /// device's source failed in one of these, and counted that, unless `read-return-value` says so.
+    /// How far job i is; none where there is no such job.
     pub fn outcome(&self, i: usize) -> Option<&Outcome>
         ensures is { let w = seen_world ⟦<Box<dyn Device> as Device>⟧.state self.now.inner in
             option_map (λ o. o.now) result ≡ outcome_at w i }
+        /// A job that is done, but for a list, was answered each setting with the nearest admitted value, and with
+        /// INEXACT just where it differs.
+        /// Carried by: `kept` of `World::outcome`: `answered` of `JobIsDone`
+        ///
+        /// It was permitted: no line of the users names its backend, or its user and password are allowed for some
+        /// challenge.
+        /// Carried by: `kept` of `World::outcome`: `permitted`
+        ///
+        /// A list that is done tells the devices that were listed as the last bytes of its request were delivered: all,
+        /// once, in their order.
+        /// Carried by: `kept` of `World::outcome`: `listed`
+        ///
+        /// A job that ended otherwise names a status that is neither GOOD nor EOF, and the table of endings has its
+        /// status and its why, with what explains them.
+        /// Carried by: `kept` of `World::outcome`: `JobHasEnded`, `IsEndingExplained`
+        ///
+        /// What explains an ending is an event of the job, and but for a cancel one that could happen to it: those
+        /// before it led to the world in front of it, and it and those behind it to the world that is asked. Without an
+        /// event are told only settings no device can have, and memory that ran out.
+        /// Carried by: `Happened`, `Asked`, `Moment` of `IsEndingExplained`
+        ///
+        /// An answered status is the one that `read-return-value` says, as the job's settings put it in force, in a
+        /// turn of its frame, where the job scans; or else it is explained only as follows. As too short, which is
+        /// IO_ERROR, a job ended only where that says EOF.
+        /// Carried by: `NamesStatus` of `IsEndingExplained`
+        ///
+        /// Else DEVICE_BUSY was answered only where another job's session had the device as the job asked for it;
+        /// ACCESS_DENIED only where a line of the users names its backend, and its user and password are not allowed
+        /// for the challenge that its session had sent.
+        /// Carried by: `WasHeld`, `WasDisallowed` of `IsEndingExplained`
+        ///
+        /// Else INVAL was answered only where the device was not listed as the job asked for it; where settings can be
+        /// in force on no device of the name, as also where a setting ended the job; or where the device, as a start
+        /// was asked for, had the options of the settings, which mean no picture on its page.
+        /// Carried by: `WasUnlisted`, `IsUnforced`, `HadNoPicture` of `IsEndingExplained`
+        ///
+        /// Else NO_DOCS was answered only where the device that its session had had no page, as the job asked for a
+        /// start.
+        /// Carried by: `HadNoPage` of `IsEndingExplained`
+        ///
+        /// Else IO_ERROR was answered only where the source of the first page failed as the job asked for a start, or
+        /// in a turn of its frame: its session had the device, and behind the event that is stopped, and the failure
+        /// counted.
+        /// Carried by: `HadFailed` of `IsEndingExplained`
+        ///
+        /// A feeder lets go of that page with its count; so there the end of a page that was given whole looks alike,
+        /// where its source can fail.
+        /// Carried by: `HadFailed` of `IsEndingExplained`
+        ///
+        /// As lost a job ended only where a connection of it that stood was lost, or where it is told as out of memory;
+        /// as starved, which is NO_MEM, only where a piece came to its client; as cancelled only where it was
+        /// cancelled.
+        /// Carried by: `WasLost`, `WasStarved`, `Cancelled` of `IsEndingExplained`
         ensures kept { let w = seen_world ⟦<Box<dyn Device> as Device>⟧.state self.now.inner in
             KeepsOutcome w i (option_map (λ o. o.now) result) }
+        /// A job that ended did so in one of the events: the world in front of it had it running, the world behind it
+        /// had it ended so, and what explains it is among the events up to that one.
+        /// Carried by: `ended` of `World::outcome`: `EndedIn`
         ensures ended { let w = seen_world ⟦<Box<dyn Device> as Device>⟧.state self.now.inner in
             KeepsEnding w i (option_map (λ o. o.now) result) }
     {
@@ -181,11 +267,25 @@ impl World {
         self.inner.outcome(i)
     }
 
-    /// The file of job i under way, as far as it has come. Of a scan that is done it denotes exactly the picture that the
-    /// job's settings mean on a page of its device, where all that came for it are steady; of any other job it is not whole.
+    /// The file of job i under way, as far as it has come.
     pub fn file(&self, i: usize) -> Option<&[u8]>
         ensures is { let w = seen_world ⟦<Box<dyn Device> as Device>⟧.state self.now.inner in
             option_map (λ f. f.now) result ≡ file_answered w i }
+        /// The file of a scan that is done denotes exactly the picture that the job's settings mean on a page that came
+        /// for the device that it names, where all that did are steady; one that is not takes this from the jobs of
+        /// that device alone.
+        /// Carried by: `kept` of `World::file`: `scanned` of `FileIsKept`
+        ///
+        /// That page is the one which the device that its session had, at rest, had first as the job asked for a start,
+        /// while none of its pages was finished.
+        /// Carried by: `kept` of `World::file`: `StartedOn` of `IsScan`
+        ///
+        /// The file of a job that runs, that ended otherwise or that is no scan is not whole; that of a job which does
+        /// not scan is there, and empty.
+        /// Carried by: `kept` of `World::file`: `whole`, `empty` of `FileIsKept`
+        ///
+        /// A file is missing only where there was no memory for it, and then the job is told as out of memory.
+        /// Carried by: `missing` of `FileIsKept` and of `PageIsKept`; `kept` of `World::starved`
         ensures kept { let w = seen_world ⟦<Box<dyn Device> as Device>⟧.state self.now.inner in
             KeepsScanFile w i (option_map (λ f. f.now) result) }
     {
@@ -193,11 +293,15 @@ impl World {
         self.inner.file(i)
     }
 
-    /// The file of the k-th finished page of a batch, from 1: it denotes the picture that the job's settings mean on a page of
-    /// its device, where all that came for it are steady. None where k is 0 or above `finished`, or a growth of that file was refused.
+    /// The file of the k-th finished page of a batch, from 1: none where k is 0 or above `finished`, or a growth of that
+    /// file was refused.
     pub fn file_at(&self, i: usize, k: u32) -> Option<&[u8]>
         ensures is { let w = seen_world ⟦<Box<dyn Device> as Device>⟧.state self.now.inner in
             option_map (λ f. f.now) result ≡ page_answered w i k }
+        /// The file of each finished page of a batch denotes that picture too, where they are steady, whatever became
+        /// of the job: of page k on the page that the device had first as the job asked for a start while k - 1 pages
+        /// were finished.
+        /// Carried by: `kept` of `World::file_at`: `PageIsKept`, `StartedOn`
         ensures kept { let w = seen_world ⟦<Box<dyn Device> as Device>⟧.state self.now.inner in
             KeepsPage w i k (option_map (λ f. f.now) result) }
     {
@@ -205,11 +309,12 @@ impl World {
         self.inner.file_at(i, k)
     }
 
-    /// How many pages of a batch are finished; 0 where there is no such job. A batch that is done has all of them, or fewer
-    /// and at least one.
+    /// How many pages of a batch are finished; 0 where there is no such job.
     pub fn finished(&self, i: usize) -> u32
         ensures is { let w = seen_world ⟦<Box<dyn Device> as Device>⟧.state self.now.inner in
             result ≡ finished_at w i }
+        /// A batch that is done has finished as many pages as it wanted, or fewer and at least one.
+        /// Carried by: `kept` of `World::finished`: `CountIsKept`
         ensures kept { let w = seen_world ⟦<Box<dyn Device> as Device>⟧.state self.now.inner in
             KeepsPageCount w i result }
     {
@@ -228,11 +333,17 @@ impl World {
         self.inner.starved(i)
     }
 
-    /// The next move of job i: it has one just where it runs. It is the loss of the control connection only
-    /// where memory ran out, or where a reply to something that the job asks passes a limit of the wire.
+    /// The next move of job i.
     pub fn next_move(&self, i: usize) -> Option<Event>
         ensures is { let w = seen_world ⟦<Box<dyn Device> as Device>⟧.state self.now.inner in
             IsMoveAt w i result }
+        /// A job has a next move just where it runs.
+        /// Carried by: `kept` of `World::next_move`: `MoveIsKept`
+        ///
+        /// It is the loss of its control connection only where the job is told as out of memory, or where a reply to
+        /// something that it asks passes a limit of the wire or has no spelling. This second case holds of every job:
+        /// it fixes which devices there are, their options within limits, and no more of them.
+        /// Carried by: `kept` of `World::next_move`: `loss` of `IsGoodMove`
         ensures kept { let w = seen_world ⟦<Box<dyn Device> as Device>⟧.state self.now.inner in
             KeepsMove w i result }
     {
@@ -242,8 +353,12 @@ impl World {
 
     /// More moves than job i may still take: 0 just where it does not run, or there is no such job.
     pub fn moves_left(&self, i: usize) -> u64
+        /// What these calls answer is, exactly, what `scan_world` says.
+        /// Carried by: `is` of `World::outcome`, `file`, `file_at`, `finished`, `starved`, `next_move`, `moves_left`
         ensures is { let w = seen_world ⟦<Box<dyn Device> as Device>⟧.state self.now.inner in
             result ≡ left_at w i }
+        /// A job that runs has moves left, and any other has none.
+        /// Carried by: `kept` of `World::moves_left`: `MovesAreKept`
         ensures kept { let w = seen_world ⟦<Box<dyn Device> as Device>⟧.state self.now.inner in
             KeepsMoves w i result }
     {
