@@ -116,7 +116,7 @@ abbrev pub KeepsPage : WorldCore → ℕ → ℕ → Option (List ℕ) → Type 
 KeepsPage w i k given = ForEach w i (λ h job. PageIsKept h w i job (starved_at w i) (finished_at w i) k given)
 
 abbrev pub KeepsPageCount : WorldCore → ℕ → ℕ → Type 0
-KeepsPageCount w i given = ForEach w i (λ h job. (outcome : Outcome) → outcome_at w i ≡ Some outcome → CountIsKept job outcome given)
+KeepsPageCount w i given = ForEach w i (λ h job. (outcome : Outcome) → outcome_at w i ≡ Some outcome → CountIsKept h w i job outcome given)
 
 -- `starved`: where it says no, no file is missing
 abbrev pub KeepsMemory : WorldCore → ℕ → Bool → Type 0

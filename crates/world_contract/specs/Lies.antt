@@ -8,7 +8,7 @@ use Rattle.dispatch.specs.Table.{find_name, listed_infos}
 use Rattle.md5_auth.specs.ChallengeReading.{challenge_of}
 use Rattle.scan_job.specs.declared.job.Job.{Job}
 use Rattle.scan_job.specs.declared.job.Task.TheVariants as tasks
-use Rattle.scan_job.specs.declared.outcome.Outcome.TheVariants.{Running}
+use Rattle.scan_job.specs.declared.outcome.Outcome.TheVariants.{Done, Running}
 use Rattle.scan_job.specs.declared.outcome.Why.TheVariants as whys
 use Rattle.scan_job.specs.declared.report.Reports.{Reports}
 use Rattle.scan_world.specs.declared.event.Event.{Event}
@@ -23,7 +23,7 @@ use Rattle.world_contract.specs.Calls.{CancelEnds, MoveLowers, OneHolder, PageSt
 use Rattle.world_contract.specs.Endings.{IsEndingExplained, IsUnforced}
 use Rattle.world_contract.specs.Histories.{History, Moment}
 use Rattle.world_contract.specs.Page.{Settled}
-use Rattle.world_contract.specs.Promise.{JobIsDone}
+use Rattle.world_contract.specs.Promise.{CountIsKept, JobIsDone}
 use Rattle.world_contract.specs.Sessions.{CanAt, Happened, Has}
 
 -- ---- of an ending
@@ -90,7 +90,7 @@ CancelledIsNoLie =
     (h : History) (w : WorldCore) (i : ℕ) (job : Job) (starved : Bool) → (Contains h.events (Cancel i) → ⊥)
     → IsEndingExplained h w i job starved Cancelled whys.Cancelled → ⊥
 
--- ---- of a list
+-- ---- of a job that is done
 
 -- other devices than those that were listed, none of them, one of them twice, or in another order
 abbrev pub ListIsNoLie : Type 0
@@ -98,6 +98,19 @@ ListIsNoLie =
     (h : History) (w : WorldCore) (i : ℕ) (job : Job) (reports : Reports) (infos : List DeviceInfo) → job.task ≡ tasks.List
     → Always h w i (λ before. listed_infos before.daemon.registry ≡ infos) → reports.devices ≢ infos
     → JobIsDone h w i job reports → ⊥
+
+-- a show of no option, of a device that is there
+abbrev pub ShownIsNoLie : Type 0
+ShownIsNoLie =
+    (h : History) (w : WorldCore) (i : ℕ) (job : Job) (reports : Reports) (device : DeviceState) → job.task ≡ tasks.Show
+    → Contains h.devices device → device.info.name ≡ job.device → reports.options ≡ [] → JobIsDone h w i job reports → ⊥
+
+-- a batch of fewer pages than its count, though its device had one whenever it asked
+abbrev pub CountIsNoLie : Type 0
+CountIsNoLie =
+    (h : History) (w : WorldCore) (i : ℕ) (job : Job) (reports : Reports) (count finished : ℕ) → job.task ≡ tasks.Batch count
+    → finished ≢ count → Always h w i (λ before. (d : DeviceState) → Has before i job.device d → d.pages ≢ [])
+    → CountIsKept h w i job (Done reports) finished → ⊥
 
 -- ---- of a run
 

@@ -15,15 +15,17 @@ use Rattle.scan_job.specs.declared.report.Reports.{Reports}
 use Rattle.scan_world.specs.declared.event.Event.{Event}
 use Rattle.world_contract.specs.Histories.{History}
 use Rattle.world_contract.specs.Page.{IsScan, IsSteady}
-use Rattle.world_contract.specs.Reports.{AreSettingsAnswered}
+use Rattle.world_contract.specs.Reports.{AreOptionsShown, AreSettingsAnswered}
 use Rattle.scan_world.specs.Worlds.{WorldCore}
-use Rattle.world_contract.specs.Endings.{IsEndingExplained, JobIsPermitted}
+use Rattle.world_contract.specs.Endings.{HadNoPage, IsEndingExplained, JobIsPermitted}
 use Rattle.world_contract.specs.Sessions.{Asked, IsAtList}
 
 -- a job that is done
 pub record JobIsDone (h : History) (w : WorldCore) (i : ℕ) (job : Job) (reports : Reports) : Type 0 where
   -- but for a list, each setting was given the nearest admitted value, on the device that the job names
   pub answered : (device : DeviceState) → job.task ≢ tasks.List → Contains h.devices device → device.info.name ≡ job.device → AreSettingsAnswered device job reports.settings
+  -- a show tells of the options of that device
+  pub shown : (device : DeviceState) → job.task ≡ tasks.Show → Contains h.devices device → device.info.name ≡ job.device → AreOptionsShown device job reports.options
   -- and it was permitted
   pub permitted : job.task ≢ tasks.List → JobIsPermitted h job
   -- a list tells the devices that were listed as it asked for them: all, once, in their order
@@ -57,9 +59,11 @@ pub record PageIsKept (h : History) (w : WorldCore) (i : ℕ) (job : Job) (starv
   pub scanned : (bytes : List ℕ) → file ≡ Some bytes → (0 < k) × (k ≤ finished) × (IsSteady h job.device → IsScan h w i job (k - 1) bytes)
   pub missing : 0 < k → k ≤ finished → file ≡ None → starved ≡ true
 
--- `finished`: a batch that is done has all its pages, or fewer and at least one
-abbrev pub CountIsKept : Job → Outcome → ℕ → Type 0
-CountIsKept job outcome finished = (count : ℕ) (reports : Reports) → job.task ≡ tasks.Batch count → outcome ≡ Done reports → (finished ≡ count) ⊎ ((0 < finished) × (finished < count))
+-- `finished`: a batch that is done has all its pages, or fewer, one at least, and then its device had no more as it asked for a start
+abbrev pub CountIsKept : History → WorldCore → ℕ → Job → Outcome → ℕ → Type 0
+CountIsKept h w i job outcome finished =
+    (count : ℕ) (reports : Reports) → job.task ≡ tasks.Batch count → outcome ≡ Done reports
+    → (finished ≡ count) ⊎ ((0 < finished) × (finished < count) × HadNoPage h w i job)
 
 -- `next_move`: a job has one just where it runs
 pub record MoveIsKept (outcome : Outcome) (next : Option Event) : Type 0 where
@@ -86,6 +90,6 @@ pub record JobIsKept (h : History) (w : WorldCore) (i : ℕ) (job : Job) (a : Jo
   pub outcome : OutcomeIsKept h w i job a.starved a.outcome
   pub file : FileIsKept h w i job a.starved a.outcome a.file
   pub pages : (k : ℕ) → PageIsKept h w i job a.starved a.finished k (a.file_at k)
-  pub count : CountIsKept job a.outcome a.finished
+  pub count : CountIsKept h w i job a.outcome a.finished
   pub move : MoveIsKept a.outcome a.next_move
   pub moves : MovesAreKept a.outcome a.moves_left
