@@ -19,7 +19,8 @@ use Rattle.world_contract.specs.Histories.{History, LedTo}
 use Rattle.world_contract.specs.Settings.{AreSettingsPut}
 use Rattle.world_contract.specs.Endings.{IsEndingExplained}
 
--- the bytes are a file of exactly the picture that the job's settings mean on this page, put on a flatbed at its defaults
+-- the bytes are a file of exactly the picture that the job's settings mean on this page, put on a flatbed at its
+-- defaults
 pub record IsScanOf (page : PageView) (job : Job) (bytes : List ℕ) : Type 0 where
   pub setup : Setup
   pub placed : List Placement
@@ -30,7 +31,9 @@ pub record IsScanOf (page : PageView) (job : Job) (bytes : List ℕ) : Type 0 wh
 
 -- by these the first client opens the device, and then the second one, which asks for it, is answered
 abbrev pub until_busy : List Event
-until_busy = Connect 0 ∷ ToDaemon 0 4096 ∷ ToClient 0 4096 ∷ ToDaemon 0 4096 ∷ Connect 1 ∷ ToDaemon 1 4096 ∷ ToClient 1 4096 ∷ ToDaemon 1 4096 ∷ ToClient 1 4096 ∷ []
+until_busy =
+    Connect 0 ∷ ToDaemon 0 4096 ∷ ToClient 0 4096 ∷ ToDaemon 0 4096
+    ∷ Connect 1 ∷ ToDaemon 1 4096 ∷ ToClient 1 4096 ∷ ToDaemon 1 4096 ∷ ToClient 1 4096 ∷ []
 
 -- of some history of these two jobs it is explained that the second was told busy
 pub record HasExplanation (first second : Job) : Type 0 where

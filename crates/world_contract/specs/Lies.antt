@@ -48,14 +48,16 @@ abbrev pub InvalIsNoLie : Type 0
 InvalIsNoLie =
     (h : History) (w : WorldCore) (i : ℕ) (job : Job) (starved : Bool) → NamesNothing h job → (IsUnforced h job → ⊥)
     → Always h w i (λ before. find_name job.device before.daemon.registry ≢ None)
-    → Always h w i (λ before. (d : DeviceState) → Has before i job.device d → meaning_of (page_of d) d.setup.scene ≢ None)
+    → Always h w i (λ before. (d : DeviceState) → Has before i job.device d
+    → meaning_of (page_of d) d.setup.scene ≢ None)
     → IsEndingExplained h w i job starved Inval whys.Answer → ⊥
 
 -- denied, with the right password
 abbrev pub DeniedIsNoLie : Type 0
 DeniedIsNoLie =
     (h : History) (w : WorldCore) (i : ℕ) (job : Job) (starved : Bool) → NamesNothing h job
-    → ((sent : List ℕ) → is_allowed_for h.users job.user job.password (backend_of job.device) (challenge_of sent) ≡ true)
+    → ((sent : List ℕ)
+    → is_allowed_for h.users job.user job.password (backend_of job.device) (challenge_of sent) ≡ true)
     → IsEndingExplained h w i job starved AccessDenied whys.Answer → ⊥
 
 -- NO_DOCS, with a page in the tray
@@ -81,7 +83,8 @@ LostIsNoLie =
 -- out of memory at the client, to which nothing could come
 abbrev pub MemoryIsNoLie : Type 0
 MemoryIsNoLie =
-    (h : History) (w : WorldCore) (i : ℕ) (job : Job) (starved : Bool) → ((n : ℕ) → Happened h w i (moves.ToClient n) → ⊥)
+    (h : History) (w : WorldCore) (i : ℕ) (job : Job) (starved : Bool)
+    → ((n : ℕ) → Happened h w i (moves.ToClient n) → ⊥)
     → ((n : ℕ) → Happened h w i (moves.DataToClient n) → ⊥) → IsEndingExplained h w i job starved NoMem whys.Memory → ⊥
 
 -- cancelled, though nobody gave it up
@@ -95,7 +98,8 @@ CancelledIsNoLie =
 -- other devices than those that were listed, none of them, one of them twice, or in another order
 abbrev pub ListIsNoLie : Type 0
 ListIsNoLie =
-    (h : History) (w : WorldCore) (i : ℕ) (job : Job) (reports : Reports) (infos : List DeviceInfo) → job.task ≡ tasks.List
+    (h : History) (w : WorldCore) (i : ℕ) (job : Job) (reports : Reports) (infos : List DeviceInfo)
+    → job.task ≡ tasks.List
     → Always h w i (λ before. listed_infos before.daemon.registry ≡ infos) → reports.devices ≢ infos
     → JobIsDone h w i job reports → ⊥
 
@@ -108,7 +112,8 @@ ShownIsNoLie =
 -- a batch of fewer pages than its count, though its device had one whenever it asked
 abbrev pub CountIsNoLie : Type 0
 CountIsNoLie =
-    (h : History) (w : WorldCore) (i : ℕ) (job : Job) (reports : Reports) (count finished : ℕ) → job.task ≡ tasks.Batch count
+    (h : History) (w : WorldCore) (i : ℕ) (job : Job) (reports : Reports) (count finished : ℕ)
+    → job.task ≡ tasks.Batch count
     → finished ≢ count → Always h w i (λ before. (d : DeviceState) → Has before i job.device d → d.pages ≢ [])
     → CountIsKept h w i job (Done reports) finished → ⊥
 
@@ -117,7 +122,8 @@ CountIsNoLie =
 -- a run that does nothing, though its event could happen
 abbrev pub IdleIsNoLie : Type 0
 IdleIsNoLie =
-    (w : WorldCore) (i : ℕ) (own : JobEvent) → CanAt w i own → 0 < left_at w i → MoveLowers (job_event_of i own ∷ []) w w → ⊥
+    (w : WorldCore) (i : ℕ) (own : JobEvent) → CanAt w i own → 0 < left_at w i
+    → MoveLowers (job_event_of i own ∷ []) w w → ⊥
 
 -- a cancel that leaves its job running
 abbrev pub GoneOnIsNoLie : Type 0
@@ -134,11 +140,13 @@ GivenUpIsNoLie = (h : History) (w v : WorldCore) (i : ℕ) (out : RunsOut h w v)
 -- two jobs that both have a device
 abbrev pub SharedIsNoLie : Type 0
 SharedIsNoLie =
-    (w : WorldCore) (i j : ℕ) (name : List ℕ) (a b : DeviceState) → i ≢ j → Has w i name a → Has w j name b → OneHolder w → ⊥
+    (w : WorldCore) (i j : ℕ) (name : List ℕ) (a b : DeviceState) → i ≢ j → Has w i name a → Has w j name b
+    → OneHolder w → ⊥
 
 -- another page in mid-scan
 abbrev pub SwappedIsNoLie : Type 0
 SwappedIsNoLie =
-    (w v : WorldCore) (i : ℕ) (name : List ℕ) (a b : DeviceState) (e : Event) → outcome_at w i ≡ Some Running → Has w i name a
+    (w v : WorldCore) (i : ℕ) (name : List ℕ) (a b : DeviceState) (e : Event) → outcome_at w i ≡ Some Running
+    → Has w i name a
     → Has v i name b → is_at_rest a.phase ≡ false → is_at_rest b.phase ≡ false → page_of b ≢ page_of a
     → PageStays (e ∷ []) w v → ⊥

@@ -13,7 +13,8 @@ use Rattle.scan_job.specs.declared.job.Job.{Job}
 use Rattle.scan_job.specs.declared.report.Report.{Report}
 use Rattle.world_contract.specs.Page.{AreInForce}
 
--- a report has what the setting's text reads as and the value that its option was given, and INEXACT just where the two differ
+-- a report has what the setting's text reads as and the value that its option was given, and INEXACT just where the
+-- two differ
 pub record IsSettingReported (setting : List ℕ × List ℕ) (placed : Placement) (report : Report) : Type 0 where
   pub name : report.name ≡ setting.0
   pub asked : report.asked ≡ placed.asked
@@ -23,7 +24,8 @@ pub record IsSettingReported (setting : List ℕ × List ℕ) (placed : Placemen
 -- one report for each setting, in their order
 abbrev pub AreSettingsReported : List (List ℕ × List ℕ) → List Placement → List Report → Type 0
 AreSettingsReported [] [] [] = Unit {0}
-AreSettingsReported (setting ∷ settings) (placed ∷ more) (report ∷ reports) = IsSettingReported setting placed report × AreSettingsReported settings more reports
+AreSettingsReported (setting ∷ settings) (placed ∷ more) (report ∷ reports) = IsSettingReported setting placed report
+    × AreSettingsReported settings more reports
 AreSettingsReported settings placed reports = ⊥
 
 -- the settings are in force on the device, each was given the nearest admitted value, and is reported so
@@ -38,7 +40,8 @@ abbrev pub told_option : Setup → ℕ → Descriptor → Descriptor × Option V
 told_option setup n desc = (desc, if is_readable desc then Some (value_or_false (option_got setup n)) else None)
 
 -- a show tells each option of the device's table, and no other, as the settings put it in force
-pub record AreOptionsShown (device : DeviceState) (job : Job) (options : List (Descriptor × Option Value)) : Type 0 where
+pub record AreOptionsShown (device : DeviceState) (job : Job) (options : List (Descriptor × Option Value))
+    : Type 0 where
   pub setup : Setup
   pub placed : List Placement
   pub in_force : AreInForce device job placed setup

@@ -10,7 +10,8 @@ use Rattle.device_api.specs.InForce.{Placement}
 use Rattle.device_api.specs.Values.{with_value}
 use Rattle.sane_fixed.specs.Cap.{has_cap}
 
--- a setting was put in: the option of its name, active and with SOFT_SELECT, was given the admitted value nearest to what the text
+-- a setting was put in: the option of its name, active and with SOFT_SELECT, was given the admitted value nearest
+-- to what the text
 -- reads as
 pub record IsSettingPut (s : Setup) (setting : List ℕ × List ℕ) (p : Placement) : Type 0 where
   pub option : ScanOption
@@ -19,7 +20,8 @@ pub record IsSettingPut (s : Setup) (setting : List ℕ × List ℕ) (p : Placem
   pub may_be_set : (is_active s option && has_cap (option_caps option) 1) ≡ true
   -- by a descriptor of its kind, size in bytes and constraint, whatever else it says
   pub desc : Descriptor
-  pub form : (desc.kind ≡ option_kind option) × (desc.size ≡ option_size option) × (desc.constraint ≡ option_constraint s.scene.kind option)
+  pub form : (desc.kind ≡ option_kind option) × (desc.size ≡ option_size option)
+      × (desc.constraint ≡ option_constraint s.scene.kind option)
   pub reads : ReadsAsValue desc setting.1 p.asked
   pub nearest : Puts desc p.asked p.given
   pub after : p.setup ≡ with_value s option p.given
