@@ -167,7 +167,7 @@ kept_by right h v acts i job last led at over x =
       outcome = subst (OutcomeIsKept h v i job p.out_of_memory) x.outcome k.outcome;
       file = subst (λ (f : Option (List ℕ)). FileIsKept h v i job p.out_of_memory last.outcome f) x.files.file (subst (λ (o : Outcome). FileIsKept h v i job p.out_of_memory o p.file) x.outcome k.file);
       pages = λ n bytes at. page_kept h v i job p x.finished x.text n bytes x.files at (k.pages (n + 1));
-      count = subst (λ (f : ℕ). CountIsKept job last.outcome f) (few_finished p x.finished x.text x.files) (subst (λ (o : Outcome). CountIsKept job o (min p.finished 16)) x.outcome k.count);
+      count = subst (λ (f : ℕ). CountIsKept h v i job last.outcome f) (few_finished p x.finished x.text x.files) (subst (λ (o : Outcome). CountIsKept h v i job o (min p.finished 16)) x.outcome k.count);
     }
 
 led_by : (devices : List DeviceState) (jobs : List Job) (d : Core) (first v : WorldCore) (events : List Event) → AreFit devices jobs d → IsWorldOf d jobs first → LeadsBy source_state first events v → LedTo (history_of devices jobs d events) v

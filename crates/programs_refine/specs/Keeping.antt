@@ -45,7 +45,7 @@ pub record LoopIsKept (h : History) (v : WorldCore) (i : ℕ) (job : Job) (acts 
   pub outcome : OutcomeIsKept h v i job ends.endpoint.out_of_memory last.outcome
   pub file : FileIsKept h v i job ends.endpoint.out_of_memory last.outcome (Some ends.text)
   pub pages : (k : ℕ) (bytes : List ℕ) → slice_get ends.finished k ≡ Some bytes → PageIsKept h v i job ends.endpoint.out_of_memory (length ends.finished) (k + 1) (Some bytes)
-  pub count : CountIsKept job last.outcome (length ends.finished)
+  pub count : CountIsKept h v i job last.outcome (length ends.finished)
 
 -- of each job that is over, in a world that events of connections led to
 pub record AllLoopsAreKept (devices : List DeviceState) (jobs : List Job) (d : Core) (acts : Acts) (last : ℕ → ClientState) : Type 0 where

@@ -27,7 +27,7 @@ use Rattle.world_contract.specs.Laws.{Below}
 use Rattle.world_contract.proofs.Sources.{sources_of, have_sources}
 use Rattle.world_contract.proofs.Jobs.{IsJob}
 use Rattle.world_contract.proofs.Scanned.{at_first, infos_of, job_there, kept_by, make_there}
-use Rattle.world_contract.proofs.moments.Filed.{page_right, scan_right}
+use Rattle.world_contract.proofs.moments.Filed.{counted_there, page_right, scan_right}
 use Rattle.std.specs.Prelude.{Ok, Err}
 use Rattle.md5_auth.specs.declared.users.Entry.{Entry}
 use Rattle.sane_fixed.specs.declared.device_info.DeviceInfo.{DeviceInfo}
@@ -50,14 +50,16 @@ use Rattle.world_contract.proofs.moments.Unfiled.{empty_file}
 use Rattle.client_replies.specs.ProtocolStates.{scans}
 use Rattle.device_api.specs.State.{DeviceState}
 use Rattle.client_refines.specs.ClientRefinement.{requested_setting}
-use Rattle.system_model.specs.Devices.{Make}
+use Rattle.system_model.specs.Devices.{Make, descriptors_in_force, readable_value}
 use Rattle.system_model.specs.AbstractInForce as ruled
 use Rattle.system_model.specs.SystemStates.{make_for}
 use Rattle.world_refines.specs.NewWorlds.{make_of}
 use Rattle.world_refines.specs.GhostStates.{Ghost, job_state, place_named, abstract_job}
+use Rattle.world_refines.specs.MainTheorem.{PromisesAreKept}
 use Rattle.world_refines.specs.WorldPromises.{IsOutcome, KeepsPromise}
-use Rattle.world_contract.specs.Reports.{AreSettingsAnswered}
-use Rattle.world_contract.proofs.Along.{device_named}
+use Rattle.world_contract.specs.Reports.{AreOptionsShown, AreSettingsAnswered}
+use Rattle.world_contract.proofs.Along.{device_named, forced_there}
+use Rattle.world_contract.proofs.Nearest.{nearest_for}
 use Rattle.world_contract.proofs.Lists.{contains_at}
 use Rattle.world_refines.specs.NewWorlds.{info_of_state}
 use Rattle.world_contract.proofs.Reported.{answered}
@@ -111,9 +113,9 @@ positive : (n : ℕ) → (n ≡ 0 → ⊥) → 0 < n
 positive zero h = absurd (h refl)
 positive (suc n) h = omega arith
 
-counted : {X : Type 0} (n count : ℕ) → count ≤ 16 → (n ≡ count) ⊎ ((0 < n) × (n < count) × X) → (min n 16 ≡ count) ⊎ ((0 < min n 16) × (min n 16 < count))
+counted : {X : Type 0} (n count : ℕ) → count ≤ 16 → (n ≡ count) ⊎ ((0 < n) × (n < count) × X) → (min n 16 ≡ count) ⊎ ((0 < min n 16) × (min n 16 < count) × X)
 counted n count most (inl e) = inl (min-eq_left (subst (λ (x : ℕ). x ≤ 16) (sym e) most) ∙ e)
-counted n count most (inr e) = let same : min n 16 ≡ n = min-eq_left (omega (arith, e.1, most)) in inr (subst (λ (x : ℕ). 0 < x) (sym same) e.0, subst (λ (x : ℕ). x < count) (sym same) e.1)
+counted n count most (inr e) = let same : min n 16 ≡ n = min-eq_left (omega (arith, e.1, most)) in inr (subst (λ (x : ℕ). 0 < x) (sym same) e.0, subst (λ (x : ℕ). x < count) (sym same) e.1, e.2)
 
 most_pages : (task : Task) (count : ℕ) → task ≡ tasks.Batch count → HasCount task → count ≤ 16
 most_pages task count e fit = (subst HasCount e fit).1
@@ -143,21 +145,41 @@ permitted_by : (h : History) (job : Job) (ruled : RuledJob) (sent : Option (List
 permitted_by h job ruled sent e (inl free) = inl (ap (λ (x : RuledJob). x.guarded) (sym e) ∙ free)
 permitted_by h job ruled sent e (inr (c, was, allows)) = inr (c, ap (λ (x : RuledJob). x.allows c) (sym e) ∙ allows)
 
+-- the job of its session by the model
+ruled_there : Below → (h : History) (w : WorldCore) (i : ℕ) (job : Job) (endpoint : Endpoint) (j : IsJob h w i job endpoint) → (k : PromisesAreKept source_state h.events (at_first h w job j.led) j.led.first w) → (job_state k.run.ghost_then i).session.job ≡ abstract_job h.users (infos_of h) job
+ruled_there below h w i job endpoint j k =
+    let u = k.run.ghost_then in
+    let fixed = all_fixed source_state h.events (at_first h w job j.led) k.run.steps u k.run.comes in
+    let users : u.users ≡ h.users = ap (λ (f : Fixed). f.0) fixed ∙ j.led.users_are in
+    let infos : u.infos ≡ infos_of h = ap (λ (f : Fixed). f.1) fixed in
+    (k.run.stands.endpoints i endpoint j.endpoint_at).job_is
+    ∙ (ap (λ (x : List Entry). abstract_job x u.infos (u.jobs i)) users
+    ∙ (ap (λ (x : List DeviceInfo). abstract_job h.users x (u.jobs i)) infos
+    ∙ ap (λ (x : Job). abstract_job h.users (infos_of h) x) (job_there h w job j.led k i j.job_at)))
+
 allowed : Below → (h : History) (w : WorldCore) (i : ℕ) (job : Job) (endpoint : Endpoint) (reports : Reports) → IsJob h w i job endpoint → endpoint.client.outcome ≡ Done reports → job.task ≢ tasks.List → JobIsPermitted h job
 allowed below h w i job endpoint reports j done list =
     let k = kept_by below.kept h w job j.led in
     let u = k.run.ghost_then in
-    let mine = job_there h w job j.led k i j.job_at in
     let p = kept_by_outcome u i endpoint.client.outcome reports done (k.promises.outcomes i endpoint j.endpoint_at) in
-    let fixed = all_fixed source_state h.events (at_first h w job j.led) k.run.steps u k.run.comes in
-    let users : u.users ≡ h.users = ap (λ (f : Fixed). f.0) fixed ∙ j.led.users_are in
-    let infos : u.infos ≡ infos_of h = ap (λ (f : Fixed). f.1) fixed in
-    let is : (job_state u i).session.job ≡ abstract_job h.users (infos_of h) job =
-    (k.run.stands.endpoints i endpoint j.endpoint_at).job_is
-    ∙ (ap (λ (x : List Entry). abstract_job x u.infos (u.jobs i)) users
-    ∙ (ap (λ (x : List DeviceInfo). abstract_job h.users x (u.jobs i)) infos
-    ∙ ap (λ (x : Job). abstract_job h.users (infos_of h) x) mine)) in
-    permitted_by h job (job_state u i).session.job (job_state u i).session.sent is (p.permitted (λ e. list (sym (ap (λ (x : Job). x.task) mine) ∙ e)))
+    permitted_by h job (job_state u i).session.job (job_state u i).session.sent (ruled_there below h w i job endpoint j k) (p.permitted (λ e. list (sym (ap (λ (x : Job). x.task) (job_there h w job j.led k i j.job_at)) ∙ e)))
+
+shown_kept : Below → (h : History) (w : WorldCore) (i : ℕ) (job : Job) (endpoint : Endpoint) (reports : Reports) (device : DeviceState) → IsJob h w i job endpoint → endpoint.client.outcome ≡ Done reports → job.task ≡ tasks.Show → Contains h.devices device → device.info.name ≡ job.device → AreOptionsShown device job reports.options
+unfolding descriptors_in_force readable_value
+shown_kept below h w i job endpoint reports device j done show there named =
+    let k = kept_by below.kept h w job j.led in
+    let u = k.run.ghost_then in
+    let new = below.new (sources_of h) h.jobs job h.devices j.led.first j.led.endpoints j.led.daemon j.led.names j.led.limits (have_sources h) j.led.fit in
+    let p = kept_by_outcome u i endpoint.client.outcome reports done (k.promises.outcomes i endpoint j.endpoint_at) in
+    let s = p.options (ap (λ (x : Job). x.task) (job_there h w job j.led k i j.job_at) ∙ show) in
+    let b = sources_of h (place_named (infos_of h) job.device) in
+    let make : make_for u.system i ≡ make_of b (Some device) = make_there h w job j.led k i j.job_at ∙ ap (make_of b) (device_named h job.device device new.is_of.apart there named) in
+    let made : ruled.SettingsResult = record { options = s.in_force; reports = (job_state u i).client.reports } in
+    let forced : ruled.abstract_in_force (make_of b (Some device)) (map requested_setting job.settings.items) ≡ Some made =
+    subst (λ (m : Make). ruled.abstract_in_force m (map requested_setting job.settings.items) ≡ Some made) make
+    (ap (λ (x : RuledJob). ruled.abstract_in_force (make_for u.system i) x.settings) (sym (ruled_there below h w i job endpoint j k)) ∙ s.settled.forced) in
+    let put = nearest_for device.setup.scene.kind device.setup.order job.settings.items s.in_force (sym (forced_there below.same (make_of b (Some device)) job) ∙ ap (option_map (λ (x : ruled.SettingsResult). x.options)) forced) in
+    record { setup = s.in_force; placed = put.0; in_force = put.1; shown = s.filled }
 
 -- ---- the file of a job that is no scan
 
@@ -203,6 +225,7 @@ pub outcome_kept : Below → (h : History) (w : WorldCore) (i : ℕ) (job : Job)
 outcome_kept below h w i job p j = record {
   done = λ reports e. record {
     answered = λ device list there named. settings_kept below h w i job p reports device j e list there named;
+    shown = λ device show there named. shown_kept below h w i job p reports device j e show there named;
     permitted = λ list. allowed below h w i job p reports j e list;
     listed = λ list. list_kept below h w i job p reports j list e;
   };
@@ -242,12 +265,10 @@ page_kept below h w i k job p j = record {
   missing = λ some within f. (kept_by below.kept h w job j.led).promises.pages_lost i k p j.endpoint_at some (omega (arith, within, min-le_left p.finished 16)) (omega (arith, within, min-le_right p.finished 16)) f;
 }
 
-pub count_kept : Below → (h : History) (w : WorldCore) (i : ℕ) (job : Job) (p : Endpoint) → IsJob h w i job p → CountIsKept job p.client.outcome (min p.finished 16)
+pub count_kept : Below → (h : History) (w : WorldCore) (i : ℕ) (job : Job) (p : Endpoint) → IsJob h w i job p → CountIsKept h w i job p.client.outcome (min p.finished 16)
 count_kept below h w i job p j count reports batch done =
-    let k = kept_by below.kept h w job j.led in
-    let mine = job_there h w job j.led k i j.job_at in
     let fit : IsFitJob job = subst IsFitJob (get_or_from_slice_get h.jobs i job job j.job_at) (j.led.fit i job (slice_get_within h.jobs i job j.job_at)) in
-    counted p.finished count (most_pages job.task count batch fit.1) (k.promises.batches i count p reports j.endpoint_at (ap (λ (x : Job). x.task) mine ∙ batch) done)
+    counted p.finished count (most_pages job.task count batch fit.1) (counted_there below h w i job p j count reports batch done)
 
 pub move_kept : Below → (h : History) (w : WorldCore) (i : ℕ) (job : Job) (p : Endpoint) (event : Option Event) → IsJob h w i job p → IsNextMove w.daemon i p event → MoveIsKept p.client.outcome event
 move_kept below h w i job p event j is =

@@ -141,8 +141,8 @@ page_call below w i k given is h job at =
 pub count_call : Below → (w : WorldCore) (i : ℕ) (given : ℕ) → given ≡ finished_at w i → KeepsPageCount w i given
 count_call below w i given is h job at outcome there =
     let p = endpoint_there below h w i job at in
-    let own : CountIsKept job outcome (min p.0.finished 16) = subst (λ (o : Outcome). CountIsKept job o (min p.0.finished 16)) (outcome_there w.endpoints i p.0 outcome p.1.endpoint_at there) (count_kept below h w i job p.0 p.1) in
-    subst (CountIsKept job outcome) (sym (is ∙ ap finished_by p.1.endpoint_at)) own
+    let own : CountIsKept h w i job outcome (min p.0.finished 16) = subst (λ (o : Outcome). CountIsKept h w i job o (min p.0.finished 16)) (outcome_there w.endpoints i p.0 outcome p.1.endpoint_at there) (count_kept below h w i job p.0 p.1) in
+    subst (CountIsKept h w i job outcome) (sym (is ∙ ap finished_by p.1.endpoint_at)) own
 
 pub memory_call : Below → (w : WorldCore) (i : ℕ) (given : Bool) → given ≡ starved_at w i → KeepsMemory w i given
 memory_call below w i given is h job at enough =

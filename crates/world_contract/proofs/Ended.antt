@@ -55,7 +55,7 @@ use Rattle.world_contract.proofs.Pages.{IsOfOne, all_of_one, first_slot}
 use Rattle.world_contract.proofs.Scanned.{at_first, fresh_there, infos_of, untouched_at_first}
 use Rattle.world_contract.proofs.Sources.{have_sources, loads_fit, sources_of}
 use Rattle.world_contract.proofs.Traced.{each_of, traced}
-use Rattle.world_contract.proofs.moments.Judged.{EndedBy, Evid, Judged, JudgedAt, StepSo, all_judged}
+use Rattle.world_contract.proofs.moments.Judged.{EndedBy, Evid, Judged, JudgedAt, StepSo, all_judged, among_met}
 use Rattle.world_contract.proofs.moments.Moments.{AnsweredSo, Comes, HappenedSo, come}
 
 -- ---- the words of the rules, and those of the clients
@@ -244,21 +244,16 @@ at_end below h w i job endpoint status why j is =
     let sits = k.stands.endpoints i endpoint j.endpoint_at in
     let d = ended_reads (place_of_info u.infos) (target_of (u.jobs i)) (job_state u i).session.job (map (λ (q : JoinHistory). q.ended) (u.pages i)) endpoint.client.outcome endpoint.client.progress endpoint.client.notes (u.history i) (client_at_greeting (job_state u i).client.stage (job_state u i).client) status why sits.talks.reads.stands is in
     let stage = woken_ended (job_state u i).client.stage (job_state u i).client (abstract_status status) d.0 refl d.1.1 in
-    let judged = subst (Judged h w i job (job_state u i).session.met) stage (judged_there below h w i job j.led j.job_at) in
+    let judged = subst (Judged h w i job (job_state u i).session.met (job_state u i).client.pages) stage (judged_there below h w i job j.led j.job_at) in
     table h w i job endpoint.out_of_memory (job_state u i).session.met status why d.0 o d.1.0 sits.means.starved judged
 
 -- ---- a reply that could not be said
 
-unsaid_among : (h : History) (w : WorldCore) (i : ℕ) (job : Job) (met : List Cause) → AllByRecursion (Evid h w i job) met → IsCauseAmong WasUnsaid met → HadUnsaidReply h job
-unsaid_among h w i job [] a m = absurd m
-unsaid_among h w i job (c ∷ met) a (inl same) = subst (Evid h w i job) (sym same) a.0
-unsaid_among h w i job (c ∷ met) a (inr m) = unsaid_among h w i job met a.1 m
-
-unsaid_judged : (h : History) (w : WorldCore) (i : ℕ) (job : Job) (met : List Cause) (stage : JobStage) → IsUnderWay stage → Judged h w i job met stage → IsCauseAmong WasUnsaid met → HadUnsaidReply h job
-unsaid_judged h w i job met Idle on a m = unsaid_among h w i job met a m
-unsaid_judged h w i job met (Running g) on a m = unsaid_among h w i job met a m
-unsaid_judged h w i job met Done on a m = absurd on
-unsaid_judged h w i job met (Ended status why) on a m = absurd on
+unsaid_judged : (h : History) (w : WorldCore) (i : ℕ) (job : Job) (met : List Cause) (pages : List (List Frame)) (stage : JobStage) → IsUnderWay stage → Judged h w i job met pages stage → IsCauseAmong WasUnsaid met → HadUnsaidReply h job
+unsaid_judged h w i job met pages Idle on a m = among_met h w i job WasUnsaid met a m
+unsaid_judged h w i job met pages (Running g) on a m = among_met h w i job WasUnsaid met a m
+unsaid_judged h w i job met pages Done on a m = absurd on
+unsaid_judged h w i job met pages (Ended status why) on a m = absurd on
 
 pub loss_kept : (below : Below) (h : History) (w : WorldCore) (i : ℕ) (job : Job) (endpoint : Endpoint) → IsJob h w i job endpoint → IsNextMove w.daemon i endpoint (Some (LoseControl i)) → (endpoint.out_of_memory ≡ true) ⊎ HadUnsaidReply h job
 loss_kept below h w i job endpoint j next =
@@ -266,5 +261,5 @@ loss_kept below h w i job endpoint j next =
     let u = k.ghost_then in
     elim (below.losses u w i endpoint k.stands j.endpoint_at next) [
       | inl out ↦ inl out
-      | inr met ↦ inr (unsaid_judged h w i job (job_state u i).session.met (job_state u i).client.stage met.0 (judged_there below h w i job j.led j.job_at) met.1)
+      | inr met ↦ inr (unsaid_judged h w i job (job_state u i).session.met (job_state u i).client.pages (job_state u i).client.stage met.0 (judged_there below h w i job j.led j.job_at) met.1)
     ]

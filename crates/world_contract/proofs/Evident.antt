@@ -80,6 +80,10 @@ Opens p = (q : AbstractRequest) × (rest : List AbstractRequest) × (p.todo ≡ 
 abbrev pub StartsEmpty : JobState → AbstractDevice → Type 0
 StartsEmpty p dev = (rest : List AbstractRequest) × (p.todo ≡ Start ∷ rest) × (dev.tray ≡ []) × (is_some_begun p.session.started ≡ false)
 
+-- a START comes next, of a device at rest, and there is no page for it
+abbrev pub StartsDry : JobState → AbstractDevice → Type 0
+StartsDry p dev = (rest : List AbstractRequest) × (p.todo ≡ Start ∷ rest) × (dev.phase ≡ Resting) × (dev.tray ≡ [])
+
 abbrev pub Comes : ℕ → Make → JobState → AbstractDevice → Action → Cause → Type 0
 Comes i k p dev x GaveUp = x ≡ Actions.Stops
 Comes i k p dev x LinkLost = (x ≡ Actions.Loses false) ⊎ (x ≡ Actions.LosesImage false)
@@ -94,10 +98,10 @@ Comes i k p dev x HadNoPicture = IsAnswer x × StartsNothing k p dev × (dev.pha
 Comes i k p dev x WasHeld = IsAnswer x × Opens p × ((j : ℕ) × (dev.holder ≡ Some j) × (j ≢ i))
 Comes i k p dev x Disallowed = IsAnswer x × Opens p × ((c : Challenge) × (p.session.awaited ≡ Some c) × (p.session.job.allows c ≡ false))
 Comes i k p dev x TrayWasEmpty = IsAnswer x × StartsEmpty p dev
-Comes i k p dev x TrayRanOut = Unit {0}
+Comes i k p dev x TrayRanOut = IsAnswer x × StartsDry p dev
 Comes i k p dev x ClientOutOfMemory = x ≡ Actions.RunsOutOfMemory
 
-grounds : (i : ℕ) (k : Make) (ds : List ℕ) (p : JobState) (dev : AbstractDevice) (challenge : Challenge) (fault : Option FailureCounts) (q : AbstractRequest) (rest : List AbstractRequest) → MayFail k fault → p.todo ≡ q ∷ rest → (c : Cause) → MetAt q c → HasGround i k dev p.session.awaited (environment_of p.session ds challenge fault) c → Comes i k p dev (Actions.Answers challenge fault) c
+grounds : (i : ℕ) (k : Make) (ds : List ℕ) (p : JobState) (dev : AbstractDevice) (challenge : Challenge) (fault : Option FailureCounts) (q : AbstractRequest) (rest : List AbstractRequest) → MayFail k fault → p.todo ≡ q ∷ rest → (c : Cause) → MetAt dev q c → HasGround i k dev p.session.awaited (environment_of p.session ds challenge fault) c → Comes i k p dev (Actions.Answers challenge fault) c
 grounds i k ds p dev challenge fault q rest may todo GaveUp start g = absurd g
 grounds i k ds p dev challenge fault q rest may todo LinkLost start g = absurd g
 grounds i k ds p dev challenge fault q rest may todo LinkOutOfMemory start g = tt
@@ -111,10 +115,10 @@ grounds i k ds p dev challenge fault q rest may todo HadNoPicture start g = ((ch
 grounds i k ds p dev challenge fault q rest may todo WasHeld start g = ((challenge, fault, refl), (q, rest, todo, start), g)
 grounds i k ds p dev challenge fault q rest may todo Disallowed start g = ((challenge, fault, refl), (q, rest, todo, start), g)
 grounds i k ds p dev challenge fault q rest may todo TrayWasEmpty start g = ((challenge, fault, refl), (rest, todo ∙ ap (λ (x : AbstractRequest). x ∷ rest) start, g.0, g.1))
-grounds i k ds p dev challenge fault q rest may todo TrayRanOut start g = tt
+grounds i k ds p dev challenge fault q rest may todo TrayRanOut start g = ((challenge, fault, refl), (rest, todo ∙ ap (λ (x : AbstractRequest). x ∷ rest) start.0, start.1, g.0))
 grounds i k ds p dev challenge fault q rest may todo ClientOutOfMemory start g = absurd g
 
-all_grounds : (i : ℕ) (k : Make) (ds : List ℕ) (p : JobState) (dev : AbstractDevice) (challenge : Challenge) (fault : Option FailureCounts) (q : AbstractRequest) (rest : List AbstractRequest) → MayFail k fault → p.todo ≡ q ∷ rest → (cs : List Cause) → AllByRecursion (MetAt q) cs → HaveGrounds i k dev p.session.awaited (environment_of p.session ds challenge fault) cs → AllByRecursion (Comes i k p dev (Actions.Answers challenge fault)) cs
+all_grounds : (i : ℕ) (k : Make) (ds : List ℕ) (p : JobState) (dev : AbstractDevice) (challenge : Challenge) (fault : Option FailureCounts) (q : AbstractRequest) (rest : List AbstractRequest) → MayFail k fault → p.todo ≡ q ∷ rest → (cs : List Cause) → AllByRecursion (MetAt dev q) cs → HaveGrounds i k dev p.session.awaited (environment_of p.session ds challenge fault) cs → AllByRecursion (Comes i k p dev (Actions.Answers challenge fault)) cs
 all_grounds i k ds p dev challenge fault q rest may todo [] start g = tt
 all_grounds i k ds p dev challenge fault q rest may todo (c ∷ cs) start g = (grounds i k ds p dev challenge fault q rest may todo c start.0 g.0, all_grounds i k ds p dev challenge fault q rest may todo cs start.1 g.1)
 

@@ -1,9 +1,15 @@
 -- Why the promise refuses what it refuses.
-use Rattle.std.specs.Prelude.{◌≢◌, ◌<◌, option_map, slice_get, Contains}
+use Rattle.std.specs.Prelude.{◌≢◌, ◌<◌, map, option_map, slice_get, Contains}
 use Rattle.std.proofs.Common.{◌≡◌, ◌∙◌, ◌⊎◌, ℕ, List, [], ◌∷◌, Bool, true, false, Option, Some, None, inl, inr, refl, sym, ap, subst, arith}
 use Rattle.page_picture.specs.SourceView.{source_state}
 use Rattle.sane_fixed.specs.declared.status.Status.{Status}
 use Rattle.sane_fixed.specs.declared.status.Status.TheVariants as statuses
+use Rattle.option_desc.specs.declared.descriptor.Descriptor.{Descriptor}
+use Rattle.option_desc.specs.declared.value.Value.{Value}
+use Rattle.page_picture.specs.declared.scene.DeviceKind.{DeviceKind}
+use Rattle.page_picture.specs.declared.scene.DeviceKind.TheVariants.{Flatbed, Hand, ThreePass, Feeder}
+use Rattle.scan_frames.specs.declared.setup.Setup.{Setup}
+use Rattle.device_api.specs.Options.{descriptor_of, options_of}
 use Rattle.saned_core.specs.DaemonStates.{Core}
 use Rattle.scan_job.specs.declared.job.Job.{Job}
 use Rattle.scan_job.specs.declared.outcome.Outcome.{Outcome}
@@ -20,9 +26,10 @@ use Rattle.scan_world.specs.JobMoves.{IsFirstMove, IsNext, in_order}
 use Rattle.scan_world.specs.Worlds.{WorldCore}
 use Rattle.client_replies.specs.ProtocolStates.{is_running}
 use Rattle.world_contract.specs.Calls.{AreNextMoves, CancelEnds, MovesNext, outcome_at}
-use Rattle.world_contract.specs.Endings.{AnswerIsExplained, NamesStatus}
+use Rattle.world_contract.specs.Endings.{AnswerIsExplained, HadNoPage, NamesStatus}
 use Rattle.world_contract.specs.Histories.{History}
-use Rattle.world_contract.specs.Lies.{Always, BusyIsNoLie, CancelledIsNoLie, DeniedIsNoLie, EmptyIsNoLie, FailedIsNoLie, GivenUpIsNoLie, GoneOnIsNoLie, IdleIsNoLie, InvalIsNoLie, ListIsNoLie, LostIsNoLie, MemoryIsNoLie, NamesNothing, SharedIsNoLie, SwappedIsNoLie}
+use Rattle.world_contract.specs.Reports.{told_option}
+use Rattle.world_contract.specs.Lies.{Always, BusyIsNoLie, CancelledIsNoLie, CountIsNoLie, DeniedIsNoLie, EmptyIsNoLie, FailedIsNoLie, GivenUpIsNoLie, GoneOnIsNoLie, IdleIsNoLie, InvalIsNoLie, ListIsNoLie, LostIsNoLie, MemoryIsNoLie, NamesNothing, SharedIsNoLie, ShownIsNoLie, SwappedIsNoLie}
 
 -- ---- endings
 
@@ -70,12 +77,33 @@ memory h w i job starved replies pieces (same, (n, inr happened)) = pieces n hap
 pub cancelled : CancelledIsNoLie
 cancelled h w i job starved none (same, among) = none among
 
--- ---- a list
+-- ---- a job that is done
 
 pub listed : ListIsNoLie
 listed h w i job reports infos list always other done =
     let r = done.listed list in
     other (r.1 ∙ always r.0.n r.0.at)
+
+none_is : {A : Type 0} (x : A) → ◌≡◌ {A = Option A} None (Some x) → ⊥
+none_is {A = A} x e = let clash : ◌≡◌ {A = Option A} None (Some x) = e in cc
+
+first_option : (setup : Setup) (k : DeviceKind) → None ≡ option_map (told_option setup 0) (slice_get (map (descriptor_of setup) (options_of k)) 0) → ⊥
+first_option setup Flatbed e = none_is _ e
+first_option setup Feeder e = none_is _ e
+first_option setup Hand e = none_is _ e
+first_option setup ThreePass e = none_is _ e
+
+pub shown : ShownIsNoLie
+shown h w i job reports device show there named empty done =
+    let s = done.shown device show there named in
+    first_option s.setup s.setup.scene.kind (sym (ap (λ (o : List (Descriptor × Option Value)). slice_get o 0) empty) ∙ s.shown 0)
+
+pub counted : CountIsNoLie
+counted h w i job reports count finished batch other some kept = by_case (kept count reports batch refl)
+  where
+    by_case : (finished ≡ count) ⊎ ((0 < finished) × (finished < count) × HadNoPage h w i job) → ⊥
+    by_case (inl all) = other all
+    by_case (inr (more, fewer, (asked, d, has, none))) = some asked.n asked.at d has none
 
 -- ---- a run
 

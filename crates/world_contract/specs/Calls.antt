@@ -99,12 +99,15 @@ ForEach w i Promise = (h : History) (job : Job) → IsJobAt h w i job → Promis
 
 -- `outcome`: there is one
 abbrev pub KeepsOutcome : WorldCore → ℕ → Option Outcome → Type 0
-KeepsOutcome w i given = ForEach w i (λ h job. (outcome : Outcome) × (given ≡ Some outcome) × OutcomeIsKept h w i job (starved_at w i) outcome)
+KeepsOutcome w i given =
+    ForEach w i (λ h job.
+    (outcome : Outcome) × (given ≡ Some outcome) × OutcomeIsKept h w i job (starved_at w i) outcome)
 
 -- **ended in (`EndedIn`, `KeepsEnding`)**: a job ended in one of the events of a history: the world in front of it had
 -- it running, the world behind it had it ended so, by a cause among the events up to it.
 --
--- It ended in one of the events: the world in front of it had it running, and the world behind it had it ended so, by a cause among the
+-- It ended in one of the events: the world in front of it had it running, and the world behind it had it ended so,
+-- by a cause among the
 -- events up to it.
 pub record EndedIn (h : History) (w : WorldCore) (i : ℕ) (job : Job) (status : Status) (why : Why) : Type 0 where
   pub event : Event
@@ -112,24 +115,34 @@ pub record EndedIn (h : History) (w : WorldCore) (i : ℕ) (job : Job) (status :
   pub ran : outcome_at at.before i ≡ Some Running
   pub ended : outcome_at at.behind i ≡ Some (Ended status why)
   pub led_behind : LedTo (history_up_to h (at.front ++ event ∷ [])) at.behind
-  pub caused : IsEndingExplained (history_up_to h (at.front ++ event ∷ [])) at.behind i job (starved_at at.behind i) status why
+  pub caused : IsEndingExplained (history_up_to h (at.front ++ event ∷ []))
+      at.behind i job (starved_at at.behind i) status why
 
 -- so did each that ended
 abbrev pub KeepsEnding : WorldCore → ℕ → Option Outcome → Type 0
-KeepsEnding w i given = ForEach w i (λ h job. (status : Status) (why : Why) → given ≡ Some (Ended status why) → EndedIn h w i job status why)
+KeepsEnding w i given =
+    ForEach w i (λ h job.
+    (status : Status) (why : Why) → given ≡ Some (Ended status why) → EndedIn h w i job status why)
 
 abbrev pub KeepsScanFile : WorldCore → ℕ → Option (List ℕ) → Type 0
-KeepsScanFile w i given = ForEach w i (λ h job. (outcome : Outcome) → outcome_at w i ≡ Some outcome → FileIsKept h w i job (starved_at w i) outcome given)
+KeepsScanFile w i given =
+    ForEach w i (λ h job.
+    (outcome : Outcome) → outcome_at w i ≡ Some outcome → FileIsKept h w i job (starved_at w i) outcome given)
 
 abbrev pub KeepsPage : WorldCore → ℕ → ℕ → Option (List ℕ) → Type 0
 KeepsPage w i k given = ForEach w i (λ h job. PageIsKept h w i job (starved_at w i) (finished_at w i) k given)
 
 abbrev pub KeepsPageCount : WorldCore → ℕ → ℕ → Type 0
-KeepsPageCount w i given = ForEach w i (λ h job. (outcome : Outcome) → outcome_at w i ≡ Some outcome → CountIsKept job outcome given)
+KeepsPageCount w i given =
+    ForEach w i (λ h job.
+    (outcome : Outcome) → outcome_at w i ≡ Some outcome → CountIsKept h w i job outcome given)
 
 -- `starved`: where it says no, no file is missing
 abbrev pub KeepsMemory : WorldCore → ℕ → Bool → Type 0
-KeepsMemory w i given = ForEach w i (λ h job. given ≡ false → (file_answered w i ≢ None) × ((k : ℕ) → 0 < k → k ≤ finished_at w i → page_answered w i k ≢ None))
+KeepsMemory w i given =
+    ForEach w i (λ h job.
+    given ≡ false → (file_answered w i ≢ None)
+    × ((k : ℕ) → 0 < k → k ≤ finished_at w i → page_answered w i k ≢ None))
 
 -- something that the job asks has a reply that passes a limit of the wire, or that has no spelling
 abbrev pub HadUnsaidReply : History → Job → Type 0
@@ -139,7 +152,8 @@ HadUnsaidReply h job = HasUnsaidReply h.users (map info_of_state h.devices) job
 -- control connection only where the job is told as out of memory, or where a reply to something that it asks cannot be
 -- said on the wire.
 --
--- `next_move`: it is the loss of the control connection only where the job is told as out of memory, or had such a reply
+-- `next_move`: it is the loss of the control connection only where the job is told as out of memory, or had such a
+-- reply
 pub record IsGoodMove (h : History) (w : WorldCore) (i : ℕ) (job : Job) (given : Option Event) : Type 0 where
   pub move : (outcome : Outcome) → outcome_at w i ≡ Some outcome → MoveIsKept outcome given
   pub loss : given ≡ Some (LoseControl i) → (starved_at w i ≡ true) ⊎ HadUnsaidReply h job
@@ -148,7 +162,9 @@ abbrev pub KeepsMove : WorldCore → ℕ → Option Event → Type 0
 KeepsMove w i given = ForEach w i (λ h job. IsGoodMove h w i job given)
 
 abbrev pub KeepsMoves : WorldCore → ℕ → ℕ → Type 0
-KeepsMoves w i given = ForEach w i (λ h job. (outcome : Outcome) → outcome_at w i ≡ Some outcome → MovesAreKept outcome given)
+KeepsMoves w i given =
+    ForEach w i (λ h job.
+    (outcome : Outcome) → outcome_at w i ≡ Some outcome → MovesAreKept outcome given)
 
 -- ---- what a new world has
 
@@ -156,7 +172,8 @@ KeepsMoves w i given = ForEach w i (λ h job. (outcome : Outcome) → outcome_at
 --
 -- at most 2^34 moves are left of a job, and 2^36 of a batch
 abbrev pub FewMoves : List Job → WorldCore → Type 0
-FewMoves jobs w = (i : ℕ) (job : Job) → slice_get jobs i ≡ Some job → left_at w i ≤ (if is_batch job.task then 2 ^ 36 else 2 ^ 34)
+FewMoves jobs w =
+    (i : ℕ) (job : Job) → slice_get jobs i ≡ Some job → left_at w i ≤ (if is_batch job.task then 2 ^ 36 else 2 ^ 34)
 
 -- ---- what events leave of a job
 
@@ -190,14 +207,16 @@ MovesFall w v = (i : ℕ) → left_at v i ≤ left_at w i
 -- an event of a job that can happen to it lowers its moves
 abbrev pub MoveLowers : List Event → WorldCore → WorldCore → Type 0
 MoveLowers events w v =
-    (i : ℕ) (own : JobEvent) → events ≡ job_event_of i own ∷ [] → CanAt w i own → 0 < left_at w i → left_at v i < left_at w i
+    (i : ℕ) (own : JobEvent) → events ≡ job_event_of i own ∷ [] → CanAt w i own → 0 < left_at w i
+    → left_at v i < left_at w i
 
 -- **ends (`Reaches`, `CancelEnds`, `LossEnds`, `ImageLossEnds`)**: an event, wherever it stands among some: those in
 -- front of it lead to a world, and it and those behind it on from there; where a job runs in that world, a cancel ends
 -- it as cancelled, the loss of its control connection, once that came, and of its data connection, where that stands,
 -- as lost.
 --
--- Of the event, wherever it stands among these: those in front of it lead to a world of which this holds, and it and the others from there
+-- Of the event, wherever it stands among these: those in front of it lead to a world of which this holds, and it
+-- and the others from there
 -- to v.
 abbrev pub Reaches : List Event → WorldCore → WorldCore → Event → (List Event → WorldCore → Type 0) → Type 0
 Reaches events w v e Holds =
@@ -242,9 +261,11 @@ SessionsStay events w v =
 -- they and pages that are laid in leave a device that it has within a scan
 abbrev pub ScansStay : List Event → WorldCore → WorldCore → Type 0
 ScansStay events w v =
-    (i : ℕ) (name : List ℕ) (d : DeviceState) → AreOthers events i → is_at_rest d.phase ≡ false → Has w i name d → Has v i name d
+    (i : ℕ) (name : List ℕ) (d : DeviceState) → AreOthers events i → is_at_rest d.phase ≡ false → Has w i name d
+    → Has v i name d
 
--- Within a scan the page stays: a device that a session has in front of an event and behind it, neither time at rest, has the same first
+-- Within a scan the page stays: a device that a session has in front of an event and behind it, neither time at
+-- rest, has the same first
 -- page; so far as the event is a request of the job, while the job runs.
 abbrev pub PageStays : List Event → WorldCore → WorldCore → Type 0
 PageStays events w v =
@@ -266,11 +287,14 @@ StartsOnFirst events w v =
 -- each of these events is the next move of a job, in the world that those in front of it led to
 abbrev pub AreNextMoves : List Event → WorldCore → WorldCore → Type 0
 AreNextMoves [] w v = v ≡ w
-AreNextMoves (e ∷ es) w v = (i : ℕ) × IsMoveAt w i (Some e) × ((u : WorldCore) × Leads source_state e w u × AreNextMoves es u v)
+AreNextMoves (e ∷ es) w v = (i : ℕ) × IsMoveAt w i (Some e)
+    × ((u : WorldCore) × Leads source_state e w u × AreNextMoves es u v)
 
 -- none of these jobs runs
 abbrev pub NoneRuns : List Job → WorldCore → Type 0
-NoneRuns jobs w = (i : ℕ) (job : Job) (outcome : Outcome) → slice_get jobs i ≡ Some job → outcome_at w i ≡ Some outcome → outcome ≢ Running
+NoneRuns jobs w =
+    (i : ℕ) (job : Job) (outcome : Outcome) → slice_get jobs i ≡ Some job → outcome_at w i ≡ Some outcome
+    → outcome ≢ Running
 
 -- `run_all`: next moves came, at most as many as all jobs had left, which led to the new world; and then no job runs
 pub record RunsOut (h : History) (old new : WorldCore) : Type 0 where

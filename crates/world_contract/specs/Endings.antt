@@ -50,9 +50,11 @@ WasUnlisted h w i job = (asked : Asked h w i IsAtOpen) × (find_name job.device 
 
 -- another job's session had it
 abbrev pub WasHeld : History → WorldCore → ℕ → Job → Type 0
-WasHeld h w i job = (asked : Asked h w i IsAtOpen) × (j : ℕ) × (d : DeviceState) × (j ≢ i) × Has asked.at.before j job.device d
+WasHeld h w i job =
+    (asked : Asked h w i IsAtOpen) × (j : ℕ) × (d : DeviceState) × (j ≢ i) × Has asked.at.before j job.device d
 
--- a line of the users names its backend, and its user and password are not allowed for the challenge that its session had sent
+-- a line of the users names its backend, and its user and password are not allowed for the challenge that its
+-- session had sent
 pub record WasDisallowed (h : History) (w : WorldCore) (i : ℕ) (job : Job) : Type 0 where
   pub asked : Asked h w i IsAtOpen
   pub session : Session DeviceState
@@ -64,7 +66,8 @@ pub record WasDisallowed (h : History) (w : WorldCore) (i : ℕ) (job : Job) : T
 
 -- as it asked for a start, the device that its session had had no page
 abbrev pub HadNoPage : History → WorldCore → ℕ → Job → Type 0
-HadNoPage h w i job = (asked : Asked h w i IsAtStart) × (d : DeviceState) × Has asked.at.before i job.device d × (d.pages ≡ [])
+HadNoPage h w i job =
+    (asked : Asked h w i IsAtStart) × (d : DeviceState) × Has asked.at.before i job.device d × (d.pages ≡ [])
 
 -- that had the options which its settings put in force, and they mean no picture on its first page
 pub record HadNoPicture (h : History) (w : WorldCore) (i : ℕ) (job : Job) : Type 0 where
@@ -116,4 +119,5 @@ IsEndingExplained h w i job starved status why = ⊥
 abbrev pub JobIsPermitted : History → Job → Type 0
 JobIsPermitted h job =
     (is_guarded h.users (backend_of job.device) ≡ false)
-    ⊎ ((sent : List ℕ) × (is_allowed_for h.users job.user job.password (backend_of job.device) (challenge_of sent) ≡ true))
+    ⊎ ((sent : List ℕ)
+    × (is_allowed_for h.users job.user job.password (backend_of job.device) (challenge_of sent) ≡ true))

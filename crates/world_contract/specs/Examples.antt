@@ -32,7 +32,9 @@ pub record IsScanOf (page : PageView) (job : Job) (bytes : List ℕ) : Type 0 wh
 
 -- by these the first client opens the device, and then the second one, which asks for it, is answered
 abbrev pub until_busy : List Event
-until_busy = Connect 0 ∷ ToDaemon 0 4096 ∷ ToClient 0 4096 ∷ ToDaemon 0 4096 ∷ Connect 1 ∷ ToDaemon 1 4096 ∷ ToClient 1 4096 ∷ ToDaemon 1 4096 ∷ ToClient 1 4096 ∷ []
+until_busy =
+    Connect 0 ∷ ToDaemon 0 4096 ∷ ToClient 0 4096 ∷ ToDaemon 0 4096
+    ∷ Connect 1 ∷ ToDaemon 1 4096 ∷ ToClient 1 4096 ∷ ToDaemon 1 4096 ∷ ToClient 1 4096 ∷ []
 
 -- of some history of these two jobs it is explained that the second was told busy
 pub record HasExplanation (first second : Job) : Type 0 where

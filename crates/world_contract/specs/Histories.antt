@@ -28,7 +28,8 @@ begun devices users jobs = record { devices = devices; users = users; jobs = job
 abbrev pub and_then : History → List Event → History
 and_then h events = record h { events = h.events ++ events }
 
--- a new world of these devices, users and jobs, and then these events, led to this one; each device and page was within its limits
+-- a new world of these devices, users and jobs, and then these events, led to this one; each device and page was
+-- within its limits
 pub record LedTo (h : History) (w : WorldCore) : Type 0 where
   pub first : WorldCore
   pub endpoints : AreNew h.jobs first.endpoints
@@ -48,7 +49,8 @@ pub record LedTo (h : History) (w : WorldCore) : Type 0 where
 abbrev pub history_up_to : History → List Event → History
 history_up_to h events = record h { events = events }
 
--- An event of a history that led to the world w: what came in front of it led to the world before it, it led from there to the one behind
+-- An event of a history that led to the world w: what came in front of it led to the world before it, it led from
+-- there to the one behind
 -- it, and what came later from there to w.
 pub record Moment (h : History) (w : WorldCore) (e : Event) : Type 0 where
   pub front : List Event

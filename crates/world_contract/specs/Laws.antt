@@ -29,7 +29,9 @@ pub record Below : Type 0 where
 
 -- what the calls of a world answer of a job is kept
 abbrev pub AllIsRight : Type 0
-AllIsRight = (h : History) (w : WorldCore) (i : ℕ) (job : Job) (a : JobAnswers) → IsJobAt h w i job → AnswersAre w i a → JobIsKept h w i job a
+AllIsRight =
+    (h : History) (w : WorldCore) (i : ℕ) (job : Job) (a : JobAnswers) → IsJobAt h w i job → AnswersAre w i a
+    → JobIsKept h w i job a
 
 -- they follow from those below
 abbrev pub AllFollow : Type 0

@@ -8,7 +8,7 @@ use Rattle.dispatch.specs.Table.{find_name, listed_infos}
 use Rattle.md5_auth.specs.ChallengeReading.{challenge_of}
 use Rattle.scan_job.specs.declared.job.Job.{Job}
 use Rattle.scan_job.specs.declared.job.Task.TheVariants as tasks
-use Rattle.scan_job.specs.declared.outcome.Outcome.TheVariants.{Running}
+use Rattle.scan_job.specs.declared.outcome.Outcome.TheVariants.{Done, Running}
 use Rattle.scan_job.specs.declared.outcome.Why.TheVariants as whys
 use Rattle.scan_job.specs.declared.report.Reports.{Reports}
 use Rattle.scan_world.specs.declared.event.Event.{Event}
@@ -23,7 +23,7 @@ use Rattle.world_contract.specs.Calls.{CancelEnds, MoveLowers, OneHolder, PageSt
 use Rattle.world_contract.specs.Endings.{IsEndingExplained, IsUnforced}
 use Rattle.world_contract.specs.Histories.{History, Moment}
 use Rattle.world_contract.specs.Page.{Settled}
-use Rattle.world_contract.specs.Promise.{JobIsDone}
+use Rattle.world_contract.specs.Promise.{CountIsKept, JobIsDone}
 use Rattle.world_contract.specs.Sessions.{CanAt, Happened, Has}
 
 -- ---- of an ending
@@ -56,14 +56,16 @@ abbrev pub InvalIsNoLie : Type 0
 InvalIsNoLie =
     (h : History) (w : WorldCore) (i : ℕ) (job : Job) (starved : Bool) → NamesNothing h job → (IsUnforced h job → ⊥)
     → Always h w i (λ before. find_name job.device before.daemon.registry ≢ None)
-    → Always h w i (λ before. (d : DeviceState) → Has before i job.device d → meaning_of (page_of d) d.setup.scene ≢ None)
+    → Always h w i (λ before. (d : DeviceState) → Has before i job.device d
+    → meaning_of (page_of d) d.setup.scene ≢ None)
     → IsEndingExplained h w i job starved Inval whys.Answer → ⊥
 
 -- denied, with the right password
 abbrev pub DeniedIsNoLie : Type 0
 DeniedIsNoLie =
     (h : History) (w : WorldCore) (i : ℕ) (job : Job) (starved : Bool) → NamesNothing h job
-    → ((sent : List ℕ) → is_allowed_for h.users job.user job.password (backend_of job.device) (challenge_of sent) ≡ true)
+    → ((sent : List ℕ)
+    → is_allowed_for h.users job.user job.password (backend_of job.device) (challenge_of sent) ≡ true)
     → IsEndingExplained h w i job starved AccessDenied whys.Answer → ⊥
 
 -- NO_DOCS, with a page in the tray
@@ -89,7 +91,8 @@ LostIsNoLie =
 -- out of memory at the client, to which nothing could come
 abbrev pub MemoryIsNoLie : Type 0
 MemoryIsNoLie =
-    (h : History) (w : WorldCore) (i : ℕ) (job : Job) (starved : Bool) → ((n : ℕ) → Happened h w i (moves.ToClient n) → ⊥)
+    (h : History) (w : WorldCore) (i : ℕ) (job : Job) (starved : Bool)
+    → ((n : ℕ) → Happened h w i (moves.ToClient n) → ⊥)
     → ((n : ℕ) → Happened h w i (moves.DataToClient n) → ⊥) → IsEndingExplained h w i job starved NoMem whys.Memory → ⊥
 
 -- cancelled, though nobody gave it up
@@ -98,21 +101,37 @@ CancelledIsNoLie =
     (h : History) (w : WorldCore) (i : ℕ) (job : Job) (starved : Bool) → (Contains h.events (Cancel i) → ⊥)
     → IsEndingExplained h w i job starved Cancelled whys.Cancelled → ⊥
 
--- ---- of a list
+-- ---- of a job that is done
 
 -- other devices than those that were listed, none of them, one of them twice, or in another order
 abbrev pub ListIsNoLie : Type 0
 ListIsNoLie =
-    (h : History) (w : WorldCore) (i : ℕ) (job : Job) (reports : Reports) (infos : List DeviceInfo) → job.task ≡ tasks.List
+    (h : History) (w : WorldCore) (i : ℕ) (job : Job) (reports : Reports) (infos : List DeviceInfo)
+    → job.task ≡ tasks.List
     → Always h w i (λ before. listed_infos before.daemon.registry ≡ infos) → reports.devices ≢ infos
     → JobIsDone h w i job reports → ⊥
+
+-- a show of no option, of a device that is there
+abbrev pub ShownIsNoLie : Type 0
+ShownIsNoLie =
+    (h : History) (w : WorldCore) (i : ℕ) (job : Job) (reports : Reports) (device : DeviceState) → job.task ≡ tasks.Show
+    → Contains h.devices device → device.info.name ≡ job.device → reports.options ≡ [] → JobIsDone h w i job reports → ⊥
+
+-- a batch of fewer pages than its count, though its device had one whenever it asked
+abbrev pub CountIsNoLie : Type 0
+CountIsNoLie =
+    (h : History) (w : WorldCore) (i : ℕ) (job : Job) (reports : Reports) (count finished : ℕ)
+    → job.task ≡ tasks.Batch count
+    → finished ≢ count → Always h w i (λ before. (d : DeviceState) → Has before i job.device d → d.pages ≢ [])
+    → CountIsKept h w i job (Done reports) finished → ⊥
 
 -- ---- of a run
 
 -- a run that does nothing, though its event could happen
 abbrev pub IdleIsNoLie : Type 0
 IdleIsNoLie =
-    (w : WorldCore) (i : ℕ) (own : JobEvent) → CanAt w i own → 0 < left_at w i → MoveLowers (job_event_of i own ∷ []) w w → ⊥
+    (w : WorldCore) (i : ℕ) (own : JobEvent) → CanAt w i own → 0 < left_at w i
+    → MoveLowers (job_event_of i own ∷ []) w w → ⊥
 
 -- a cancel that leaves its job running
 abbrev pub GoneOnIsNoLie : Type 0
@@ -129,11 +148,13 @@ GivenUpIsNoLie = (h : History) (w v : WorldCore) (i : ℕ) (out : RunsOut h w v)
 -- two jobs that both have a device
 abbrev pub SharedIsNoLie : Type 0
 SharedIsNoLie =
-    (w : WorldCore) (i j : ℕ) (name : List ℕ) (a b : DeviceState) → i ≢ j → Has w i name a → Has w j name b → OneHolder w → ⊥
+    (w : WorldCore) (i j : ℕ) (name : List ℕ) (a b : DeviceState) → i ≢ j → Has w i name a → Has w j name b
+    → OneHolder w → ⊥
 
 -- another page in mid-scan
 abbrev pub SwappedIsNoLie : Type 0
 SwappedIsNoLie =
-    (w v : WorldCore) (i : ℕ) (name : List ℕ) (a b : DeviceState) (e : Event) → outcome_at w i ≡ Some Running → Has w i name a
+    (w v : WorldCore) (i : ℕ) (name : List ℕ) (a b : DeviceState) (e : Event) → outcome_at w i ≡ Some Running
+    → Has w i name a
     → Has v i name b → is_at_rest a.phase ≡ false → is_at_rest b.phase ≡ false → page_of b ≢ page_of a
     → PageStays (e ∷ []) w v → ⊥

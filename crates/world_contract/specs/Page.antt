@@ -24,8 +24,10 @@ use Rattle.world_contract.specs.Settings.{AreSettingsPut}
 -- which the device that its session had at rest had first; a file that denotes exactly what the settings mean on such a
 -- page, that of such a start.
 pub data CameFor (h : History) (name : List ℕ) (held : HeldPage) : Type 0 where
-  AtFirst : (device : DeviceState) → Contains h.devices device → device.info.name ≡ name → Contains device.pages held → CameFor h name held
-  WithEvent : (source : Source) → Contains h.events (Load name source) → held_from (source_state source) ≡ held → CameFor h name held
+  AtFirst : (device : DeviceState) → Contains h.devices device → device.info.name ≡ name → Contains device.pages held
+      → CameFor h name held
+  WithEvent : (source : Source) → Contains h.events (Load name source) → held_from (source_state source) ≡ held
+      → CameFor h name held
 
 -- each of them is of a source that gives the page's rows at each pass
 abbrev pub IsSteady : History → List ℕ → Type 0
@@ -33,7 +35,8 @@ IsSteady h name = (held : HeldPage) → CameFor h name held → held.steady ≡ 
 
 -- the job's settings are in force on a device: from its defaults on, each in turn was given the nearest admitted value
 abbrev pub AreInForce : DeviceState → Job → List Placement → Setup → Type 0
-AreInForce device job placed setup = AreSettingsPut (defaults device.setup.scene.kind device.setup.order) job.settings.items placed setup
+AreInForce device job placed setup =
+    AreSettingsPut (defaults device.setup.scene.kind device.setup.order) job.settings.items placed setup
 
 -- the device that the job names, and the options that its settings put in force there
 pub record Settled (h : History) (job : Job) : Type 0 where
@@ -44,7 +47,8 @@ pub record Settled (h : History) (job : Job) : Type 0 where
   pub placed : List Placement
   pub in_force : AreInForce device job placed setup
 
--- Job i asked for a start as so many pages of it were finished, and its session had the device at rest, with this page first.
+-- Job i asked for a start as so many pages of it were finished, and its session had the device at rest, with this
+-- page first.
 pub record StartedOn (h : History) (w : WorldCore) (i : ℕ) (job : Job) (count : ℕ) (page : PageView) : Type 0 where
   pub asked : Asked h w i IsAtStart
   pub finished : HasFinished asked.at.before i count
@@ -53,7 +57,8 @@ pub record StartedOn (h : History) (w : WorldCore) (i : ℕ) (job : Job) (count 
   pub rests : is_at_rest device.phase ≡ true
   pub first : page_of device ≡ page
 
--- a file that denotes exactly the picture that the job's settings mean on a page that came for its device, and of which it asked for a start
+-- a file that denotes exactly the picture that the job's settings mean on a page that came for its device, and of
+-- which it asked for a start
 -- behind so many pages
 pub record IsScan (h : History) (w : WorldCore) (i : ℕ) (job : Job) (count : ℕ) (file : List ℕ) : Type 0 where
   pub settled : Settled h job

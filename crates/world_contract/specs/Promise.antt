@@ -15,22 +15,28 @@ use Rattle.scan_job.specs.declared.report.Reports.{Reports}
 use Rattle.scan_world.specs.declared.event.Event.{Event}
 use Rattle.world_contract.specs.Histories.{History}
 use Rattle.world_contract.specs.Page.{IsScan, IsSteady}
-use Rattle.world_contract.specs.Reports.{AreSettingsAnswered}
+use Rattle.world_contract.specs.Reports.{AreOptionsShown, AreSettingsAnswered}
 use Rattle.scan_world.specs.Worlds.{WorldCore}
-use Rattle.world_contract.specs.Endings.{IsEndingExplained, JobIsPermitted}
+use Rattle.world_contract.specs.Endings.{HadNoPage, IsEndingExplained, JobIsPermitted}
 use Rattle.world_contract.specs.Sessions.{Asked, IsAtList}
 
 -- a job that is done
 pub record JobIsDone (h : History) (w : WorldCore) (i : ℕ) (job : Job) (reports : Reports) : Type 0 where
   -- but for a list, each setting was given the nearest admitted value, on the device that the job names
-  pub answered : (device : DeviceState) → job.task ≢ tasks.List → Contains h.devices device → device.info.name ≡ job.device → AreSettingsAnswered device job reports.settings
+  pub answered : (device : DeviceState) → job.task ≢ tasks.List → Contains h.devices device
+      → device.info.name ≡ job.device → AreSettingsAnswered device job reports.settings
+  -- a show tells of the options of that device
+  pub shown : (device : DeviceState) → job.task ≡ tasks.Show → Contains h.devices device → device.info.name ≡ job.device
+      → AreOptionsShown device job reports.options
   -- and it was permitted
   pub permitted : job.task ≢ tasks.List → JobIsPermitted h job
   -- a list tells the devices that were listed as it asked for them: all, once, in their order
-  pub listed : job.task ≡ tasks.List → (asked : Asked h w i IsAtList) × (reports.devices ≡ listed_infos asked.at.before.daemon.registry)
+  pub listed : job.task ≡ tasks.List → (asked : Asked h w i IsAtList)
+      × (reports.devices ≡ listed_infos asked.at.before.daemon.registry)
 
 -- a job that ended otherwise names a status, and has its cause
-pub record JobHasEnded (h : History) (w : WorldCore) (i : ℕ) (job : Job) (starved : Bool) (status : Status) (why : Why) : Type 0 where
+pub record JobHasEnded (h : History) (w : WorldCore) (i : ℕ) (job : Job) (starved : Bool)
+    (status : Status) (why : Why) : Type 0 where
   pub not_good : status ≢ Good
   pub not_eof : status ≢ Eof
   pub caused : IsEndingExplained h w i job starved status why
@@ -39,30 +45,40 @@ pub record JobHasEnded (h : History) (w : WorldCore) (i : ℕ) (job : Job) (star
 -- `MovesAreKept`, `JobAnswers`, `JobIsKept`)**: what each call answers of a job is right, and all of them together.
 --
 -- `outcome`
-pub record OutcomeIsKept (h : History) (w : WorldCore) (i : ℕ) (job : Job) (starved : Bool) (outcome : Outcome) : Type 0 where
+pub record OutcomeIsKept (h : History) (w : WorldCore) (i : ℕ) (job : Job) (starved : Bool)
+    (outcome : Outcome) : Type 0 where
   pub done : (reports : Reports) → outcome ≡ Done reports → JobIsDone h w i job reports
   pub ended : (status : Status) (why : Why) → outcome ≡ Ended status why → JobHasEnded h w i job starved status why
 
 -- `file`
-pub record FileIsKept (h : History) (w : WorldCore) (i : ℕ) (job : Job) (starved : Bool) (outcome : Outcome) (file : Option (List ℕ)) : Type 0 where
-  -- of a scan that is done, where the pages that came for its device are steady: exactly the picture that its settings mean on that of its
+pub record FileIsKept (h : History) (w : WorldCore) (i : ℕ) (job : Job) (starved : Bool)
+    (outcome : Outcome) (file : Option (List ℕ)) : Type 0 where
+  -- of a scan that is done, where the pages that came for its device are steady: exactly the picture that its
+  -- settings mean on that of its
   -- start
-  pub scanned : (reports : Reports) (bytes : List ℕ) → IsSteady h job.device → job.task ≡ tasks.Scan → outcome ≡ Done reports → file ≡ Some bytes → IsScan h w i job 0 bytes
+  pub scanned : (reports : Reports) (bytes : List ℕ) → IsSteady h job.device → job.task ≡ tasks.Scan
+      → outcome ≡ Done reports → file ≡ Some bytes → IsScan h w i job 0 bytes
   -- it is whole only of such a scan: of a job that runs, that ended otherwise, or that is no scan it is not
-  pub whole : (bytes : List ℕ) → file ≡ Some bytes → IsWhole bytes → (reports : Reports) × (job.task ≡ tasks.Scan) × (outcome ≡ Done reports)
+  pub whole : (bytes : List ℕ) → file ≡ Some bytes → IsWhole bytes → (reports : Reports) × (job.task ≡ tasks.Scan)
+      × (outcome ≡ Done reports)
   -- it is missing only where there was no memory for it
   pub missing : file ≡ None → starved ≡ true
   -- and that of a job which does not scan stays empty
   pub empty : scans job.task ≡ false → file ≡ Some []
 
 -- `file_at` of page k, from 1, of so many that are finished, whatever became of the job
-pub record PageIsKept (h : History) (w : WorldCore) (i : ℕ) (job : Job) (starved : Bool) (finished k : ℕ) (file : Option (List ℕ)) : Type 0 where
-  pub scanned : (bytes : List ℕ) → file ≡ Some bytes → (0 < k) × (k ≤ finished) × (IsSteady h job.device → IsScan h w i job (k - 1) bytes)
+pub record PageIsKept (h : History) (w : WorldCore) (i : ℕ) (job : Job) (starved : Bool)
+    (finished k : ℕ) (file : Option (List ℕ)) : Type 0 where
+  pub scanned : (bytes : List ℕ) → file ≡ Some bytes → (0 < k) × (k ≤ finished)
+      × (IsSteady h job.device → IsScan h w i job (k - 1) bytes)
   pub missing : 0 < k → k ≤ finished → file ≡ None → starved ≡ true
 
--- `finished`: a batch that is done has all its pages, or fewer and at least one
-abbrev pub CountIsKept : Job → Outcome → ℕ → Type 0
-CountIsKept job outcome finished = (count : ℕ) (reports : Reports) → job.task ≡ tasks.Batch count → outcome ≡ Done reports → (finished ≡ count) ⊎ ((0 < finished) × (finished < count))
+-- `finished`: a batch that is done has all its pages, or fewer, one at least, and then its device had no more as it
+-- asked for a start
+abbrev pub CountIsKept : History → WorldCore → ℕ → Job → Outcome → ℕ → Type 0
+CountIsKept h w i job outcome finished =
+    (count : ℕ) (reports : Reports) → job.task ≡ tasks.Batch count → outcome ≡ Done reports
+    → (finished ≡ count) ⊎ ((0 < finished) × (finished < count) × HadNoPage h w i job)
 
 -- `next_move`: a job has one just where it runs
 pub record MoveIsKept (outcome : Outcome) (next : Option Event) : Type 0 where
@@ -89,6 +105,6 @@ pub record JobIsKept (h : History) (w : WorldCore) (i : ℕ) (job : Job) (a : Jo
   pub outcome : OutcomeIsKept h w i job a.starved a.outcome
   pub file : FileIsKept h w i job a.starved a.outcome a.file
   pub pages : (k : ℕ) → PageIsKept h w i job a.starved a.finished k (a.file_at k)
-  pub count : CountIsKept job a.outcome a.finished
+  pub count : CountIsKept h w i job a.outcome a.finished
   pub move : MoveIsKept a.outcome a.next_move
   pub moves : MovesAreKept a.outcome a.moves_left

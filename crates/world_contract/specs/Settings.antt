@@ -20,7 +20,8 @@ pub record IsSettingPut (s : Setup) (setting : List ℕ × List ℕ) (p : Placem
   pub may_be_set : (is_active s option && has_cap (option_caps option) 1) ≡ true
   -- by a descriptor of its kind, size in bytes and constraint, whatever else it says
   pub desc : Descriptor
-  pub form : (desc.kind ≡ option_kind option) × (desc.size ≡ option_size option) × (desc.constraint ≡ option_constraint s.scene.kind option)
+  pub form : (desc.kind ≡ option_kind option) × (desc.size ≡ option_size option)
+      × (desc.constraint ≡ option_constraint s.scene.kind option)
   pub reads : ReadsAsValue desc setting.1 p.asked
   pub nearest : Puts desc p.asked p.given
   pub after : p.setup ≡ with_value s option p.given

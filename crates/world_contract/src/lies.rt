@@ -1,6 +1,6 @@
 //! Of each part of the promise, that it refuses the smallest lies.
 
-ghost use Rattle.world_contract.specs.Lies.{BusyIsNoLie, CancelledIsNoLie, DeniedIsNoLie, EmptyIsNoLie, FailedIsNoLie, GivenUpIsNoLie, GoneOnIsNoLie, IdleIsNoLie, InvalIsNoLie, ListIsNoLie, LostIsNoLie, MemoryIsNoLie, SharedIsNoLie, SwappedIsNoLie};
+ghost use Rattle.world_contract.specs.Lies.{BusyIsNoLie, CancelledIsNoLie, CountIsNoLie, DeniedIsNoLie, EmptyIsNoLie, FailedIsNoLie, GivenUpIsNoLie, GoneOnIsNoLie, IdleIsNoLie, InvalIsNoLie, ListIsNoLie, LostIsNoLie, MemoryIsNoLie, SharedIsNoLie, ShownIsNoLie, SwappedIsNoLie};
 
 /// The table of endings explains none that nothing stood for.
 #[tactic(none)]
@@ -22,12 +22,16 @@ pub fn an_ending_is_no_lie()
     ensures cancelled { CancelledIsNoLie }
 {}
 
-/// A list that is done tells what was listed.
+/// A list that is done tells what was listed, a show what there is, and a batch has its count or ran out of pages.
 #[tactic(none)]
-pub fn a_list_is_no_lie()
+pub fn a_report_is_no_lie()
     /// Where the same devices were listed in front of all its requests, no list is done that tells others, one of them
     /// twice, or another order.
-    ensures { ListIsNoLie }
+    ensures listed { ListIsNoLie }
+    /// No show of a device that is there is done with no options.
+    ensures shown { ShownIsNoLie }
+    /// No batch is done with another number of pages than its count where its device had a page in front of all its requests.
+    ensures counted { CountIsNoLie }
 {}
 
 /// A run does what its events do, and moves until no job runs are moves.

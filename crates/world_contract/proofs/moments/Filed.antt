@@ -1,7 +1,7 @@
 -- A file that is meant: on the page of its start.
-use Rattle.std.specs.Prelude.{cond, length, map, slice_get, slice_index_or, if◌then◌else◌, ◌<◌, ◌≤◌, ◌+◌}
+use Rattle.std.specs.Prelude.{cond, length, map, slice_get, slice_index_or, if◌then◌else◌, ◌<◌, ◌≤◌, ◌+◌, ◌-◌}
 use Rattle.std.specs.List.{AllByRecursion}
-use Rattle.std.proofs.Common.{◌≡◌, ◌∙◌, ℕ, zero, suc, arith, List, [], ◌∷◌, ◌++◌, Bool, true, false, Option, Some, None, refl, sym, ap, subst}
+use Rattle.std.proofs.Common.{◌≡◌, ◌∙◌, ◌⊎◌, inl, inr, ℕ, zero, suc, arith, List, [], ◌∷◌, ◌++◌, Bool, true, false, Option, Some, None, refl, sym, ap, subst}
 use Rattle.std.proofs.lemmas.Option.{get_or_from_slice_get}
 use Rattle.page_picture.specs.Meaning.{meaning_of}
 use Rattle.page_picture.specs.Page.{PageView}
@@ -29,20 +29,23 @@ use Rattle.scan_world.specs.JobEvents.{is_done}
 use Rattle.scan_world.specs.Worlds.{WorldCore}
 use Rattle.world_refines.specs.GhostStates.{Ghost, job_state, place_named}
 use Rattle.world_refines.specs.NewWorlds.{make_of}
-use Rattle.world_refines.specs.WorldPromises.{IsMeant, IsOutcome}
+use Rattle.world_refines.specs.WorldPromises.{IsMeant, IsOutcome, KeepsPromise}
 use Rattle.world_refines.specs.WorldRefinement.{KeepsFiles, WorldRefines, is_laid}
 use Rattle.world_refines.proofs.frames.Paged.{woken_pages}
+use Rattle.world_refines.proofs.promise_proofs.Counted.{pages_count}
 use Rattle.world_refines.proofs.job_events.Constant.{Fixed, all_fixed, makes_stay}
+use Rattle.world_contract.specs.Endings.{HadNoPage}
 use Rattle.world_contract.specs.Histories.{History, LedTo}
 use Rattle.world_contract.specs.Laws.{Below}
 use Rattle.world_contract.specs.Page.{CameFor, IsScan, IsSteady, StartedOn}
 use Rattle.world_contract.proofs.Begun.{wants_all}
-use Rattle.world_contract.proofs.Ended.{comes_there, first_here, laws_of, steps_of_one}
+use Rattle.world_contract.proofs.Ended.{comes_there, first_here, judged_there, laws_of, steps_of_one}
 use Rattle.world_contract.proofs.Jobs.{IsJob}
 use Rattle.world_contract.proofs.Lists.{contains_at}
 use Rattle.world_contract.proofs.Nearest.{nearest_for}
-use Rattle.world_contract.proofs.Scanned.{at_first, infos_of, name_of, wants_there}
+use Rattle.world_contract.proofs.Scanned.{at_first, infos_of, job_there, kept_by, name_of, wants_there}
 use Rattle.world_contract.proofs.Sources.{make_at, sources_of, steady_there}
+use Rattle.world_contract.proofs.moments.Judged.{CountsTo, Judged}
 use Rattle.world_contract.proofs.moments.Moments.{Comes}
 use Rattle.world_contract.proofs.moments.Started.{StartFact, app_length, mapped_length, starts_first}
 
@@ -169,3 +172,23 @@ page_right below h w i n job p file j steady low is =
     let most = finished_low u w i p k.stands j.endpoint_at in
     let fact = start_of below h w i job j.led j.job_at n s.begin (omega (arith, low, most)) s.started in
     is_scan h w i job n s.begin file fact (meant_then below h w i job j.led s.begin file j.job_at (s.meant (steady_then below h w job j.led i j.job_at steady)))
+
+-- ---- how many they are
+
+few_or_none : {X : Type 0} (finished count n : ℕ) (met : Type 0) → finished ≡ n → (finished ≡ count) ⊎ ((0 < finished) × (finished < count) × met) → (n ≡ suc (count - 1)) ⊎ X → (finished ≡ count) ⊎ ((0 < finished) × (finished < count) × X)
+few_or_none finished count n met same (inl all) counts = inl all
+few_or_none finished count n met same (inr few) (inl all) = let some = few.0 in let less = few.1 in absurd (omega (arith, some, less, same, all))
+few_or_none finished count n met same (inr few) (inr none) = inr (few.0, few.1, none)
+
+pub counted_there : Below → (h : History) (w : WorldCore) (i : ℕ) (job : Job) (p : Endpoint) → IsJob h w i job p → (count : ℕ) (reports : Reports) → job.task ≡ tasks.Batch count → p.client.outcome ≡ Done reports → (p.finished ≡ count) ⊎ ((0 < p.finished) × (p.finished < count) × HadNoPage h w i job)
+counted_there below h w i job p j count reports batch done =
+    let u = (comes_there below h w job j.led).ghost_then in
+    let stands = (comes_there below h w job j.led).stands in
+    let k = kept_by below.kept h w job j.led in
+    let me = job_state u i in
+    let task : (u.jobs i).task ≡ tasks.Batch count = ap (λ (x : Job). x.task) (job_of below h w job j.led i j.job_at) ∙ batch in
+    let promise : KeepsPromise u i reports = subst (IsOutcome u i) done (below.outcomes u w i p stands j.endpoint_at) in
+    let counts : CountsTo h w i job me.client.pages = subst (Judged h w i job me.session.met me.client.pages) promise.stage (judged_there below h w i job j.led j.job_at) in
+    let pages = pages_count u w i p stands j.endpoint_at (ap is_done done) (ap is_batch task) in
+    let known = k.promises.batches i count p reports j.endpoint_at (ap (λ (x : Job). x.task) (job_there h w job j.led k i j.job_at) ∙ batch) done in
+    few_or_none p.finished count (length me.client.pages) _ pages known (counts (count - 1) (ap task_of batch))

@@ -1,11 +1,12 @@
 -- What each cause that a job met comes from, of the world in front of its event; and so why a job ended.
-use Rattle.std.specs.Prelude.{cond, eqb, option_map, map, slice_get, slice_index_or, Contains}
+use Rattle.std.specs.Prelude.{cond, eqb, length, option_map, map, slice_get, slice_index_or, Contains}
 use Rattle.std.specs.List.{AllByRecursion}
-use Rattle.std.proofs.Common.{◌≡◌, ◌∙◌, ◌⊎◌, ◌≢◌, ℕ, List, [], ◌∷◌, ◌++◌, Bool, true, false, Option, Some, None, inl, inr, refl, sym, ap, subst, eqb-true}
+use Rattle.std.proofs.Common.{◌≡◌, ◌∙◌, ◌⊎◌, ◌≢◌, ℕ, suc, List, [], ◌∷◌, ◌++◌, Bool, true, false, Option, Some, None, inl, inr, refl, sym, ap, subst, eqb-true}
 use Rattle.std.proofs.lemmas.Option.{get_or_from_slice_get}
 use Rattle.device_api.specs.Kinds.{Page}
 use Rattle.device_api.specs.State.{DeviceState}
 use Rattle.page_picture.specs.Meaning.{meaning_of}
+use Rattle.page_picture.specs.Shows.{Frame}
 use Rattle.scan_frames.specs.declared.setup.Setup.{Setup}
 use Rattle.scan_job.specs.declared.job.Job.{Job}
 use Rattle.scan_job.specs.declared.job.Task.{Task}
@@ -22,13 +23,14 @@ use Rattle.system_model.specs.AbstractInForce.{abstract_in_force}
 use Rattle.system_model.specs.Actions
 use Rattle.system_model.specs.Actions.{Action, job_after_action}
 use Rattle.system_model.specs.Causes.{Cause, IsExplained, Explains, GaveUp, LinkLost, LinkOutOfMemory, WasUnsaid, SourceFailed, NamesEof, Names, Unforced, WasUnlisted, HadNoPicture, WasHeld, Disallowed, TrayWasEmpty, TrayRanOut, ClientOutOfMemory, IsCauseAmong}
-use Rattle.system_model.specs.Client.{AbstractJob as RuledJob, JobStage, Idle, Running, Done, Ended, ClientView}
+use Rattle.system_model.specs.Client.{AbstractJob as RuledJob, Batch, JobStage, Idle, Running, Done, Ended, ClientView}
 use Rattle.system_model.specs.Daemon.{FailureCounts, Streaming}
 use Rattle.system_model.specs.Sync.{Scans}
 use Rattle.system_model.specs.Devices.{Make, picture_frames, read_status_of}
 use Rattle.system_model.specs.Invariants.{IsCaused, StageInvariant}
 use Rattle.system_model.specs.ModelPromises.{CausesAreGrounded}
 use Rattle.system_model.specs.SystemStates.{JobState, SystemState, listed_devices, make_for, device_for, wanted_place}
+use Rattle.system_model.proofs.JobPromises.{batches_counted}
 use Rattle.system_model.specs.Transitions.{By, IsActionEnabled, IsHistory, IsEnabled, IsUnderWay, Loads, Transition, Unplugs, after_transition, after_all}
 use Rattle.scan_world.specs.declared.event.Event.TheVariants.{Cancel}
 use Rattle.scan_world.specs.declared.event.JobEvent.TheVariants.{DataTurn}
@@ -45,7 +47,7 @@ use Rattle.world_contract.proofs.Along.{Fine, Here, IsTold, Laws, NotForced, Own
 use Rattle.world_contract.proofs.Asked.{AsksGuarded, asks_then}
 use Rattle.world_contract.proofs.Begun.{job_same, party_stays}
 use Rattle.world_contract.proofs.Events.{stops_event}
-use Rattle.world_contract.proofs.Evident.{Begins, Comes, IsAnswer, IsFailedAnswer, Opens, StartsEmpty, all_come, causes_by, met_by}
+use Rattle.world_contract.proofs.Evident.{Begins, Comes, IsAnswer, IsFailedAnswer, Opens, all_come, causes_by, met_by}
 use Rattle.world_contract.proofs.Lists.{all_each, all_then, contains_in}
 use Rattle.world_contract.proofs.NoPictures.{IsSet, no_meaning, starting}
 use Rattle.world_contract.proofs.Options.{streaming}
@@ -56,7 +58,7 @@ use Rattle.world_contract.proofs.moments.Entries.{linked_by, own_party}
 use Rattle.world_contract.proofs.moments.Moments.{AnsweredSo, AnswersAt, HappenedSo, job_at}
 use Rattle.world_contract.proofs.moments.Requests.{IsOpening}
 use Rattle.world_contract.proofs.moments.Stands.{awaits_there, holder_has, unlisted_none}
-use Rattle.world_contract.proofs.moments.Tray.{empty_there, page_there}
+use Rattle.world_contract.proofs.moments.Tray.{dry_there, empty_there, page_there}
 use Rattle.world_contract.proofs.moments.Waiting.{WaitsFor, waits_there}
 
 -- ---- what a cause says
@@ -79,7 +81,7 @@ Evid h w i job HadNoPicture = rows.HadNoPicture h w i job
 Evid h w i job WasHeld = rows.WasHeld h w i job
 Evid h w i job Disallowed = rows.WasDisallowed h w i job
 Evid h w i job TrayWasEmpty = rows.HadNoPage h w i job
-Evid h w i job TrayRanOut = Unit {0}
+Evid h w i job TrayRanOut = rows.HadNoPage h w i job
 Evid h w i job ClientOutOfMemory = rows.WasStarved h w i
 
 abbrev pub StepSo : History → WorldCore → Job → SystemState → Transition → Type 0
@@ -174,11 +176,14 @@ not_allowed h w i job s e on served a opens c awaited denied =
       denied = subst (λ (x : _). is_allowed_for h.users job.user job.password (backend_of job.device) (challenge_of x) ≡ false) r.4 no;
     }
 
-no_page : (h : History) (w : WorldCore) (i : ℕ) (job : Job) (s : SystemState) → Here h i job s → IsUnderWay (s.job i).client.stage → Front h w job s i → StartsEmpty (s.job i) (device_for s i) → rows.HadNoPage h w i job
-no_page h w i job s e on a c =
-    let held = empty_there i (make_for s i) (s.job i) (device_for s i) (s.job i).client.stage (e.sound.talks i) on c in
+-- its device is had, and has no page
+abbrev HasNone : ℕ → AbstractDevice → Type 0
+HasNone i dev = (dev.holder ≡ Some i) × ((d : DeviceState) → dev ≡ abstract_device (Some i) d → IsInScan d → d.pages ≡ [])
+
+no_page : (h : History) (w : WorldCore) (i : ℕ) (job : Job) (s : SystemState) → Here h i job s → IsUnderWay (s.job i).client.stage → Front h w job s i → (rest : List AbstractRequest) → (s.job i).todo ≡ Start ∷ rest → HasNone i (device_for s i) → rows.HadNoPage h w i job
+no_page h w i job s e on a rest todo held =
     let r = has_there h w i job s i e.own_job e.fine a held.0 in
-    (asked_start h w i job s on a c.0 c.1, r.0, r.1, held.1 r.0 r.2 r.3)
+    (asked_start h w i job s on a rest todo, r.0, r.1, held.1 r.0 r.2 r.3)
 
 no_meaning_there : (h : History) (w : WorldCore) (i : ℕ) (job : Job) (s : SystemState) → Here h i job s → IsUnderWay (s.job i).client.stage → (a : Front h w job s i) → (rest : List AbstractRequest) → (s.job i).todo ≡ Start ∷ rest → IsSet i (make_for s i) (s.job i).session (device_for s i) → (page : Page) (later : List Page) → (device_for s i).tray ≡ page ∷ later → picture_frames (make_for s i) (device_for s i).options page ≡ [] → (device_for s i).phase ≡ Resting → rows.HadNoPicture h w i job
 no_meaning_there h w i job s e on a rest todo set page later tray none rests =
@@ -232,8 +237,8 @@ evid h w i job s x e on of so may HadNoPicture c =
     no_meaning_there h w i job s e on (front_by h w i job s x c.0 on so) c.1.0 c.1.1 (starting i (make_for s i) (s.job i) (device_for s i) (s.job i).client.stage c.1.0 on (e.sound.talks i) c.1.1) c.1.2.0 c.1.2.1 c.1.2.2 c.1.2.3 c.2
 evid h w i job s x e on of so may WasHeld c = held_by_other h w i job s c.2.0 e on (front_by h w i job s x c.0 on so) c.1 c.2.1 c.2.2
 evid h w i job s x e on of so may Disallowed c = not_allowed h w i job s e on (served_by_step i (make_for s i) (s.job i) (device_for s i) x c.0 may) (front_by h w i job s x c.0 on so) c.1 c.2.0 c.2.1 c.2.2
-evid h w i job s x e on of so may TrayWasEmpty c = no_page h w i job s e on (front_by h w i job s x c.0 on so) c.1
-evid h w i job s x e on of so may TrayRanOut c = tt
+evid h w i job s x e on of so may TrayWasEmpty c = no_page h w i job s e on (front_by h w i job s x c.0 on so) c.1.0 c.1.1 (empty_there i (make_for s i) (s.job i) (device_for s i) (s.job i).client.stage (e.sound.talks i) on c.1)
+evid h w i job s x e on of so may TrayRanOut c = no_page h w i job s e on (front_by h w i job s x c.0 on so) c.1.0 c.1.1 (dry_there i (make_for s i) (s.job i) (device_for s i) (s.job i).client.stage (e.sound.talks i) on c.1)
 evid h w i job s x e on of so may ClientOutOfMemory c = happened_by h w job s i x Actions.RunsOutOfMemory c so
 
 -- ---- what the job met
@@ -241,15 +246,30 @@ evid h w i job s x e on of so may ClientOutOfMemory c = happened_by h w job s i 
 abbrev pub EndedBy : History → WorldCore → ℕ → Job → List Cause → Status → Why → Type 0
 EndedBy h w i job met status why = ((c : Cause) × Evid h w i job c × IsCauseAmong c met × Explains c status why) ⊎ (NotForced h job × Explains Unforced status why)
 
+-- a batch that is done has its count of pages, or its device had no more
+abbrev pub CountsTo : History → WorldCore → ℕ → Job → List (List Frame) → Type 0
+CountsTo h w i job pages = (n : ℕ) → task_of job.task ≡ Batch n → (length pages ≡ suc n) ⊎ rows.HadNoPage h w i job
+
 -- each cause that a job met that is under way is so, and an ending is by one of them
-abbrev pub Judged : History → WorldCore → ℕ → Job → List Cause → JobStage → Type 0
-Judged h w i job met Idle = AllByRecursion (Evid h w i job) met
-Judged h w i job met (Running g) = AllByRecursion (Evid h w i job) met
-Judged h w i job met Done = Unit {0}
-Judged h w i job met (Ended status why) = EndedBy h w i job met status why
+abbrev pub Judged : History → WorldCore → ℕ → Job → List Cause → List (List Frame) → JobStage → Type 0
+Judged h w i job met pages Idle = AllByRecursion (Evid h w i job) met
+Judged h w i job met pages (Running g) = AllByRecursion (Evid h w i job) met
+Judged h w i job met pages Done = CountsTo h w i job pages
+Judged h w i job met pages (Ended status why) = EndedBy h w i job met status why
 
 abbrev pub JudgedAt : History → WorldCore → ℕ → Job → SystemState → Type 0
-JudgedAt h w i job s = Judged h w i job (s.job i).session.met (s.job i).client.stage
+JudgedAt h w i job s = Judged h w i job (s.job i).session.met (s.job i).client.pages (s.job i).client.stage
+
+pub among_met : (h : History) (w : WorldCore) (i : ℕ) (job : Job) (c : Cause) (met : List Cause) → AllByRecursion (Evid h w i job) met → IsCauseAmong c met → Evid h w i job c
+among_met h w i job c [] a m = absurd m
+among_met h w i job c (d ∷ met) a (inl same) = subst (Evid h w i job) (sym same) a.0
+among_met h w i job c (d ∷ met) a (inr m) = among_met h w i job c met a.1 m
+
+counts_to : (h : History) (w : WorldCore) (i : ℕ) (job : Job) (s : SystemState) → (s.job i).client.stage ≡ Done → Here h i job s → AllByRecursion (Evid h w i job) (s.job i).session.met → CountsTo h w i job (s.job i).client.pages
+counts_to h w i job s at e a n batch = elim (batches_counted s i n e.sound at (ap (λ (j : RuledJob). j.task) e.is ∙ batch)) [
+  | inl all ↦ inl all
+  | inr few ↦ inr (among_met h w i job TrayRanOut (s.job i).session.met a few.2)
+]
 
 pick : (h : History) (w : WorldCore) (i : ℕ) (job : Job) (status : Status) (why : Why) (met : List Cause) → AllByRecursion (Evid h w i job) met → IsExplained status why met → (c : Cause) × Evid h w i job c × IsCauseAmong c met × Explains c status why
 pick h w i job status why [] a e = absurd e
@@ -267,10 +287,10 @@ caused h w i job s status why e a (inl c) = inl (pick h w i job status why (s.jo
 caused h w i job s status why e a (inr c) = inr (forced_same h w i job s e c.0, c.1)
 
 -- all of its causes are so
-judge_all : (h : History) (w : WorldCore) (i : ℕ) (job : Job) (s : SystemState) (stage : JobStage) → (s.job i).client.stage ≡ stage → Here h i job s → AllByRecursion (Evid h w i job) (s.job i).session.met → Judged h w i job (s.job i).session.met stage
+judge_all : (h : History) (w : WorldCore) (i : ℕ) (job : Job) (s : SystemState) (stage : JobStage) → (s.job i).client.stage ≡ stage → Here h i job s → AllByRecursion (Evid h w i job) (s.job i).session.met → Judged h w i job (s.job i).session.met (s.job i).client.pages stage
 judge_all h w i job s Idle at e a = a
 judge_all h w i job s (Running g) at e a = a
-judge_all h w i job s Done at e a = tt
+judge_all h w i job s Done at e a = counts_to h w i job s at e a
 judge_all h w i job s (Ended status why) at e a = caused h w i job s status why e a (subst (λ (st : JobStage). StageInvariant i (make_for s i) (s.job i) (device_for s i) st) at (e.sound.talks i))
 
 met_then : CausesAreGrounded → (h : History) (w : WorldCore) (i : ℕ) (job : Job) (s : SystemState) (x : Action) → Here h i job s → IsUnderWay (s.job i).client.stage → own_of h i x → StepSo h w job s (By i x) → IsEnabled s (By i x) → AllByRecursion (Evid h w i job) (s.job i).session.met → AllByRecursion (Evid h w i job) ((after_transition s (By i x)).job i).session.met
@@ -284,11 +304,11 @@ more_ended : (h : History) (w : WorldCore) (i : ℕ) (job : Job) (old new : List
 more_ended h w i job old new status why grow (inl (c, e, m, x)) = inl (c, e, grow c m, x)
 more_ended h w i job old new status why grow (inr n) = inr n
 
-judged_over : (h : History) (w : WorldCore) (i : ℕ) (job : Job) (old new : List Cause) (stage : JobStage) → (IsUnderWay stage → ⊥) → ((c : Cause) → IsCauseAmong c old → IsCauseAmong c new) → Judged h w i job old stage → Judged h w i job new stage
-judged_over h w i job old new Idle off grow j = absurd (off tt)
-judged_over h w i job old new (Running g) off grow j = absurd (off tt)
-judged_over h w i job old new Done off grow j = tt
-judged_over h w i job old new (Ended status why) off grow j = more_ended h w i job old new status why grow j
+judged_over : (h : History) (w : WorldCore) (i : ℕ) (job : Job) (old new : List Cause) (pages : List (List Frame)) (stage : JobStage) → (IsUnderWay stage → ⊥) → ((c : Cause) → IsCauseAmong c old → IsCauseAmong c new) → Judged h w i job old pages stage → Judged h w i job new pages stage
+judged_over h w i job old new pages Idle off grow j = absurd (off tt)
+judged_over h w i job old new pages (Running g) off grow j = absurd (off tt)
+judged_over h w i job old new pages Done off grow j = j
+judged_over h w i job old new pages (Ended status why) off grow j = more_ended h w i job old new status why grow j
 
 met_more : (c : Cause) (xs old : List Cause) → IsCauseAmong c old → IsCauseAmong c (xs ++ old)
 met_more c [] old m = m
@@ -302,21 +322,21 @@ grows s i x c m =
 own_step : Laws → (h : History) (w : WorldCore) (i : ℕ) (job : Job) (s : SystemState) (x : Action) (stage : JobStage) → (s.job i).client.stage ≡ stage → Here h i job s → Here h i job (after_transition s (By i x)) → own_of h i x → StepSo h w job s (By i x) → IsEnabled s (By i x) → JudgedAt h w i job s → JudgedAt h w i job (after_transition s (By i x))
 own_step laws h w i job s x Idle at e f of step legal j =
     judge_all h w i job (after_transition s (By i x)) ((after_transition s (By i x)).job i).client.stage refl f
-    (met_then laws.grounds h w i job s x e (subst IsUnderWay (sym at) tt) of step legal (subst (Judged h w i job (s.job i).session.met) at j))
+    (met_then laws.grounds h w i job s x e (subst IsUnderWay (sym at) tt) of step legal (subst (Judged h w i job (s.job i).session.met (s.job i).client.pages) at j))
 own_step laws h w i job s x (Running g) at e f of step legal j =
     judge_all h w i job (after_transition s (By i x)) ((after_transition s (By i x)).job i).client.stage refl f
-    (met_then laws.grounds h w i job s x e (subst IsUnderWay (sym at) tt) of step legal (subst (Judged h w i job (s.job i).session.met) at j))
+    (met_then laws.grounds h w i job s x e (subst IsUnderWay (sym at) tt) of step legal (subst (Judged h w i job (s.job i).session.met (s.job i).client.pages) at j))
 own_step laws h w i job s x Done at e f of step legal j =
     let off : IsUnderWay (s.job i).client.stage → ⊥ = λ on. subst IsUnderWay at on in
-    subst (λ (st : JobStage). Judged h w i job ((after_transition s (By i x)).job i).session.met st) (sym (ap (λ (m : ClientView). m.stage) (laws.last s i x legal off)))
-    (judged_over h w i job (s.job i).session.met ((after_transition s (By i x)).job i).session.met (s.job i).client.stage off (grows s i x) j)
+    subst (λ (m : ClientView). Judged h w i job ((after_transition s (By i x)).job i).session.met m.pages m.stage) (sym (laws.last s i x legal off))
+    (judged_over h w i job (s.job i).session.met ((after_transition s (By i x)).job i).session.met (s.job i).client.pages (s.job i).client.stage off (grows s i x) j)
 own_step laws h w i job s x (Ended status why) at e f of step legal j =
     let off : IsUnderWay (s.job i).client.stage → ⊥ = λ on. subst IsUnderWay at on in
-    subst (λ (st : JobStage). Judged h w i job ((after_transition s (By i x)).job i).session.met st) (sym (ap (λ (m : ClientView). m.stage) (laws.last s i x legal off)))
-    (judged_over h w i job (s.job i).session.met ((after_transition s (By i x)).job i).session.met (s.job i).client.stage off (grows s i x) j)
+    subst (λ (m : ClientView). Judged h w i job ((after_transition s (By i x)).job i).session.met m.pages m.stage) (sym (laws.last s i x legal off))
+    (judged_over h w i job (s.job i).session.met ((after_transition s (By i x)).job i).session.met (s.job i).client.pages (s.job i).client.stage off (grows s i x) j)
 
 abbrev judged_party : History → WorldCore → ℕ → Job → JobState → Type 0
-judged_party h w i job p = Judged h w i job p.session.met p.client.stage
+judged_party h w i job p = Judged h w i job p.session.met p.client.pages p.client.stage
 
 by_step : Laws → (h : History) (w : WorldCore) (i : ℕ) (job : Job) (s : SystemState) (j : ℕ) (x : Action) (b : Bool) → eqb i j ≡ b → Here h i job s → Here h i job (after_transition s (By j x)) → IsOfOne h (By j x) → StepSo h w job s (By j x) → IsEnabled s (By j x) → JudgedAt h w i job s → JudgedAt h w i job (after_transition s (By j x))
 by_step laws h w i job s j x false e here now of step legal judged = subst (judged_party h w i job) (sym (party_stays s j x i e)) judged

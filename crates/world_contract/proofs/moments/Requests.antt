@@ -5,7 +5,7 @@ use Rattle.page_picture.specs.Shows.{Frame}
 use Rattle.device_api.specs.Kinds.{Page}
 use Rattle.system_model.specs.AbstractMessages.{Challenge, AbstractRequest, Init, GetDevices, Open, Authorize, Describe, Get, Set, Parameters, Start, Cancel, Close, Exit, same_text}
 use Rattle.system_model.specs.AbstractDevices.{AbstractDevice, Begin, ScanPhase, Resting, Between, Reading, is_held_by, is_resting}
-use Rattle.system_model.specs.Causes.{Cause, SourceFailed, HadNoPicture, TrayWasEmpty, WasUnlisted, WasHeld, Disallowed}
+use Rattle.system_model.specs.Causes.{Cause, SourceFailed, HadNoPicture, TrayRanOut, TrayWasEmpty, WasUnlisted, WasHeld, Disallowed}
 use Rattle.system_model.specs.Daemon.{AnswerEffect, Environment, FailureCounts, TransferState, Quiet, Waiting, Streaming, Ending, allow, answer, answer_awaited, answer_if, begin_page, begin_pass, empty_cause, get_reply, hand_out_device, held_cause, open_listed, put_reply, refuse, serve, set_reply, start_at, start_effect, start_or_fail, start_page, take_listed}
 use Rattle.system_model.specs.Devices.{Make, AbstractAcceptedSet, accept_value, has_readable_value, picture_frames}
 
@@ -14,15 +14,16 @@ IsOpening Open = Unit {0}
 IsOpening (Authorize challenge) = Unit {0}
 IsOpening q = ⊥
 
--- the cause is met at this request
-abbrev pub MetAt : AbstractRequest → Cause → Type 0
-MetAt q WasUnlisted = IsOpening q
-MetAt q WasHeld = IsOpening q
-MetAt q Disallowed = IsOpening q
-MetAt q HadNoPicture = q ≡ Start
-MetAt q TrayWasEmpty = q ≡ Start
-MetAt q SourceFailed = q ≡ Start
-MetAt q c = Unit {0}
+-- the cause is met at this request, of a device that stands so
+abbrev pub MetAt : AbstractDevice → AbstractRequest → Cause → Type 0
+MetAt dev q WasUnlisted = IsOpening q
+MetAt dev q WasHeld = IsOpening q
+MetAt dev q Disallowed = IsOpening q
+MetAt dev q HadNoPicture = q ≡ Start
+MetAt dev q TrayWasEmpty = q ≡ Start
+MetAt dev q TrayRanOut = (q ≡ Start) × (dev.phase ≡ Resting)
+MetAt dev q SourceFailed = q ≡ Start
+MetAt dev q c = Unit {0}
 
 -- a page is begun at a START, of a device at rest: it is the first in the tray, and the options are those in force
 abbrev pub BeginsAt : AbstractDevice → AbstractRequest → List Begin → Type 0
@@ -31,20 +32,20 @@ BeginsAt dev q (b ∷ more) = (q ≡ Start) × (dev.phase ≡ Resting) × ((late
 
 -- so is an effect, and where it shows devices they were asked for
 abbrev MeetsAt : AbstractRequest → AbstractDevice → AnswerEffect → Type 0
-MeetsAt q dev v = AllByRecursion (MetAt q) v.causes × ((ds : List ℕ) → v.shown ≡ Some ds → q ≡ GetDevices) × BeginsAt dev q v.begun
+MeetsAt q dev v = AllByRecursion (MetAt dev q) v.causes × ((ds : List ℕ) → v.shown ≡ Some ds → q ≡ GetDevices) × BeginsAt dev q v.begun
 
 shows_none : (q : AbstractRequest) (ds : List ℕ) → ◌≡◌ {A = Option (List ℕ)} None (Some ds) → q ≡ GetDevices
 shows_none q ds e = absurd (let clash : ◌≡◌ {A = Option (List ℕ)} None (Some ds) = e in cc)
 
 -- ---- OPEN and AUTHORIZE
 
-held_met : (q : AbstractRequest) → IsOpening q → (b : Bool) → AllByRecursion (MetAt q) (held_cause b)
-held_met q opening true = tt
-held_met q opening false = (opening, tt)
+held_met : (dev : AbstractDevice) (q : AbstractRequest) → IsOpening q → (b : Bool) → AllByRecursion (MetAt dev q) (held_cause b)
+held_met dev q opening true = tt
+held_met dev q opening false = (opening, tt)
 
 hand_met : (q : AbstractRequest) → IsOpening q → (i : ℕ) (k : Make) (dev : AbstractDevice) (c : TransferState) (o : Option ℕ) → MeetsAt q dev (hand_out_device i k dev c o)
 hand_met q opening i k dev c None = (tt, shows_none q, tt)
-hand_met q opening i k dev c (Some j) = (held_met q opening (eqb j i), shows_none q, tt)
+hand_met q opening i k dev c (Some j) = (held_met dev q opening (eqb j i), shows_none q, tt)
 
 take_met : (q : AbstractRequest) → IsOpening q → (i : ℕ) (k : Make) (dev : AbstractDevice) (c : TransferState) (b : Bool) → MeetsAt q dev (take_listed i k dev c b)
 take_met q opening i k dev c false = ((opening, tt), shows_none q, tt)
@@ -84,12 +85,12 @@ pass_met : (k : Make) (dev : AbstractDevice) (c : TransferState) (frames : List 
 pass_met k dev c [] = (tt, shows_none Start, tt)
 pass_met k dev c (f ∷ more) = (tt, shows_none Start, tt)
 
-empty_met : (again : Bool) → MetAt Start (empty_cause again)
-empty_met true = tt
-empty_met false = refl
+empty_met : (dev : AbstractDevice) (again : Bool) → dev.phase ≡ Resting → MetAt dev Start (empty_cause again)
+empty_met dev true rests = (refl, rests)
+empty_met dev false rests = refl
 
 tray_met : (k : Make) (dev : AbstractDevice) (c : TransferState) (again : Bool) (tray : List Page) → dev.phase ≡ Resting → dev.tray ≡ tray → MeetsAt Start dev (start_page k dev c again tray)
-tray_met k dev c again [] rests is = ((empty_met again, tt), shows_none Start, tt)
+tray_met k dev c again [] rests is = ((empty_met dev again rests, tt), shows_none Start, tt)
 tray_met k dev c again (page ∷ tray) rests is = page_met k dev c page tray (picture_frames k dev.options page) rests is
 
 phase_met : (k : Make) (dev : AbstractDevice) (c : TransferState) (again : Bool) (phase : ScanPhase) → dev.phase ≡ phase → MeetsAt Start dev (start_at k dev c again phase)
@@ -155,6 +156,6 @@ if_met : (b : Bool) (i : ℕ) (k : Make) (dev : AbstractDevice) (c : TransferSta
 if_met true i k dev c x q = serve_met i k dev c x q
 if_met false i k dev c x q = refuse_met i k dev c x q
 
-pub answers_met : (i : ℕ) (k : Make) (dev : AbstractDevice) (c : TransferState) (awaited : Option Challenge) (x : Environment) (q : AbstractRequest) → AllByRecursion (MetAt q) (answer i k dev c awaited x q).causes × ((ds : List ℕ) → (answer i k dev c awaited x q).shown ≡ Some ds → q ≡ GetDevices) × BeginsAt dev q (answer i k dev c awaited x q).begun
+pub answers_met : (i : ℕ) (k : Make) (dev : AbstractDevice) (c : TransferState) (awaited : Option Challenge) (x : Environment) (q : AbstractRequest) → AllByRecursion (MetAt dev q) (answer i k dev c awaited x q).causes × ((ds : List ℕ) → (answer i k dev c awaited x q).shown ≡ Some ds → q ≡ GetDevices) × BeginsAt dev q (answer i k dev c awaited x q).begun
 answers_met i k dev c None x q = if_met (is_held_by i dev.holder) i k dev c x q
 answers_met i k dev c (Some sent) x q = awaited_met i k dev c x sent q

@@ -51,35 +51,10 @@ use Rattle.world_contract.proofs.moments.Entries.{own_party, past_end}
 use Rattle.world_contract.proofs.moments.Judged.{Front, asked_start, has_there, here_then}
 use Rattle.world_contract.proofs.moments.Moments.{AnsweredSo}
 use Rattle.world_contract.proofs.moments.Requests.{BeginsAt, answers_met}
-use Rattle.world_contract.proofs.moments.Tray.{page_there, rests_there}
+use Rattle.world_contract.proofs.moments.Tray.{page_there, rests_there, starts_ready}
 use Rattle.world_contract.proofs.moments.Waiting.{Runs, runs_by, woken}
 
 -- ---- as it starts, as many pages are finished as were started
-
-synced_ready : (i : ℕ) (k : Make) (b : SessionView) (m : ClientView) (dev : AbstractDevice) (g : AbstractProgress) (rest : List AbstractRequest) → Start ∷ rest ≡ request_awaited g → dev.phase ≡ Resting → InSync i k b m dev g → Ready i k b m dev × (g ≡ Starting)
-synced_ready i k b m dev Greeting rest e rests h = absurd (let clash : Start ∷ rest ≡ Init ∷ [] = e in cc)
-synced_ready i k b m dev Listing rest e rests h = absurd (let clash : Start ∷ rest ≡ GetDevices ∷ [] = e in cc)
-synced_ready i k b m dev Opening rest e rests h = absurd (let clash : Start ∷ rest ≡ Open ∷ [] = e in cc)
-synced_ready i k b m dev (Allowing c) rest e rests h = absurd (let clash : Start ∷ rest ≡ Authorize c ∷ [] = e in cc)
-synced_ready i k b m dev (Describing left) rest e rests h = absurd (let clash : Start ∷ rest ≡ Describe ∷ [] = e in cc)
-synced_ready i k b m dev (Putting n value requested left) rest e rests h = absurd (let clash : Start ∷ rest ≡ Set n value ∷ [] = e in cc)
-synced_ready i k b m dev (Getting n left) rest e rests h = absurd (let clash : Start ∷ rest ≡ Get n ∷ [] = e in cc)
-synced_ready i k b m dev Starting rest e rests (inl h) = (h, refl)
-synced_ready i k b m dev Starting rest e rests (inr h) = absurd (let clash : Resting ≡ Between h.last (h.frame ∷ h.more) = sym rests ∙ h.held.phase_is in cc)
-synced_ready i k b m dev Shaping rest e rests h = absurd (let clash : Start ∷ rest ≡ Parameters ∷ [] = e in cc)
-synced_ready i k b m dev (Imaging params heard) rest e rests h = absurd (let clash : Start ∷ rest ≡ [] = e in cc)
-
-none_asked : {A : Type 0} (todo rest : List AbstractRequest) → todo ≡ [] → todo ≡ Start ∷ rest → A
-none_asked todo rest none e = absurd (let clash : [] ≡ Start ∷ rest = sym none ∙ e in cc)
-
--- it is ready to start a page
-pub starts_ready : (i : ℕ) (k : Make) (p : JobState) (dev : AbstractDevice) (stage : JobStage) (rest : List AbstractRequest) → IsUnderWay stage → StageInvariant i k p dev stage → p.todo ≡ Start ∷ rest → dev.phase ≡ Resting → Ready i k p.session p.client dev × (stage ≡ Running Starting)
-starts_ready i k p dev Idle rest on h e rests = none_asked p.todo rest h.1 e
-starts_ready i k p dev (Running g) rest on (inl h) e rests = let r = synced_ready i k p.session p.client dev g rest (sym e ∙ h.todo) rests h.in_sync in (r.0, ap (λ (x : AbstractProgress). Running x) r.1)
-starts_ready i k p dev (Running g) rest on (inr (inl h)) e rests = none_asked p.todo rest h.todo e
-starts_ready i k p dev (Running g) rest on (inr (inr h)) e rests = none_asked p.todo rest h.todo e
-starts_ready i k p dev Done rest on h e rests = absurd on
-starts_ready i k p dev (Ended status why) rest on h e rests = absurd on
 
 as_many : (k : Make) (settings : List RequestedSetting) (begins : List Begin) (pages : List (List Frame)) → ArePictures k settings begins pages → length begins ≡ length pages
 as_many k settings [] [] h = refl

@@ -5,7 +5,7 @@ use Rattle.device_api.specs.State.{DeviceState, HeldPage, Phase as AnyPhase, fir
 use Rattle.device_api.specs.State.Phase.{AtRest as Rest, Between as Amid, Reading as Read}
 use Rattle.scan_laws.specs.Passes.{IsInScan}
 use Rattle.system_model.specs.AbstractMessages.{AbstractRequest, Init, GetDevices, Open, Authorize, Describe, Get, Set, Parameters, Start, Cancel, Close, Exit}
-use Rattle.system_model.specs.AbstractDevices.{AbstractDevice, Begin, Resting, is_resting}
+use Rattle.system_model.specs.AbstractDevices.{AbstractDevice, Begin, Between, Resting, is_resting}
 use Rattle.system_model.specs.Actions.{is_some_begun}
 use Rattle.system_model.specs.Client.{AbstractProgress, JobStage, Idle, Running, Done, Ended, Greeting, Listing, Opening, Allowing, Describing, Putting, Getting, Starting, Shaping, Imaging, ClientView, request_awaited}
 use Rattle.system_model.specs.Devices.{Make}
@@ -15,7 +15,7 @@ use Rattle.system_model.specs.Sync.{InSync, Pauses, Ready}
 use Rattle.system_model.specs.Transitions.{IsUnderWay}
 use Rattle.daemon_refines.specs.ContextRefinement.{abstract_device, page_views, pages_to_come}
 use Rattle.daemon_refines.proofs.Scanning.{rests}
-use Rattle.world_contract.proofs.Evident.{StartsEmpty}
+use Rattle.world_contract.proofs.Evident.{StartsDry, StartsEmpty}
 
 no_views : (pages : List HeldPage) → page_views pages ≡ [] → pages ≡ []
 no_views [] e = refl
@@ -90,3 +90,32 @@ pub page_there : (holder : Option ℕ) (dev : AbstractDevice) (s : DeviceState) 
 page_there holder dev s page later rest tray is scans =
     let at = rests_there holder dev s rest is scans in
     rests_on s s.phase page later at (sym (ap (λ (x : AbstractDevice). x.tray) is) ∙ tray)
+
+-- ---- at a start of a page its device is at rest
+
+synced_ready : (i : ℕ) (k : Make) (b : SessionView) (m : ClientView) (dev : AbstractDevice) (g : AbstractProgress) (rest : List AbstractRequest) → Start ∷ rest ≡ request_awaited g → dev.phase ≡ Resting → InSync i k b m dev g → Ready i k b m dev × (g ≡ Starting)
+synced_ready i k b m dev Greeting rest e rests h = absurd (let clash : Start ∷ rest ≡ Init ∷ [] = e in cc)
+synced_ready i k b m dev Listing rest e rests h = absurd (let clash : Start ∷ rest ≡ GetDevices ∷ [] = e in cc)
+synced_ready i k b m dev Opening rest e rests h = absurd (let clash : Start ∷ rest ≡ Open ∷ [] = e in cc)
+synced_ready i k b m dev (Allowing c) rest e rests h = absurd (let clash : Start ∷ rest ≡ Authorize c ∷ [] = e in cc)
+synced_ready i k b m dev (Describing left) rest e rests h = absurd (let clash : Start ∷ rest ≡ Describe ∷ [] = e in cc)
+synced_ready i k b m dev (Putting n value requested left) rest e rests h = absurd (let clash : Start ∷ rest ≡ Set n value ∷ [] = e in cc)
+synced_ready i k b m dev (Getting n left) rest e rests h = absurd (let clash : Start ∷ rest ≡ Get n ∷ [] = e in cc)
+synced_ready i k b m dev Starting rest e rests (inl h) = (h, refl)
+synced_ready i k b m dev Starting rest e rests (inr h) = absurd (let clash : Resting ≡ Between h.last (h.frame ∷ h.more) = sym rests ∙ h.held.phase_is in cc)
+synced_ready i k b m dev Shaping rest e rests h = absurd (let clash : Start ∷ rest ≡ Parameters ∷ [] = e in cc)
+synced_ready i k b m dev (Imaging params heard) rest e rests h = absurd (let clash : Start ∷ rest ≡ [] = e in cc)
+
+-- it is ready to start a page
+pub starts_ready : (i : ℕ) (k : Make) (p : JobState) (dev : AbstractDevice) (stage : JobStage) (rest : List AbstractRequest) → IsUnderWay stage → StageInvariant i k p dev stage → p.todo ≡ Start ∷ rest → dev.phase ≡ Resting → Ready i k p.session p.client dev × (stage ≡ Running Starting)
+starts_ready i k p dev Idle rest on h e rests = none_asked p.todo rest h.1 e
+starts_ready i k p dev (Running g) rest on (inl h) e rests = let r = synced_ready i k p.session p.client dev g rest (sym e ∙ h.todo) rests h.in_sync in (r.0, ap (λ (x : AbstractProgress). Running x) r.1)
+starts_ready i k p dev (Running g) rest on (inr (inl h)) e rests = none_asked p.todo rest h.todo e
+starts_ready i k p dev (Running g) rest on (inr (inr h)) e rests = none_asked p.todo rest h.todo e
+starts_ready i k p dev Done rest on h e rests = absurd on
+starts_ready i k p dev (Ended status why) rest on h e rests = absurd on
+
+pub dry_there : (i : ℕ) (k : Make) (p : JobState) (dev : AbstractDevice) (stage : JobStage) → StageInvariant i k p dev stage → IsUnderWay stage → StartsDry p dev → (dev.holder ≡ Some i) × ((d : DeviceState) → dev ≡ abstract_device (Some i) d → IsInScan d → d.pages ≡ [])
+dry_there i k p dev stage inv on c =
+    let ready = starts_ready i k p dev stage c.0 on inv c.1 c.2 in
+    (ready.0.held.mine, λ d is scans. no_pages (Some i) dev d c.2 c.3 is scans)

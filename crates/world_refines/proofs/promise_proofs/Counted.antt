@@ -37,7 +37,7 @@ laid_count false past pages endpoint e h =
 laid_by : (task : Task) (o : Outcome) (past : JoinHistory) → is_done o ≡ true → is_batch task ≡ true → is_laid task o past ≡ is_joined past.ended
 laid_by task o past d b = ap (λ (x : Bool). cond x (cond (is_batch task) (is_joined past.ended) false) false) d ∙ ap (λ (x : Bool). cond x (is_joined past.ended) false) b
 
-pages_count : (t : Ghost) (w : WorldCore) (i : ℕ) (endpoint : Endpoint) → WorldRefines t w → slice_get w.endpoints i ≡ Some endpoint → is_done endpoint.client.outcome ≡ true → is_batch (t.jobs i).task ≡ true → endpoint.finished ≡ length (t.system.job i).client.pages
+pub pages_count : (t : Ghost) (w : WorldCore) (i : ℕ) (endpoint : Endpoint) → WorldRefines t w → slice_get w.endpoints i ≡ Some endpoint → is_done endpoint.client.outcome ≡ true → is_batch (t.jobs i).task ≡ true → endpoint.finished ≡ length (t.system.job i).client.pages
 pages_count t w i endpoint h at done batch =
     let s = h.endpoints i endpoint at in
     let me = t.system.job i in
