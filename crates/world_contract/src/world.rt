@@ -206,6 +206,10 @@ impl World {
         /// INEXACT just where it differs.
         /// Carried by: `kept` of `World::outcome`: `answered` of `JobIsDone`
         ///
+        /// A show that is done tells each option of its device, and no other, with its descriptor and the value in force, where
+        /// that can be read, as the job's settings left them.
+        /// Carried by: `kept` of `World::outcome`: `shown` of `JobIsDone`
+        ///
         /// It was permitted: no line of the users names its backend, or its user and password are allowed for some
         /// challenge.
         /// Carried by: `kept` of `World::outcome`: `permitted`
@@ -313,7 +317,8 @@ impl World {
     pub fn finished(&self, i: usize) -> u32
         ensures is { let w = seen_world ⟦<Box<dyn Device> as Device>⟧.state self.now.inner in
             result ≡ finished_at w i }
-        /// A batch that is done has finished as many pages as it wanted, or fewer and at least one.
+        /// A batch that is done has finished as many pages as it wanted, or fewer and at least one; then its device had no
+        /// page more as it asked for a start.
         /// Carried by: `kept` of `World::finished`: `CountIsKept`
         ensures kept { let w = seen_world ⟦<Box<dyn Device> as Device>⟧.state self.now.inner in
             KeepsPageCount w i result }
