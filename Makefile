@@ -3,7 +3,7 @@ PREFIX ?= /usr/local
 BIN = $(DESTDIR)$(PREFIX)/bin
 MAN = $(DESTDIR)$(PREFIX)/share/man
 
-# Of make demo: a page of one gray sample, 200, at 26 dots per inch; and a color scan of a page of examples.
+# Of make demo: the first of two gray samples, 10 and 200, at 26 dots per inch; and a color scan of a page of examples.
 PIXEL_CONFIG := flatbed 0 26 hex:50350a3220310a3235350a0ac8
 PIXEL_WORDS := --config - --resolution 26 --br-x 1 --br-y 1
 PICTURE_CONFIG := flatbed 0 30 hills.ppm
