@@ -7,8 +7,7 @@ import subprocess
 
 from parse import ROOT, functions, read
 
-PAGE = f"{ROOT}/docs/MUTANTS.md"
-MOST, SHARE = 120, 20
+PAGE, MOST, SHARE = f"{ROOT}/docs/MUTANTS.md", 120, 20
 ROW = re.compile(r"^\| `(\w+)` \| \S+ \| (\w+) \|", re.M)
 HUNK = re.compile(r"^@@ \S+ \+(\d+)(?:,(\d+))? @@")
 NO_TEXT = re.compile(r"^[+-]\s*((//|--).*)?$")

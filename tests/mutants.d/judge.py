@@ -70,7 +70,7 @@ class Said:
         return f"{name}: {errors[0]}" if name and errors and not any(LOST_NAME.search(it) for it in errors) else ""
 
     def first_error(self):
-        return next((it for it in self.lines if PROOF_ERROR.match(it)), "") or next((it for it in self.lines if "error" in it or "no proof" in it), self.lines[0])
+        return next((it for it in self.lines if PROOF_ERROR.match(it) and ": note:" not in it), "") or next((it for it in self.lines if "error" in it or "no proof" in it), self.lines[0])
 
 
 def asked(text, line, column):

@@ -22,13 +22,14 @@ def read(path):
 
 @functools.cache
 def functions(text):
-    """Of each function of a file its first line, from 1, that of its body's brace, and its last; a law's last two are one."""
+    """Of each function with a body its first line, from 1, that of its body's brace, and its last; a law's last two are one."""
     lines, found = text.split("\n"), []
     for at, line in enumerate(lines):
         if begun := FUNCTION.match(line):
             body = next((i for i in range(at, len(lines)) if re.match(rf"^{begun[1]}(\S.*)?(\{{|\{{\}}|;)$", lines[i])), at)
             has_none = lines[body].endswith(("{}", ";"))
-            found.append((at + 1, body + 1, 1 + (body if has_none else lines.index(begun[1] + "}", body))))
+            end = body if has_none else next((i for i in range(body, len(lines)) if lines[i] == begun[1] + "}"), -1)
+            found += [(at + 1, body + 1, end + 1)] * (end >= body)
     return found
 
 
