@@ -1,10 +1,13 @@
 """A stranger of another user, who dials a session's data ports before its client does: a frame goes to the user who asked for it.
 Users are told apart by the system's table of sockets, so where the daemon has none all is as without it."""
+import atexit
 import contextlib
 # What sockets import by themselves, where another user may not be able to read it.
 import encodings.idna  # noqa: F401
+import functools
 import os
 import random
+import shutil
 import signal
 import socket
 import struct
@@ -13,8 +16,8 @@ import time
 
 import wire
 from left import Differs, Session, noise_page
-from strangers import hide_the_table, is_passed, says
-from world import Daemon, connected, ending, is_whole, read, start
+from strangers import can_hide, hide_the_table, is_passed, says
+from world import SCANIMAGE, Daemon, connected, ending, is_whole, read, start
 
 # Users whom nobody else has.
 ROOT_USER, ANN, BOB = 0, 64_201, 64_202
@@ -240,9 +243,20 @@ def free_ports(count):
 DEVICES = ["flatbed:0", "threepass:0"]
 
 
+@functools.cache
+def scanimage_for_all():
+    """A copy of scanimage that every user may run, wherever the checkout stands."""
+    folder = tempfile.mkdtemp()
+    atexit.register(shutil.rmtree, folder, True)
+    os.chmod(folder, 0o755)
+    copy = shutil.copy(SCANIMAGE, folder)
+    os.chmod(copy, 0o755)
+    return copy
+
+
 def begins_to_scan(daemon, at, user, **more):
     words = ["-d", f"net:localhost:{DEVICES[at % 2]}", "--port", str(daemon.port), "--resolution", "26", "--mode", "Color"]
-    return start(words, user=user, **more)
+    return start(words, scanimage_for_all(), user=user, **more)
 
 
 def looped(tally, scale):
@@ -325,5 +339,5 @@ def owners(tally, scale):
     if os.geteuid() != ROOT_USER:
         print("hostile: not root, so no stranger of another user comes", flush=True)
         return
-    for each in (ordered, looped, untold, unlisted):
+    for each in (ordered, looped, *([untold] if can_hide() else []), unlisted):
         each(tally, scale)

@@ -4,6 +4,7 @@ daemon has no table of sockets by which it could tell users apart; strangers of 
 import ctypes
 import os
 import socket
+import subprocess
 import tempfile
 
 import wire
@@ -253,13 +254,21 @@ def hide_the_table():
         raise OSError(ctypes.get_errno(), "no mounts of its own")
 
 
+def can_hide():
+    """Whether what this process starts may have mounts of its own: root's, where the system lets him."""
+    try:
+        return os.geteuid() == 0 and subprocess.run(["true"], preexec_fn=hide_the_table, check=False).returncode == 0
+    except (OSError, subprocess.SubprocessError):
+        return False
+
+
 def thefts(tally, scale):
     """What a data connection that carries no password lets happen, and that its client goes on behind it."""
     theft(tally, scale, THEFTS, "")
-    if os.geteuid() == 0:
+    if can_hide():
         theft(tally, scale, UNTOLD, ", no /proc", preexec_fn=hide_the_table)
     else:
-        print("hostile: not root, so no daemon is without /proc", flush=True)
+        print("hostile: no mounts of its own here, so no daemon is without /proc", flush=True)
 
 
 def theft(tally, scale, acts, where, **more):
