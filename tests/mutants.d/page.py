@@ -13,7 +13,7 @@ from trying import BAD, CODE, GOAL, LAW, NOT, TEXT
 FATES = (GOAL, LAW, CODE, TEXT, NOT, BAD)
 HEAD = """# Mutants
 
-An edit is a small change that the prover must refuse: of a body, or of a statement (a definition, a clause, a law). `make mutants` tries all and writes this page, `tests/mutants CRATE` those of a crate and its row: by which kit, on the text of which commit, when, how many, and what they came to. One of a body counts where a goal of its function is not proved, one of a statement where a law is not, a right body beside one where it is proved; what code alone refuses, or only a proof's text that no longer fits, counts for nothing. How it is done stands in [TESTING.md](TESTING.md#mutants).
+An edit is a small change that the prover must refuse: of a body, or of a statement (a definition, a clause, a law). `make mutants` tries all and writes this page, `tests/mutants CRATE` those of a crate and its row: by which kit, on the text of which commit, when, how many, and what they came to. One of a body counts where a goal of its function is not proved, one of a statement where a law is not, a right body beside one where it is proved; what code alone refuses, or only a proof's text that no longer fits, counts for nothing. How it is done stands in [TESTING.md](TESTING.md#mutants). A crate without a row was not tried since this page stands.
 
 | crate | kit | commit | date | tried | by a goal | by a law | by code alone | by a text alone | not refused | no edit |
 |---|---|---|---|---|---|---|---|---|---|---|

@@ -105,8 +105,9 @@ impl World {
         ensures runs { let w = seen_world ⟦<Box<dyn Device> as Device>⟧.state self.old.inner in
             let v = seen_world ⟦<Box<dyn Device> as Device>⟧.state self.new.inner in
             Runs source_state events.items w v }
-        ensures led { let w = seen_world ⟦<Box<dyn Device> as Device>⟧.state self.old.inner in
-            let v = seen_world ⟦<Box<dyn Device> as Device>⟧.state self.new.inner in
+        ensures led { let seen = seen_world ⟦<Box<dyn Device> as Device>⟧.state in
+            let w = seen self.old.inner in
+            let v = seen self.new.inner in
             (h : History) → LedTo h w → LedTo (and_then h events.items) v }
         /// A job that is over keeps its outcome, its file and its finished pages, whatever comes.
         /// Carried by: `over` of `World::run`, `World::run_all` and `jobs_end_once`
@@ -134,8 +135,9 @@ impl World {
         ensures cancel { let w = seen_world ⟦<Box<dyn Device> as Device>⟧.state self.old.inner in
             let v = seen_world ⟦<Box<dyn Device> as Device>⟧.state self.new.inner in
             CancelEnds events.items w v }
-        ensures loss { let w = seen_world ⟦<Box<dyn Device> as Device>⟧.state self.old.inner in
-            let v = seen_world ⟦<Box<dyn Device> as Device>⟧.state self.new.inner in
+        ensures loss { let seen = seen_world ⟦<Box<dyn Device> as Device>⟧.state in
+            let w = seen self.old.inner in
+            let v = seen self.new.inner in
             (h : History) → LedTo h w → LossEnds h events.items w v }
         ensures image_loss { let seen = seen_world ⟦<Box<dyn Device> as Device>⟧.state in
             let w = seen self.old.inner in
@@ -150,11 +152,13 @@ impl World {
         /// Events of other jobs, and devices that are taken out, leave a session as it stands, with all that it has.
         /// These, and pages that are laid in, leave a device that it has within a scan as it is.
         /// Carried by: `sessions`, `scans` of `World::run`
-        ensures sessions { let w = seen_world ⟦<Box<dyn Device> as Device>⟧.state self.old.inner in
-            let v = seen_world ⟦<Box<dyn Device> as Device>⟧.state self.new.inner in
+        ensures sessions { let seen = seen_world ⟦<Box<dyn Device> as Device>⟧.state in
+            let w = seen self.old.inner in
+            let v = seen self.new.inner in
             (h : History) → LedTo h w → SessionsStay events.items w v }
-        ensures scans { let w = seen_world ⟦<Box<dyn Device> as Device>⟧.state self.old.inner in
-            let v = seen_world ⟦<Box<dyn Device> as Device>⟧.state self.new.inner in
+        ensures scans { let seen = seen_world ⟦<Box<dyn Device> as Device>⟧.state in
+            let w = seen self.old.inner in
+            let v = seen self.new.inner in
             (h : History) → LedTo h w → ScansStay events.items w v }
         /// Within a scan the page stays: a device that a session has in front of an event and behind it, neither time
         /// at rest, has the same first page both times; where the event delivers requests of the session's own job, so
