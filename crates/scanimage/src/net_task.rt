@@ -42,7 +42,7 @@ fn run_job(rt: &HostRuntime, host: &[u8], job: Job, options: &Options) -> Result
     ensures ran { IfOk result (RanThere job host.now) }
     ensures failed { IfErr result IsFailure }
 {
-    let mut dial = HostDial::new(rt, host).ok_or(Ending::ending_of_loss())?;
+    let mut dial = HostDial::new(rt, host, options.dial_first).ok_or(Ending::ending_of_loss())?;
     let mut control = dial
         .dial(port_of(options))
         .map_err(|_| Ending::ending_of_loss())?;
