@@ -16,7 +16,7 @@ use Rattle.client_replies.specs.declared.progress.Progress.TheVariants as stages
 use Rattle.client_replies.specs.ProtocolStates.{is_batch, is_ended, is_running, scans, turns}
 use Rattle.net_client.specs.ClientStates.{ClientRepresents, ClientState, Stays, TakesPage, Turns, TurnsPage}
 use Rattle.net_jobs.specs.JobJournal.{AreGives, GivesFileBytes, JobMove, MovesLead, given_by}
-use Rattle.net_jobs.specs.JobJournal.JobMove.{Writes, Fails, Hears, Resumes, Dials, Takes, Gives, Loses}
+use Rattle.net_jobs.specs.JobJournal.JobMove.{Writes, Fails, Hears, Resumes, Prepares, Dials, Takes, Gives, Loses}
 use Rattle.net_jobs.specs.JobSteps.{FileGoesOn, GivesNone, GivesOut, PageEnds}
 use Rattle.in_flight.specs.Requests.{with_unheard}
 use Rattle.in_flight.proofs.Requests.{histories_alike, pages_alike}
@@ -73,6 +73,7 @@ gives_on past old (Writes bytes ∷ gives) new still serves are leads = absurd a
 gives_on past old (Fails bytes ∷ gives) new still serves are leads = absurd are
 gives_on past old (Hears piece ∷ gives) new still serves are leads = absurd are
 gives_on past old (Resumes ∷ gives) new still serves are leads = absurd are
+gives_on past old (Prepares port ∷ gives) new still serves are leads = absurd are
 gives_on past old (Dials port made ∷ gives) new still serves are leads = absurd are
 gives_on past old (Takes piece ∷ gives) new still serves are leads = absurd are
 gives_on past old (Loses link reason ∷ gives) new still serves are leads = absurd are
@@ -197,6 +198,7 @@ gives_turning past old (Writes bytes ∷ gives) new on serves are leads = absurd
 gives_turning past old (Fails bytes ∷ gives) new on serves are leads = absurd are
 gives_turning past old (Hears piece ∷ gives) new on serves are leads = absurd are
 gives_turning past old (Resumes ∷ gives) new on serves are leads = absurd are
+gives_turning past old (Prepares port ∷ gives) new on serves are leads = absurd are
 gives_turning past old (Dials port made ∷ gives) new on serves are leads = absurd are
 gives_turning past old (Takes piece ∷ gives) new on serves are leads = absurd are
 gives_turning past old (Loses link reason ∷ gives) new on serves are leads = absurd are

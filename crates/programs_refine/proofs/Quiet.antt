@@ -8,7 +8,7 @@ use Rattle.client_replies.specs.declared.progress.Progress.TheVariants as stages
 use Rattle.client_replies.specs.ProtocolStates.{is_lost_by, wanted_port}
 use Rattle.net_client.specs.ClientStates.{ClientState}
 use Rattle.net_jobs.specs.JobJournal.{DialsPort, JobMove, LosesLink, MissesPort, MoveLeads, WritesAll, WritesShort, after_loss}
-use Rattle.net_jobs.specs.JobJournal.JobMove.{Writes, Fails, Hears, Resumes, Dials, Takes, Gives, Loses}
+use Rattle.net_jobs.specs.JobJournal.JobMove.{Writes, Fails, Hears, Resumes, Prepares, Dials, Takes, Gives, Loses}
 use Rattle.net_jobs.specs.JobSteps.{is_failed_write}
 use Rattle.interleaving.specs.Interleavings.{heard_with, made_with, sent_with, taken_with}
 use Rattle.interleaving.specs.HandingOn.{Owner}
@@ -162,6 +162,7 @@ pub quiet_move : (owner : Owner) (opened : ℕ) (flying : ℕ → List ℕ) (pas
     → JobTracks owner opened flying passed x i job c p → JobTracks owner opened flying passed (traffics_moved move x) i job new p
 quiet_move owner opened flying passed i job x c new p (Writes bytes) is timely ok m t = writes (record { owner = owner; opened = opened; flying = flying; passed = passed; i = i; job = job }) x c new p bytes timely ok m t
 quiet_move owner opened flying passed i job x c new p (Fails bytes) is timely ok m t = fails (record { owner = owner; opened = opened; flying = flying; passed = passed; i = i; job = job }) x c new p bytes timely ok m t
+quiet_move owner opened flying passed i job x c new p (Prepares port) is timely ok m t = subst (λ (z : ClientState). JobTracks owner opened flying passed x i job z p) (sym m.same) t
 quiet_move owner opened flying passed i job x c new p (Dials port true) is timely ok m t = dials (record { owner = owner; opened = opened; flying = flying; passed = passed; i = i; job = job }) x c new p port timely m t
 quiet_move owner opened flying passed i job x c new p (Dials port false) is timely ok m t = misses (record { owner = owner; opened = opened; flying = flying; passed = passed; i = i; job = job }) x c new p port timely m t
 quiet_move owner opened flying passed i job x c new p (Loses link reason) is timely ok m t = loses (record { owner = owner; opened = opened; flying = flying; passed = passed; i = i; job = job }) x c new p link timely m t

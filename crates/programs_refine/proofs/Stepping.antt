@@ -7,7 +7,7 @@ use Rattle.scan_job.specs.declared.job.Job.{Job}
 use Rattle.client_replies.specs.ProtocolStates.{is_receiving, is_running}
 use Rattle.net_client.specs.ClientStates.{ClientState, HasEarlyReply}
 use Rattle.net_jobs.specs.JobJournal.{JobMove, MoveLeads}
-use Rattle.net_jobs.specs.JobJournal.JobMove.{Writes, Fails, Hears, Resumes, Dials, Takes, Gives, Loses}
+use Rattle.net_jobs.specs.JobJournal.JobMove.{Writes, Fails, Hears, Resumes, Prepares, Dials, Takes, Gives, Loses}
 use Rattle.net_jobs.specs.JobSteps.{HearsAndGives, JobStep, StepLeads, TakesAndGives}
 use Rattle.saned_core.specs.DaemonStates.{Core}
 use Rattle.saned_serve.specs.Journal.{IsFront}
@@ -187,6 +187,7 @@ pub steps_on : (source : Source → SourceState) (first : WorldCore) (owner : Ow
     → StepLeads (c i) (record { move = move; gives = gives; turned = turned }) (c_new i) → Behind source first owner jobs passed done_new d c_new
 steps_on source first owner jobs passed done done_new d c c_new t i job (Writes bytes) gives turned only hears memory files at one timely ok may stands s = by_quiet_move source first owner jobs passed done done_new d c c_new t i job (Writes bytes) gives turned at one tt timely ok s.0 s.1 s.2
 steps_on source first owner jobs passed done done_new d c c_new t i job (Fails bytes) gives turned only hears memory files at one timely ok may stands s = by_quiet_move source first owner jobs passed done done_new d c c_new t i job (Fails bytes) gives turned at one tt timely ok s.0 s.1 s.2
+steps_on source first owner jobs passed done done_new d c c_new t i job (Prepares port) gives turned only hears memory files at one timely ok may stands s = by_quiet_move source first owner jobs passed done done_new d c c_new t i job (Prepares port) gives turned at one tt timely ok s.0 s.1 s.2
 steps_on source first owner jobs passed done done_new d c c_new t i job (Dials port true) gives turned only hears memory files at one timely ok may stands s = by_quiet_move source first owner jobs passed done done_new d c c_new t i job (Dials port true) gives turned at one tt timely ok s.0 s.1 s.2
 steps_on source first owner jobs passed done done_new d c c_new t i job (Dials port false) gives turned only hears memory files at one timely ok may stands s = by_quiet_move source first owner jobs passed done done_new d c c_new t i job (Dials port false) gives turned at one tt timely ok s.0 s.1 s.2
 steps_on source first owner jobs passed done done_new d c c_new t i job (Loses link reason) gives turned only hears memory files at one timely ok may stands s = by_quiet_move source first owner jobs passed done done_new d c c_new t i job (Loses link reason) gives turned at one tt timely ok s.0 s.1 s.2

@@ -1,7 +1,7 @@
 -- What a step of a job's loop does on the job's connections.
 use Rattle.std.specs.Prelude.{true, false}
 use Rattle.net_jobs.specs.JobJournal.{JobMove}
-use Rattle.net_jobs.specs.JobJournal.JobMove.{Writes, Fails, Hears, Resumes, Dials, Takes, Gives, Loses}
+use Rattle.net_jobs.specs.JobJournal.JobMove.{Writes, Fails, Hears, Resumes, Prepares, Dials, Takes, Gives, Loses}
 use Rattle.net_jobs.specs.JobSteps.{JobStep}
 use Rattle.interleaving.specs.Interleavings.{Traffic}
 use Rattle.interleaving.specs.Interleavings.Traffic.{Writes as WritesBytes, Reads as ReadsBytes, Dials as MakesConnection, Takes as TakesBytes, NoTraffic}
@@ -11,6 +11,7 @@ traffic_of_move (Writes bytes) = WritesBytes bytes
 traffic_of_move (Fails bytes) = WritesBytes bytes
 traffic_of_move (Hears piece) = ReadsBytes piece
 traffic_of_move Resumes = NoTraffic
+traffic_of_move (Prepares port) = NoTraffic
 traffic_of_move (Dials port true) = MakesConnection
 traffic_of_move (Dials port false) = NoTraffic
 traffic_of_move (Takes piece) = TakesBytes piece
