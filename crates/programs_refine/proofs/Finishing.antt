@@ -23,9 +23,9 @@ use Rattle.programs_refine.specs.WorldHistory.{AreLosses, IsLoss, LeadsBy}
 use Rattle.programs_refine.proofs.Delivered.{if_linked}
 use Rattle.programs_refine.proofs.Lists.{there}
 use Rattle.programs_refine.proofs.Passed.{Passed, Traffics}
-use Rattle.programs_refine.proofs.Replied.{ends_as}
+use Rattle.programs_refine.proofs.Replied.{ends_as, stops_as}
 use Rattle.programs_refine.proofs.Serving.{comes}
-use Rattle.programs_refine.proofs.Tracks.{FilesTrack, Follows, IsUnlinked, JobTracks, Moved, Tracks, files_kept, moved, new_files_track, not_moved, done_behind_loss}
+use Rattle.programs_refine.proofs.Tracks.{FilesTrack, Follows, IsUnlinked, JobTracks, Moved, Tracks, files_kept, moved, new_files_track, not_moved, done_behind_loss, lost_outcome}
 use Rattle.programs_refine.proofs.Tracks.JobTracks.{Unlinked, Linked, Left}
 
 -- an event behind another of the same job
@@ -39,6 +39,7 @@ record Ends (source : Source → SourceState) (first w : WorldCore) (i : ℕ) (x
   m : Moved source first w i q e
   losses : AreLosses m.events
   ended : is_running c.outcome ≡ false → q.client.outcome ≡ c.outcome
+  stopped : is_running c.outcome ≡ true → q.client.outcome ≡ lost_outcome
   files : FilesTrack x.turned x.given q
 
 -- a job whose session stands loses its control connection
@@ -58,6 +59,7 @@ lost_now source before first w i x c p id pending dropped l are at link follows 
       m = comes source before first w i p q events.LoseControl e l at tt (subst IsSome (sym link) refl) does;
       losses = losses_more before (LoseControl i) are tt;
       ended = λ over. ends_as pending dropped (is_running p.client.outcome) c p.client refl follows over;
+      stopped = stops_as pending dropped c p.client follows;
       files = files_kept x.turned x.given p q (record { file = refl; pages = refl; finished = refl; task = refl; done = done_behind_loss links.Control p.client }) files;
     }
 
@@ -85,6 +87,7 @@ connects_late source before first w owner opened passed i x job c p l are at u =
           m = comes source before first w i p q events.Connect w.daemon l at tt (runs, waits) does;
           losses = losses_more before (Connect i) are tt;
           ended = λ over. ends_as false false (is_running p.client.outcome) c p.client refl u.follows over;
+          stopped = stops_as false false c p.client u.follows;
           files = files_kept x.turned x.given p q (record { file = refl; pages = refl; finished = refl; task = refl; done = done_behind_loss links.Control p.client }) files;
         }
     by false room =
@@ -95,14 +98,14 @@ connects_late source before first w owner opened passed i x job c p l are at u =
         let m = comes source before first w i p q events.Connect e l at tt (runs, waits) does in
         let linked = files_kept x.turned x.given p q (record { file = refl; pages = refl; finished = refl; task = refl; done = λ done. done }) files in
         let lost = lost_now source m.events first m.v i x c q id false false m.leads (losses_more before (Connect i) are tt) m.own refl u.follows linked in
-        record { q = lost.q; e = lost.e; m = twice source first w i q lost.q e lost.e m lost.m; losses = lost.losses; ended = lost.ended; files = lost.files }
+        record { q = lost.q; e = lost.e; m = twice source first w i q lost.q e lost.e m lost.m; losses = lost.losses; ended = lost.ended; stopped = lost.stopped; files = lost.files }
 
 finish_one : (source : Source → SourceState) (before : List Event) (first w : WorldCore) (owner : Owner) (opened : ℕ) (flying : ℕ → List ℕ) (passed : ℕ → Passed) (i : ℕ) (x : Traffics) (job : Job) (c : ClientState) (p : Endpoint) → LeadsBy source first before w → AreLosses before → slice_get w.endpoints i ≡ Some p → JobTracks owner opened flying passed x i job c p
     → Ends source first w i x c
 unfolding not_moved
 finish_one source before first w owner opened flying passed i x job c p l are at (Unlinked u) = connects_late source before first w owner opened passed i x job c p l are at u
 finish_one source before first w owner opened flying passed i x job c p l are at (Linked k own low k_linked) = lost_now source before first w i x c p k_linked.id k_linked.pending (passed k).dropped l are at k_linked.link k_linked.follows k_linked.files
-finish_one source before first w owner opened flying passed i x job c p l are at (Left k own low shut h) = record { q = p; e = w.daemon; m = not_moved source before first w i p l at; losses = are; ended = h.ended; files = h.files }
+finish_one source before first w owner opened flying passed i x job c p l are at (Left k own low shut h) = record { q = p; e = w.daemon; m = not_moved source before first w i p l at; losses = are; ended = h.ended; stopped = h.stopped; files = h.files }
 
 -- ---- all jobs in turn
 
@@ -111,6 +114,7 @@ pub record IsAsEnded (v : WorldCore) (i : ℕ) (x : Traffics) (c : ClientState) 
   pub q : Endpoint
   pub at : slice_get v.endpoints i ≡ Some q
   pub ended : is_running c.outcome ≡ false → q.client.outcome ≡ c.outcome
+  pub stopped : is_running c.outcome ≡ true → q.client.outcome ≡ lost_outcome
   pub files : FilesTrack x.turned x.given q
 
 -- the jobs before this place are, and the others as they were
@@ -137,10 +141,10 @@ one_more source first owner jobs passed done d c t n low f =
     record { events = x.m.events; v = x.m.v; leads = x.m.leads; losses = x.losses; ended = λ i less within. by x i within (decide i n) less; kept = λ i high. x.m.others i (λ same. absurd (omega (arith, same, high))) ∙ f.kept i (omega (arith, high)) }
   where
     by : (x : Ends source t.w f.v n (done n) (c n)) → (i : ℕ) → i < length jobs → (i ≡ n) ⊎ (i ≢ n) → i < n + 1 → IsAsEnded x.m.v i (done i) (c i)
-    by x i within (inl same) less = subst (λ (k : ℕ). IsAsEnded x.m.v k (done k) (c k)) (sym same) (record { q = x.q; at = x.m.own; ended = x.ended; files = x.files })
+    by x i within (inl same) less = subst (λ (k : ℕ). IsAsEnded x.m.v k (done k) (c k)) (sym same) (record { q = x.q; at = x.m.own; ended = x.ended; stopped = x.stopped; files = x.files })
     by x i within (inr off) less =
         let was = f.ended i (less_than i n less off) within in
-        record { q = was.q; at = x.m.others i off ∙ was.at; ended = was.ended; files = was.files }
+        record { q = was.q; at = x.m.others i off ∙ was.at; ended = was.ended; stopped = was.stopped; files = was.files }
 
 pub finish_all : (source : Source → SourceState) (first : WorldCore) (owner : Owner) (jobs : List Job) (passed : ℕ → Passed) (done : ℕ → Traffics) (d : Core) (c : ℕ → ClientState) (t : Tracks source first owner jobs passed done d c) (n : ℕ) → n ≤ length jobs → FinishedTo source t.w t.w jobs done c n
 finish_all source first owner jobs passed done d c t zero low = record { events = []; v = t.w; leads = record { are = tt; runs = refl }; losses = tt; ended = λ i less within. absurd (omega (arith, less)); kept = λ i high. refl }

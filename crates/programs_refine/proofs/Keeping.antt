@@ -8,10 +8,15 @@ use Rattle.page_picture.specs.SourceView.{source_state}
 use Rattle.device_api.specs.State.{DeviceState, HeldPage}
 use Rattle.sane_fixed.specs.declared.device_info.DeviceInfo.{DeviceInfo}
 use Rattle.scan_job.specs.declared.job.Job.{Job}
+use Rattle.sane_fixed.specs.declared.status.Status.TheVariants as statuses
 use Rattle.scan_job.specs.declared.outcome.Outcome.{Outcome}
+use Rattle.scan_job.specs.declared.outcome.Outcome.TheVariants.{Done, Ended}
+use Rattle.scan_job.specs.declared.outcome.Why.TheVariants as whys
 use Rattle.client_replies.specs.ProtocolStates.{is_running, wanted_port}
 use Rattle.client_replies.specs.declared.progress.Progress.{Progress}
 use Rattle.net_client.specs.ClientStates.{ClientState}
+use Rattle.net_jobs.specs.JobSteps.{files_by_steps, given_by_steps}
+use Rattle.interleaving.specs.Interleavings.{job_journal}
 use Rattle.saned_core.specs.declared.session_slot.SessionId.{SessionId}
 use Rattle.saned_core.specs.DaemonStates.{Core}
 use Rattle.system_model.specs.Client as model
@@ -36,8 +41,8 @@ use Rattle.world_contract.specs.Calls.{AnswersAre, MovesNext, finished_by, is_st
 use Rattle.world_contract.specs.Histories.{History, LedTo}
 use Rattle.world_contract.specs.Laws.{AllIsRight}
 use Rattle.world_contract.specs.Promise.{CountIsKept, FileIsKept, JobAnswers, OutcomeIsKept, PageIsKept}
-use Rattle.programs_refine.specs.Keeping.{history_of, AllLoopsAreKept, AreFit, LoopIsKept, ProgramsKeepAll, WorldsHearInTurn, WorldsWantBeforeItFlows}
-use Rattle.programs_refine.specs.Programs.{Acts, ComeToAWorld, EndsAlike, HasFilesOf, IsWorldOf}
+use Rattle.programs_refine.specs.Keeping.{history_of, AllLoopsAreKept, AreFit, LoopIsKept, ProgramsKeepAll, StoppedIsKept, WorldsHearInTurn, WorldsWantBeforeItFlows}
+use Rattle.programs_refine.specs.Programs.{Acts, ComeToAWorld, EndsAlike, HasFilesOf, IsWorldOf, StopsAlike}
 use Rattle.programs_refine.specs.WorldHistory.{AreLosses, AreOfConnections, IsLoss, IsOfConnections, LeadsBy, WantsBeforeItFlows}
 use Rattle.programs_refine.proofs.Lists.{there}
 use Rattle.programs_refine.proofs.Outgoing.{never_both}
@@ -170,6 +175,18 @@ kept_by right h v acts i job last led at over x =
       count = subst (λ (f : ℕ). CountIsKept h v i job last.outcome f) (few_finished p x.finished x.text x.files) (subst (λ (o : Outcome). CountIsKept h v i job o (min p.finished 16)) x.outcome k.count);
     }
 
+stopped_by : (right : AllIsRight) (h : History) (v : WorldCore) (acts : Acts) (i : ℕ) (job : Job) → LedTo h v → slice_get h.jobs i ≡ Some job → StopsAlike v i acts → StoppedIsKept h v i job acts
+stopped_by right h v acts i job led at x =
+    let p = x.endpoint in
+    let k = right h v i job (answers_of p) (record { led = led; job_at = at }) (answers_are v i p x.at (ap is_running x.lost)) in
+    let turned = files_by_steps (job_journal i acts) in
+    let text = given_by_steps (job_journal i acts) in
+    record {
+      stops = x;
+      not_whole = λ whole. (let told = k.file.whole text x.files.file whole in let clash : Ended statuses.IoError whys.Lost ≡ Done told.0 = sym x.lost ∙ told.2 in cc);
+      pages = λ n bytes at. page_kept h v i job p turned text n bytes x.files at (k.pages (n + 1));
+    }
+
 led_by : (devices : List DeviceState) (jobs : List Job) (d : Core) (first v : WorldCore) (events : List Event) → AreFit devices jobs d → IsWorldOf d jobs first → LeadsBy source_state first events v → LedTo (history_of devices jobs d events) v
 led_by devices jobs d first v events fit is l = record {
   first = first;
@@ -212,6 +229,7 @@ keeps right devices jobs d acts end last fit a =
       v = l.v;
       led = led;
       each = λ i job at over. kept_by right (history_of devices jobs d events) l.v acts i job (last i) led at over (l.jobs_are i job at over);
+      stopped = λ i job at runs. stopped_by right (history_of devices jobs d events) l.v acts i job led at (l.stopped_are i job at runs);
     }
 
 -- of no job
@@ -224,6 +242,7 @@ keeps_none devices d acts last fit =
       v = w;
       led = led_by devices [] d w w [] fit (record { daemon = refl; endpoints = tt }) (record { are = tt; runs = refl });
       each = λ i job at over. absurd (let wrong : None ≡ Some job = at in cc);
+      stopped = λ i job at runs. absurd (let wrong : None ≡ Some job = at in cc);
     }
 
 pub all_kept : NewWorldsRefine → EventsFollow → WorldsHearInTurn → AllIsRight → ProgramsKeepAll

@@ -17,3 +17,6 @@ mod Timely
 mod Programs
 mod Keeping
 mod InTurn
+mod StoppedLoops
+pub mod WorkedRuns
+mod LedInto

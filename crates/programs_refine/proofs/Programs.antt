@@ -1,5 +1,5 @@
 -- The programs are a world.
-use Rattle.std.proofs.Common.{◌≡◌, inl, inr, ℕ, Some, List, [], ◌∷◌, ◌++◌, length, slice_get, refl, sym, subst, arith, ap, ◌∙◌}
+use Rattle.std.proofs.Common.{◌≡◌, inl, inr, ℕ, true, false, Some, List, [], ◌∷◌, ◌++◌, length, slice_get, refl, sym, subst, arith, ap, ◌∙◌}
 use Rattle.std.proofs.lemmas.List.Elements.{All-get_or}
 use Rattle.std.proofs.lemmas.Option.{get_or_from_slice_get, slice_get_within}
 use Rattle.scan_job.specs.declared.job.Job.{Job}
@@ -11,14 +11,14 @@ use Rattle.interleaving.specs.Interleavings.{job_journal}
 use Rattle.scan_world.specs.JobEvents.{is_done}
 use Rattle.scan_world.specs.Worlds.{WorldCore}
 use Rattle.scan_world.specs.declared.endpoint.Endpoint.{Endpoint}
-use Rattle.programs_refine.specs.Programs.{Acts, EndsAlike, ProgramsAreAWorld}
+use Rattle.programs_refine.specs.Programs.{Acts, EndsAlike, ProgramsAreAWorld, StopsAlike}
 use Rattle.programs_refine.proofs.Finishing.{finish_all}
 use Rattle.programs_refine.proofs.Passed.{traffics_of}
 use Rattle.programs_refine.proofs.Serving.{Setting}
 use Rattle.programs_refine.proofs.Simulated.{ActsLead, stand_behind}
 use Rattle.programs_refine.proofs.Simulation.{are_new, endpoints_of, new_files, new_limits}
 use Rattle.programs_refine.proofs.Timely.{arrange}
-use Rattle.programs_refine.proofs.Tracks.{FilesTrack}
+use Rattle.programs_refine.proofs.Tracks.{FilesTrack, lost_outcome}
 use Rattle.programs_refine.proofs.Tracks.FilesTrack.{UnderWay, AllFinished}
 
 ends_alike : (v : WorldCore) (i : ℕ) (acts : Acts) (last : ClientState) (p : Endpoint) → slice_get v.endpoints i ≡ Some p → p.client.outcome ≡ last.outcome → FilesTrack (files_by_steps (job_journal i acts)) (given_by_steps (job_journal i acts)) p → EndsAlike v i acts last
@@ -26,6 +26,10 @@ ends_alike v i acts last p at outcome (UnderWay h) =
     record { endpoint = p; at = at; outcome = outcome; finished = files_by_steps (job_journal i acts); text = given_by_steps (job_journal i acts); files = h; went_out = inl (refl, refl) }
 ends_alike v i acts last p at outcome (AllFinished batch done h) =
     record { endpoint = p; at = at; outcome = outcome; finished = files_by_steps (job_journal i acts) ++ given_by_steps (job_journal i acts) ∷ []; text = []; files = h; went_out = inr ((batch, ap is_done (sym outcome) ∙ done), refl, refl) }
+
+stops_alike : (v : WorldCore) (i : ℕ) (acts : Acts) (p : Endpoint) → slice_get v.endpoints i ≡ Some p → p.client.outcome ≡ lost_outcome → FilesTrack (files_by_steps (job_journal i acts)) (given_by_steps (job_journal i acts)) p → StopsAlike v i acts
+stops_alike v i acts p at lost (UnderWay h) = record { endpoint = p; at = at; lost = lost; files = h }
+stops_alike v i acts p at lost (AllFinished batch done h) = absurd (let clash : false ≡ true = sym (ap is_done lost) ∙ done in cc)
 
 pub programs_are : ProgramsAreAWorld
 programs_are source jobs owner d acts last r wants =
@@ -59,6 +63,11 @@ programs_are source jobs owner d acts last r wants =
             let x = f.ended i low low in
             let files = subst (λ (l : List JobStep). FilesTrack (files_by_steps l) (given_by_steps l) x.q) (same.jobs i) x.files in
             ends_alike f.v i acts (last i) x.q x.at (x.ended over) files;
+        stopped_are = λ i job at runs.
+            let low = slice_get_within jobs i job at in
+            let x = f.ended i low low in
+            let files = subst (λ (l : List JobStep). FilesTrack (files_by_steps l) (given_by_steps l) x.q) (same.jobs i) x.files in
+            stops_alike f.v i acts x.q x.at (x.stopped runs) files;
       };
     }
   where

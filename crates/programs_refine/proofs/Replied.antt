@@ -1,6 +1,6 @@
 -- What the acts of the server for a session do in the world: they give replies and records out, and hear requests.
 use Rattle.std.specs.Prelude.{◌<◌, ◌≤◌, ◌||◌, ◌&&◌, ◌+◌, IsSome}
-use Rattle.std.proofs.Common.{◌≡◌, ◌≢◌, ◌∙◌, inl, inr, ℕ, Bool, true, false, cond, Option, Some, None, List, [], ◌++◌, length, take, append_assoc, append-nil, refl, sym, ap, subst, arith}
+use Rattle.std.proofs.Common.{◌≡◌, ◌⊎◌, ◌≢◌, ◌∙◌, inl, inr, ℕ, Bool, true, false, cond, Option, Some, None, List, [], ◌++◌, length, take, append_assoc, append-nil, refl, sym, ap, subst, arith}
 use Rattle.client_replies.specs.declared.progress.Link.TheVariants as links
 use Rattle.client_replies.specs.declared.progress.Progress.{Progress}
 use Rattle.client_replies.specs.declared.progress.Progress.TheVariants as stages
@@ -388,6 +388,18 @@ ends_as pending dropped false c q e (Lost runs lost wants) over = never_both (is
 ends_as pending dropped false c q e (Cut off told gone (inl receives)) over = never_both (is_running c.outcome) (receiving_at c.outcome c.progress receives).runs over
 ends_as pending dropped false c q e (Cut off told gone (inr lost)) over = rw e (gone ∙ sym lost)
 
+-- a job that runs is lost in the world
+lost_by_loss : (b : Bool) (q : ClientState) → is_running q.outcome ≡ b → (b ≡ true) ⊎ (q.outcome ≡ lost_outcome) → (after_link_loss links.Control q).outcome ≡ lost_outcome
+lost_by_loss true q e either = rw e refl
+lost_by_loss false q e (inl runs) = absurd (let clash : false ≡ true = runs in cc)
+lost_by_loss false q e (inr lost) = rw e lost
+
+pub stops_as : (pending dropped : Bool) (c q : ClientState) → Follows pending dropped c q → is_running c.outcome ≡ true → (after_link_loss links.Control q).outcome ≡ lost_outcome
+stops_as pending dropped c q (Alike off same) runs = lost_by_loss (is_running q.outcome) q refl (inl (ap (λ (z : ClientState). is_running z.outcome) same ∙ runs))
+stops_as pending dropped c q (Dialled on wants running same) runs = lost_by_loss (is_running q.outcome) q refl (inl running)
+stops_as pending dropped c q (Lost running lost wants) runs = lost_by_loss (is_running q.outcome) q refl (inl running)
+stops_as pending dropped c q (Cut off told gone either) runs = lost_by_loss (is_running q.outcome) q refl (inr gone)
+
 pub leaves : (w : Core) (k : ℕ) (own : Passed) (flying : List ℕ) (x : Traffics) (c : ClientState) (p : Endpoint) → IsLinked own flying x k c p → LeftThere w k x c p
 leaves w k own flying x c p l =
     let q : Endpoint = without_link (after_move p) in
@@ -395,5 +407,5 @@ leaves w k own flying x c p l =
       q = q;
       can = subst IsSome (sym l.link) refl;
       does = if_linked p.link l.id k (λ j. (after_end_session w k ≡ after_end_session w j) × (q ≡ without_link (after_move p))) l.link l.number (refl, refl);
-      left = record { ended = λ over. ends_as l.pending own.dropped (is_running p.client.outcome) c p.client refl l.follows over; files = files_kept x.turned x.given p q (record { file = refl; pages = refl; finished = refl; task = refl; done = done_behind_loss links.Control p.client }) l.files };
+      left = record { ended = λ over. ends_as l.pending own.dropped (is_running p.client.outcome) c p.client refl l.follows over; stopped = stops_as l.pending own.dropped c p.client l.follows; files = files_kept x.turned x.given p q (record { file = refl; pages = refl; finished = refl; task = refl; done = done_behind_loss links.Control p.client }) l.files };
     }

@@ -157,6 +157,7 @@ pub record IsLinked (own : Passed) (flying : List ℕ) (done : Traffics) (k : �
 -- its session was left
 pub record HasLeft (done : Traffics) (c : ClientState) (p : Endpoint) : Type 0 where
   pub ended : is_running c.outcome ≡ false → p.client.outcome ≡ c.outcome
+  pub stopped : is_running c.outcome ≡ true → p.client.outcome ≡ lost_outcome
   pub files : FilesTrack done.turned done.given p
 
 pub data JobTracks (owner : Owner) (opened : ℕ) (flying : ℕ → List ℕ) (passed : ℕ → Passed) (done : Traffics) (i : ℕ) (job : Job) (c : ClientState) (p : Endpoint) : Type 0 where

@@ -1,5 +1,6 @@
 -- The promise of a world, of what programs come to.
-use Rattle.std.specs.Prelude.{ℕ, ◌≡◌, ◌+◌, false, Some, List, All, length, slice_get}
+use Rattle.std.specs.Prelude.{ℕ, ◌≡◌, ◌+◌, true, false, Some, List, All, length, slice_get}
+use Rattle.netpbm.specs.Pnm.{IsWhole}
 use Rattle.page_picture.specs.SourceView.{source_state}
 use Rattle.device_api.specs.ScannerLimits.{HasLimits}
 use Rattle.device_api.specs.State.{DeviceState}
@@ -7,19 +8,22 @@ use Rattle.dispatch.specs.RegistryFault.{HaveOwnNames}
 use Rattle.scan_job.specs.declared.job.Job.{Job}
 use Rattle.client_replies.specs.ProtocolStates.{is_running}
 use Rattle.net_client.specs.ClientStates.{ClientState}
+use Rattle.net_jobs.specs.JobSteps.{files_by_steps, given_by_steps}
 use Rattle.saned_core.specs.DaemonStates.{Core}
+use Rattle.interleaving.specs.Interleavings.{job_journal}
 use Rattle.interleaving.specs.HandingOn.{Owner}
 use Rattle.scan_world.specs.declared.event.Event.{Event}
 use Rattle.scan_world.specs.Worlds.{IsFitJob, WorldCore}
 use Rattle.world_refines.specs.NewWorlds.{IsNewDaemon}
 use Rattle.world_contract.specs.Histories.{History, LedTo}
 use Rattle.world_contract.specs.Promise.{CountIsKept, FileIsKept, OutcomeIsKept, PageIsKept}
-use Rattle.programs_refine.specs.Programs.{Acts, EndsAlike, IsWorldOf, RunOverConnections}
+use Rattle.programs_refine.specs.Programs.{Acts, EndsAlike, IsWorldOf, RunOverConnections, StopsAlike}
 use Rattle.programs_refine.specs.WorldHistory.{AlwaysHearsInTurn, AlwaysWantsBeforeItFlows, AreOfConnections}
 
 -- a new daemon of these devices, each within its limits, and jobs that a client takes
 pub record AreFit (devices : List DeviceState) (jobs : List Job) (d : Core) : Type 0 where
   pub daemon : IsNewDaemon devices d
+  -- no two have one name
   pub names : HaveOwnNames devices
   pub limits : All HasLimits devices
   pub fit : All IsFitJob jobs
@@ -36,8 +40,9 @@ WorldsHearInTurn = (devices : List DeviceState) (jobs : List Job) (other : Job) 
 abbrev pub history_of : List DeviceState → List Job → Core → List Event → History
 history_of devices jobs d events = record { devices = devices; users = d.users; jobs = jobs; events = events }
 
--- **is kept (`LoopIsKept`, `AllLoopsAreKept`)**: what a world promises of the outcome, the files and the count of pages of
--- a job, of what its loop came to, by a history of such events that led to a world where it is so.
+-- **is kept (`LoopIsKept`, `StoppedIsKept`, `AllLoopsAreKept`)**: what a world promises of the outcome, the files and the
+-- count of pages of a job, of what its loop came to, by a history of such events that led to a world where it is so; and of
+-- a job that was stopped while it ran, that no whole file went out but of pages that were turned, and each of these is kept.
 --
 -- a world's promise on the outcome and the files of a job, said of what its loop came to; memory ran out where it did in the world
 pub record LoopIsKept (h : History) (v : WorldCore) (i : ℕ) (job : Job) (acts : Acts) (last : ClientState) : Type 0 where
@@ -47,7 +52,15 @@ pub record LoopIsKept (h : History) (v : WorldCore) (i : ℕ) (job : Job) (acts 
   pub pages : (k : ℕ) (bytes : List ℕ) → slice_get ends.finished k ≡ Some bytes → PageIsKept h v i job ends.endpoint.out_of_memory (length ends.finished) (k + 1) (Some bytes)
   pub count : CountIsKept h v i job last.outcome (length ends.finished)
 
--- of each job that is over, in a world that events of connections led to
+-- of a job whose loop was stopped while it ran, as one that is killed: what went out of its file is no whole file, and each
+-- page that was turned is kept
+pub record StoppedIsKept (h : History) (v : WorldCore) (i : ℕ) (job : Job) (acts : Acts) : Type 0 where
+  pub stops : StopsAlike v i acts
+  pub not_whole : IsWhole (given_by_steps (job_journal i acts)) → ⊥
+  pub pages : (k : ℕ) (bytes : List ℕ) → slice_get (files_by_steps (job_journal i acts)) k ≡ Some bytes
+      → PageIsKept h v i job stops.endpoint.out_of_memory (length (files_by_steps (job_journal i acts))) (k + 1) (Some bytes)
+
+-- of each job that is over, and of each that was stopped, in a world that events of connections led to
 pub record AllLoopsAreKept (devices : List DeviceState) (jobs : List Job) (d : Core) (acts : Acts) (last : ℕ → ClientState) : Type 0 where
   pub events : List Event
   pub are : AreOfConnections events
@@ -55,6 +68,8 @@ pub record AllLoopsAreKept (devices : List DeviceState) (jobs : List Job) (d : C
   pub led : LedTo (history_of devices jobs d events) v
   pub each : (i : ℕ) (job : Job) → slice_get jobs i ≡ Some job → is_running (last i).outcome ≡ false
       → LoopIsKept (history_of devices jobs d events) v i job acts (last i)
+  pub stopped : (i : ℕ) (job : Job) → slice_get jobs i ≡ Some job → is_running (last i).outcome ≡ true
+      → StoppedIsKept (history_of devices jobs d events) v i job acts
 
 abbrev pub ProgramsKeepAll : Type 0
 ProgramsKeepAll =

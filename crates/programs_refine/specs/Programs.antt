@@ -4,7 +4,10 @@ use Rattle.page_picture.specs.Source.{SourceState}
 use Rattle.page_picture.specs.declared.sources.kinds.Source.{Source}
 use Rattle.scan_job.specs.declared.job.Job.{Job}
 use Rattle.scan_job.specs.declared.job.Task.{Task}
+use Rattle.sane_fixed.specs.declared.status.Status.TheVariants as statuses
 use Rattle.scan_job.specs.declared.outcome.Outcome.{Outcome}
+use Rattle.scan_job.specs.declared.outcome.Outcome.TheVariants.{Ended}
+use Rattle.scan_job.specs.declared.outcome.Why.TheVariants as whys
 use Rattle.scan_world.specs.JobEvents.{is_done}
 use Rattle.scan_job.specs.JobSize.{HasCount}
 use Rattle.client_replies.specs.ProtocolStates.{is_batch, is_running}
@@ -82,6 +85,13 @@ pub record EndsAlike (v : WorldCore) (i : ℕ) (acts : Acts) (last : ClientState
   pub files : HasFilesOf finished text endpoint
   pub went_out : WentOut (IsDoneBatch endpoint.task last.outcome) (files_by_steps (job_journal i acts)) (given_by_steps (job_journal i acts)) finished text
 
+-- a job that runs has lost its connection in the world, and its files are what went out
+pub record StopsAlike (v : WorldCore) (i : ℕ) (acts : Acts) : Type 0 where
+  pub endpoint : Endpoint
+  pub at : slice_get v.endpoints i ≡ Some endpoint
+  pub lost : endpoint.client.outcome ≡ Ended statuses.IoError whys.Lost
+  pub files : HasFilesOf (files_by_steps (job_journal i acts)) (given_by_steps (job_journal i acts)) endpoint
+
 -- events of connections lead to a world whose daemon is the server's, but for replies that are on their way to their jobs
 pub record HasDaemonOf (source : Source → SourceState) (w : WorldCore) (end : Core) : Type 0 where
   pub events : List Event
@@ -98,6 +108,8 @@ pub record AreAWorld (source : Source → SourceState) (jobs : List Job) (w : Wo
   pub v : WorldCore
   pub leads_on : Runs source losses serves.v v
   pub jobs_are : (i : ℕ) (job : Job) → slice_get jobs i ≡ Some job → is_running (last i).outcome ≡ false → EndsAlike v i acts (last i)
+  -- and each job that runs, as where it is killed
+  pub stopped_are : (i : ℕ) (job : Job) → slice_get jobs i ≡ Some job → is_running (last i).outcome ≡ true → StopsAlike v i acts
 
 -- ---- the law
 
@@ -123,11 +135,12 @@ pub record IsWorldOf (d : Core) (jobs : List Job) (w : WorldCore) : Type 0 where
   pub daemon : w.daemon ≡ d
   pub endpoints : AreNew jobs w.endpoints
 
--- **come to a world (`ComeToAWorld`, `AreAWorld`, `EndsAlike`, `HasDaemonOf`)**: from the new world of that daemon and
+-- **come to a world (`ComeToAWorld`, `AreAWorld`, `EndsAlike`, `StopsAlike`, `HasDaemonOf`)**: from the new world of that daemon and
 -- these jobs events of connections lead to a world whose daemon is the server's, but for replies that are on their way;
 -- from there losses alone (`AreLosses`) lead to where each job that is over has the outcome that its loop has, and its
 -- files are what went out (`WentOut`, `HasFilesOf`): those of the finished pages and the one under way, or, of a batch that
--- is done with its last page (`IsDoneBatch`), all of finished pages.
+-- is done with its last page (`IsDoneBatch`), all of finished pages; and each job that runs has lost its connection, and
+-- its files are what went out.
 pub record ComeToAWorld (source : Source → SourceState) (jobs : List Job) (d : Core) (acts : Acts) (end : Core) (last : ℕ → ClientState) : Type 0 where
   pub w : WorldCore
   pub is_of : IsWorldOf d jobs w

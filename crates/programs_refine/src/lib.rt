@@ -5,6 +5,13 @@
 ghost use Rattle.programs_refine.specs.Keeping.{ProgramsKeepAll, WorldsHearInTurn, WorldsWantBeforeItFlows};
 ghost use Rattle.programs_refine.specs.Programs.{ProgramsAreAWorld};
 
+mod led_into;
+mod stopped_loops;
+mod worked_runs;
+
+pub use led_into::{loops_lead, loops_lead_into_runs};
+pub use stopped_loops::programs_keep_each;
+pub use worked_runs::{a_run_is_kept, there_are_runs};
 use world_contract::all_is_right;
 use world_refines::{a_new_world_refines, a_run_refines};
 
@@ -51,9 +58,13 @@ pub fn worlds_hear_in_turn()
 #[tactic(none)]
 pub fn programs_keep_all()
     /// So of each job whose loop is over holds what a world promises of the outcome and of the files of a job, by a
-    /// history that led to such a world: done, the picture that its settings mean on a page of its device, where
-    /// these are steady; else a status and a cause, and no whole file.
+    /// history that led to such a world: done, the picture that its settings mean on the page of its start, where the
+    /// pages that came for its device are steady; else a status and a cause, and no whole file.
     /// Carried by: `programs_keep_all`: `LoopIsKept`
+    ///
+    /// Of a job that is stopped while it runs, as one that is killed between two steps of its loop, no whole file went
+    /// out but those of a batch's pages that were turned, and each of these is kept.
+    /// Carried by: `programs_keep_all`: `StoppedIsKept`
     ensures { ProgramsKeepAll }
 {
     a_new_world_refines();

@@ -1,0 +1,93 @@
+-- Small runs over connections that meet every premise.
+use Rattle.std.specs.Prelude.{ℕ, zero, suc, ◌≡◌, Option, Some, None, false, List, [], ◌∷◌, All}
+use Rattle.rand_chacha.specs.ChaCha.{ChaCha}
+use Rattle.md5_auth.specs.declared.users.Entry.{Entry}
+use Rattle.sane_fixed.specs.declared.status.Status.TheVariants as statuses
+use Rattle.device_api.specs.ScannerLimits.{HasLimits}
+use Rattle.device_api.specs.State.{DeviceState}
+use Rattle.dispatch.specs.RegistryFault.{HaveOwnNames}
+use Rattle.dispatch.specs.Table.{Table, fresh_table}
+use Rattle.scan_job.specs.declared.job.Job.{Job}
+use Rattle.scan_job.specs.declared.outcome.Why.TheVariants as whys
+use Rattle.scan_job.specs.JobSize.{HasCount}
+use Rattle.client_replies.specs.declared.progress.Link.TheVariants as links
+use Rattle.net_client.specs.ClientStates.{ClientState, IsNewClient, after_client_end}
+use Rattle.net_jobs.specs.declared.calls.Loss.TheVariants.{ReadFailed}
+use Rattle.net_jobs.specs.JobJournal.JobMove.{Loses, Writes}
+use Rattle.net_jobs.specs.JobSteps.{JobStep}
+use Rattle.saned_requests.specs.declared.session.StringSize.{StringSize}
+use Rattle.saned_core.specs.declared.session_slot.Fed.TheVariants.{Starved}
+use Rattle.saned_core.specs.DaemonStates.{Core}
+use Rattle.saned_serve.specs.declared.sockets.Got.TheVariants.{Moved}
+use Rattle.saned_serve.specs.SessionActions.SessionAction.{Feed, Hears, Opens, Take}
+use Rattle.saned_serve.specs.Journal.LoopAction.{Of}
+use Rattle.interleaving.specs.Interleavings.JointAction.{OfJob, OfServer}
+use Rattle.interleaving.specs.HandingOn.{Owner}
+use Rattle.scan_world.specs.Worlds.{IsFitJob}
+use Rattle.programs_refine.specs.Keeping.{AllLoopsAreKept}
+use Rattle.programs_refine.specs.Programs.{Acts, RunOverConnections}
+
+-- ---- what they begin with
+
+-- a daemon that has opened no session
+abbrev pub new_core : Table → List Entry → StringSize → ChaCha → Core
+new_core registry users strings stream = record {
+  slots = None ∷ None ∷ None ∷ None ∷ None ∷ None ∷ None ∷ None ∷ [];
+  registry = registry;
+  users = users;
+  strings = strings;
+  stream = stream;
+  opened = 0;
+}
+
+abbrev pub owned_by_none : Owner
+owned_by_none k = None
+
+-- the first session is the first job's
+abbrev pub owned_by_first : Owner
+owned_by_first zero = Some 0
+owned_by_first (suc k) = None
+
+-- ---- what a job does in them
+
+-- it finds its control connection lost
+abbrev pub loses : JobStep
+loses = record { move = Loses links.Control ReadFailed; gives = []; turned = false }
+
+-- it writes all that is to go out
+abbrev pub writes : List ℕ → JobStep
+writes bytes = record { move = Writes bytes; gives = []; turned = false }
+
+abbrev pub lost_client : ClientState → ClientState
+lost_client c = after_client_end statuses.IoError whys.Lost c
+
+-- **small runs (`LostAtOnceIsARun`, `StarvedIsARun`, `starved_acts`, `StarvedIsKept`)**: of any one job that its loop takes,
+-- beside any new daemon: its connection is lost before it wrote anything; or it writes its first request, the daemon opens
+-- its session, is fed the first byte and runs out of memory, and the job finds its connection lost. Both are runs over
+-- connections; and of the second, where a world takes devices and job, the loop is kept.
+abbrev pub LostAtOnceIsARun : Type 0
+LostAtOnceIsARun =
+    (job : Job) (c : ClientState) (registry : Table) (users : List Entry) (strings : StringSize) (stream : ChaCha)
+    → IsNewClient job c → HasCount job.task
+    → RunOverConnections (job ∷ []) owned_by_none (new_core registry users strings stream) (OfJob 0 loses ∷ []) (λ i. lost_client c)
+
+-- the newest first
+abbrev pub starved_acts : ℕ → ClientState → ℕ → Acts
+starved_acts port c byte =
+    OfJob 0 loses ∷ OfServer (Of 0 (Feed (byte ∷ []) Starved false)) ∷ OfServer (Of 0 (Hears (Moved 1) 4096 (byte ∷ [])))
+    ∷ OfServer (Of 0 (Take 4096 [])) ∷ OfServer (Of 0 (Opens port)) ∷ OfJob 0 (writes c.out) ∷ []
+
+abbrev pub StarvedIsARun : Type 0
+StarvedIsARun =
+    (job : Job) (c : ClientState) (registry : Table) (users : List Entry) (strings : StringSize) (stream : ChaCha)
+    (port byte : ℕ) (rest : List ℕ) → IsNewClient job c → HasCount job.task → c.out ≡ byte ∷ rest
+    → RunOverConnections (job ∷ []) owned_by_first (new_core registry users strings stream) (starved_acts port c byte)
+    (λ i. lost_client (record c { out = [] }))
+
+abbrev pub StarvedIsKept : Type 0
+StarvedIsKept =
+    (devices : List DeviceState) (job : Job) (c : ClientState) (users : List Entry) (strings : StringSize) (stream : ChaCha)
+    (port byte : ℕ) (rest : List ℕ) → HaveOwnNames devices → All HasLimits devices → IsFitJob job → IsNewClient job c
+    → c.out ≡ byte ∷ rest
+    → AllLoopsAreKept devices (job ∷ []) (new_core (fresh_table devices) users strings stream) (starved_acts port c byte)
+    (λ i. lost_client (record c { out = [] }))

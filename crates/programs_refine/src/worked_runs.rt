@@ -1,0 +1,21 @@
+//! That runs meet the premises of the laws: one premise more that nothing meets is refused here.
+
+ghost use Rattle.programs_refine.specs.WorkedRuns.{LostAtOnceIsARun, StarvedIsARun, StarvedIsKept};
+
+use crate::programs_keep_all;
+
+#[tactic(none)]
+pub fn there_are_runs()
+    /// There are runs that meet all of these premises: a job whose connection is lost before it wrote anything; and one
+    /// that writes its first request to a daemon which opens its session, is fed a byte and runs out of memory.
+    ensures lost { LostAtOnceIsARun }
+    ensures starved { StarvedIsARun }
+{}
+
+#[tactic(none)]
+pub fn a_run_is_kept()
+    /// Of the second all of that is kept, over any devices of which a world is made.
+    ensures { StarvedIsKept }
+{
+    programs_keep_all();
+}

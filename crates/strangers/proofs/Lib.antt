@@ -1,0 +1,6 @@
+mod Treated
+mod Jobs
+mod Calls
+mod Others
+mod Acting
+mod Coming

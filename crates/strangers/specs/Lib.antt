@@ -1,0 +1,2 @@
+pub mod LeavingJobs
+pub mod Among

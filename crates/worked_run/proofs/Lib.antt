@@ -1,0 +1,4 @@
+mod Acts
+mod Parts
+mod Clients
+mod DoneRuns
