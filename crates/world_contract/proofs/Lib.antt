@@ -8,7 +8,6 @@ pub mod Asked
 pub mod Traced
 pub mod OfJobs
 pub mod Connected
-pub mod Cuts
 pub mod Pages
 pub mod Sources
 pub mod Settings
