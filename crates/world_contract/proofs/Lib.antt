@@ -29,3 +29,5 @@ pub mod Timely
 pub mod Examples
 pub mod moments
 pub mod Refused
+pub mod Unhindered
+pub mod Clear

@@ -8,6 +8,7 @@ ghost use Rattle.world_refines.specs.MainTheorem.{IsTrueLoad};
 ghost use Rattle.scan_world.specs.Worlds.{HasFaultAmong, IsInitialWorld, MayRun, Runs, seen_world};
 ghost use Rattle.world_contract.specs.Histories.{History, LedTo, and_then, begun};
 ghost use Rattle.world_contract.specs.Calls.{CancelEnds, FewMoves, ImageLossEnds, IsMoveAt, KeepsPageCount, KeepsScanFile, KeepsMemory, KeepsEnding, KeepsMove, KeepsMoves, KeepsOutcome, KeepsPage, KeepsRunning, LossEnds, MoveLowers, MovesFall, OneHolder, OthersStay, OverStays, PageStays, ScansStay, SessionsStay, StartsOnFirst, file_answered, finished_at, left_at, outcome_at, page_answered, starved_at};
+ghost use Rattle.world_contract.specs.Clear.{ClearsUp};
 
 use crate::laws::what_stands_below;
 use device_api::Device;
@@ -189,6 +190,15 @@ impl World {
         ensures kept { let w = seen_world ⟦<Box<dyn Device> as Device>⟧.state self.old.inner in
             let v = seen_world ⟦<Box<dyn Device> as Device>⟧.state self.new.inner in
             KeepsRunning w v }
+        /// A job in whose way nothing stood in front of these moves is done behind them, or is told as out of memory, or
+        /// lost its connection as its next move, for want of memory or at a reply that cannot be said. Nothing stands in
+        /// its way where its device is there, is no feeder and is named by no other job, its sources cannot fail, its
+        /// settings can be in force, name no status and mean a picture on each page that came, and its password is
+        /// allowed; and no event gave it up, took a connection of it, or took its device out.
+        /// Carried by: `clear` of `World::run_all`: `ClearsUp`, `IsClear`
+        ensures clear { let w = seen_world ⟦<Box<dyn Device> as Device>⟧.state self.old.inner in
+            let v = seen_world ⟦<Box<dyn Device> as Device>⟧.state self.new.inner in
+            ClearsUp w v }
         ensures over { let w = seen_world ⟦<Box<dyn Device> as Device>⟧.state self.old.inner in
             let v = seen_world ⟦<Box<dyn Device> as Device>⟧.state self.new.inner in
             OverStays w v }
