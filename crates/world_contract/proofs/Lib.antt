@@ -31,3 +31,4 @@ pub mod moments
 pub mod Refused
 pub mod Unhindered
 pub mod Clear
+pub mod PlainJob

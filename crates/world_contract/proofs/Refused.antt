@@ -31,6 +31,7 @@ use Rattle.scan_world.specs.JobMoves.{IsFirstMove, IsNext, in_order}
 use Rattle.scan_world.specs.Worlds.{WorldCore}
 use Rattle.client_replies.specs.ProtocolStates.{is_running}
 use Rattle.world_contract.specs.Calls.{AreNextMoves, HadUnsaidReply, MovesNext, outcome_at, starved_at}
+use Rattle.world_contract.specs.Clear.{StoppedIsNoLie}
 use Rattle.world_contract.specs.Endings.{AnswerIsExplained, HadNoPage, IsJudged, NamesStatus}
 use Rattle.world_contract.specs.Histories.{History}
 use Rattle.world_contract.specs.Reports.{AreSettingsReported, IsSettingReported, told_option}
@@ -248,6 +249,12 @@ given_up h w v i out is = by_first (subst (λ (es : List Event). AreNextMoves es
   where
     by_first : AreNextMoves (Cancel i ∷ []) w v → ⊥
     by_first (j, next, rest) = cancel_next w.daemon j i (slice_get w.endpoints j) next
+
+pub stopped : StoppedIsNoLie
+stopped h w i job status why enough other never (inl (reports, same)) = let clash : Ended status why ≡ Done reports = same in cc
+stopped h w i job status why enough other never (inr (inl (inl out))) = let clash : false ≡ true = sym enough ∙ out in cc
+stopped h w i job status why enough other never (inr (inl (inr same))) = other (let both : Ended status why ≡ Ended statuses.NoMem whys.Memory = same in cc)
+stopped h w i job status why enough other never (inr (inr broke)) = never broke
 
 -- ---- devices
 

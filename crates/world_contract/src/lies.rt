@@ -1,5 +1,6 @@
 //! Of each part of the promise, that it refuses the smallest lies.
 
+ghost use Rattle.world_contract.specs.Clear.{StoppedIsNoLie};
 ghost use Rattle.world_contract.specs.Lies.{AllowedIsNoLie, BusyIsNoLie, CancelledIsNoLie, CountIsNoLie, DeniedIsNoLie, EmptyIsNoLie, FailedIsNoLie, FileIsNoLie, GivenUpIsNoLie, GoneOnIsNoLie, HiddenIsNoLie, IdleIsNoLie, InvalIsNoLie, ListIsNoLie, LossIsNoLie, LostIsNoLie, MemoryIsNoLie, MissingIsNoLie, MovedIsNoLie, NowhereIsNoLie, PageIsNoLie, RoundedIsNoLie, SharedIsNoLie, ShownIsNoLie, SilentIsNoLie, StuckIsNoLie, SwappedIsNoLie, WholeIsNoLie};
 
 /// The table of endings explains none that nothing stood for.
@@ -80,6 +81,8 @@ pub fn a_run_is_no_lie()
     ensures idle { IdleIsNoLie }
     ensures gone_on { GoneOnIsNoLie }
     ensures given_up { GivenUpIsNoLie }
+    /// And no clear job ends behind them that is not told as out of memory and whose session did not break off.
+    ensures stopped { StoppedIsNoLie }
 {}
 
 /// No device has two holders, and none another page in mid-scan.
