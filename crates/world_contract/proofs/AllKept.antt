@@ -1,6 +1,6 @@
 -- All that is promised of a job, call by call.
 use Rattle.page_picture.specs.SourceView.{source_state}
-use Rattle.std.specs.Prelude.{option_map, slice_get, slice_index_or, ◌<◌, ◌≤◌, ◌-◌, ◌==◌, ◌||◌, nat_lt, if◌then◌else◌, cond, Contains, map}
+use Rattle.std.specs.Prelude.{option_map, slice_get, slice_index_or, ◌<◌, ◌≤◌, ◌-◌, ◌==◌, ◌||◌, nat_lt, if◌then◌else◌, cond, map}
 use Rattle.std.specs.Prelude.{min}
 use Rattle.std.proofs.Math.Nat.{le-min, min-eq_left, min-le_left, min-le_right}
 use Rattle.std.proofs.lemmas.Option.{get_or_from_slice_get, slice_get_within}
@@ -21,13 +21,15 @@ use Rattle.scan_world.specs.Endpoints.{finished_page}
 use Rattle.scan_world.specs.declared.endpoint.Endpoint.{Endpoint}
 use Rattle.scan_world.specs.Worlds.{IsFitJob, WorldCore}
 use Rattle.world_contract.specs.Histories.{History}
-use Rattle.world_contract.specs.Endings.{JobIsPermitted}
+use Rattle.world_contract.specs.Page.{AreInForce, Settled}
+use Rattle.world_contract.specs.Endings.{HadNoPage}
 use Rattle.world_contract.specs.Promise.{CountIsKept, FileIsKept, MoveIsKept, MovesAreKept, OutcomeIsKept, PageIsKept}
 use Rattle.world_contract.specs.Laws.{Below}
-use Rattle.world_contract.proofs.Sources.{sources_of, have_sources}
+use Rattle.world_contract.proofs.Sources.{sources_of}
 use Rattle.world_contract.proofs.Jobs.{IsJob}
-use Rattle.world_contract.proofs.Scanned.{at_first, infos_of, job_there, kept_by, make_there}
-use Rattle.world_contract.proofs.moments.Filed.{counted_there, page_right, scan_right}
+use Rattle.world_contract.proofs.Scanned.{at_first, infos_of, job_there, kept_by, make_there, name_of}
+use Rattle.world_contract.proofs.moments.Filed.{counted_there, job_of, page_right, scan_right}
+use Rattle.world_contract.proofs.moments.Opened.{IsOpened, was_opened}
 use Rattle.std.specs.Prelude.{Ok, Err}
 use Rattle.md5_auth.specs.declared.users.Entry.{Entry}
 use Rattle.sane_fixed.specs.declared.device_info.DeviceInfo.{DeviceInfo}
@@ -41,27 +43,28 @@ use Rattle.scan_job.specs.declared.job.Task.{Task}
 use Rattle.client_replies.specs.declared.progress.JobTarget.{JobTarget}
 use Rattle.scan_world.specs.FileDraining.{HasFiles, KeepsFile}
 use Rattle.system_model.specs.Client.{AbstractJob as RuledJob}
-use Rattle.system_model.specs.Sync.{IsPermitted as Permitted}
 use Rattle.world_refines.specs.WorldRefinement.{KeepsFiles, is_laid}
 use Rattle.world_refines.proofs.job_events.Constant.{Fixed, all_fixed}
-use Rattle.world_contract.proofs.Ended.{at_end}
+use Rattle.world_contract.proofs.Ended.{at_end, comes_there, first_here, laws_of, steps_of_one}
 use Rattle.world_contract.proofs.moments.Listed.{list_kept}
 use Rattle.world_contract.proofs.moments.Unfiled.{empty_file}
 use Rattle.client_replies.specs.ProtocolStates.{scans}
 use Rattle.device_api.specs.State.{DeviceState}
-use Rattle.client_refines.specs.ClientRefinement.{requested_setting}
+use Rattle.client_refines.specs.ClientRefinement.{requested_setting, task_of}
 use Rattle.system_model.specs.Devices.{Make, descriptors_in_force, readable_value}
 use Rattle.system_model.specs.AbstractInForce as ruled
-use Rattle.system_model.specs.SystemStates.{make_for}
+use Rattle.system_model.specs.Client as rules
+use Rattle.system_model.specs.SystemStates.{SystemState, make_for}
+use Rattle.scan_frames.specs.declared.setup.Setup.{Setup}
+use Rattle.device_api.specs.InForce.{Placement}
 use Rattle.world_refines.specs.NewWorlds.{make_of}
 use Rattle.world_refines.specs.GhostStates.{Ghost, job_state, place_named, abstract_job}
 use Rattle.world_refines.specs.MainTheorem.{PromisesAreKept}
 use Rattle.world_refines.specs.WorldPromises.{IsOutcome, KeepsPromise}
-use Rattle.world_contract.specs.Reports.{AreOptionsShown, AreSettingsAnswered}
-use Rattle.world_contract.proofs.Along.{device_named, forced_there}
+use Rattle.world_contract.specs.Reports.{AreOptionsShown, AreSettingsReported}
+use Rattle.world_contract.proofs.Along.{forced_there}
 use Rattle.world_contract.proofs.Nearest.{nearest_for}
 use Rattle.world_contract.proofs.Lists.{contains_at}
-use Rattle.world_refines.specs.NewWorlds.{info_of_state}
 use Rattle.world_contract.proofs.Reported.{answered}
 
 -- ---- a finished page, by its number from 1
@@ -113,9 +116,9 @@ positive : (n : ℕ) → (n ≡ 0 → ⊥) → 0 < n
 positive zero h = absurd (h refl)
 positive (suc n) h = omega arith
 
-counted : {X : Type 0} (n count : ℕ) → count ≤ 16 → (n ≡ count) ⊎ ((0 < n) × (n < count) × X) → (min n 16 ≡ count) ⊎ ((0 < min n 16) × (min n 16 < count) × X)
-counted n count most (inl e) = inl (min-eq_left (subst (λ (x : ℕ). x ≤ 16) (sym e) most) ∙ e)
-counted n count most (inr e) = let same : min n 16 ≡ n = min-eq_left (omega (arith, e.1, most)) in inr (subst (λ (x : ℕ). 0 < x) (sym same) e.0, subst (λ (x : ℕ). x < count) (sym same) e.1, e.2)
+counted : (X : ℕ → Type 0) (n count : ℕ) → count ≤ 16 → (n ≡ count) ⊎ ((0 < n) × (n < count) × X n) → (min n 16 ≡ count) ⊎ ((0 < min n 16) × (min n 16 < count) × X (min n 16))
+counted X n count most (inl e) = inl (min-eq_left (subst (λ (x : ℕ). x ≤ 16) (sym e) most) ∙ e)
+counted X n count most (inr e) = let same : min n 16 ≡ n = min-eq_left (omega (arith, e.1, most)) in inr (subst (λ (x : ℕ). 0 < x) (sym same) e.0, subst (λ (x : ℕ). x < count) (sym same) e.1, subst X (sym same) e.2)
 
 most_pages : (task : Task) (count : ℕ) → task ≡ tasks.Batch count → HasCount task → count ≤ 16
 most_pages task count e fit = (subst HasCount e fit).1
@@ -123,27 +126,61 @@ most_pages task count e fit = (subst HasCount e fit).1
 kept_by_outcome : (u : Ghost) (i : ℕ) (o : Outcome) (reports : Reports) → o ≡ Done reports → IsOutcome u i o → KeepsPromise u i reports
 kept_by_outcome u i o reports e h = subst (IsOutcome u i) e h
 
-settings_kept : Below → (h : History) (w : WorldCore) (i : ℕ) (job : Job) (endpoint : Endpoint) (reports : Reports) (device : DeviceState) → IsJob h w i job endpoint → endpoint.client.outcome ≡ Done reports → job.task ≢ tasks.List → Contains h.devices device → device.info.name ≡ job.device → AreSettingsAnswered device job reports.settings
-settings_kept below h w i job endpoint reports device j done list there named =
+-- ---- its device
+
+list_only : (task : Task) → task_of task ≡ rules.List_ → task ≡ tasks.List
+list_only tasks.List e = refl
+list_only tasks.Show e = absurd (let clash : rules.Show ≡ rules.List_ = e in cc)
+list_only tasks.SetOnly e = absurd (let clash : rules.SetOnly ≡ rules.List_ = e in cc)
+list_only tasks.Scan e = absurd (let clash : rules.Scan ≡ rules.List_ = e in cc)
+list_only (tasks.Batch count) e = absurd (let clash : rules.Batch (count - 1) ≡ rules.List_ = e in cc)
+
+-- a job that is done, and is no list, was opened
+opened_there : Below → (h : History) (w : WorldCore) (i : ℕ) (job : Job) (endpoint : Endpoint) (reports : Reports) → IsJob h w i job endpoint → endpoint.client.outcome ≡ Done reports → job.task ≢ tasks.List → IsOpened h w i job
+opened_there below h w i job endpoint reports j done list =
+    let k = comes_there below h w job j.led in
+    let t = at_first h w job j.led in
+    let u = k.ghost_then in
+    let promise : KeepsPromise u i reports = subst (IsOutcome u i) done (below.outcomes u w i endpoint k.stands j.endpoint_at) in
+    let task : (job_state u i).session.job.task ≡ task_of job.task = ap (λ (x : RuledJob). x.task) (k.stands.endpoints i endpoint j.endpoint_at).job_is ∙ ap (λ (x : Job). task_of x.task) (job_of below h w job j.led i j.job_at) in
+    was_opened (laws_of below) h w i job k.steps t.system (first_here below h w i job j.led j.job_at) (steps_of_one below h w job j.led) k.answered k.legal (tt, tt)
+    (subst (λ (s : SystemState). (s.job i).client.stage ≡ rules.Done) k.rules_are promise.stage)
+    (λ same. list (list_only job.task (sym task ∙ subst (λ (s : SystemState). (s.job i).session.job.task ≡ rules.List_) (sym k.rules_are) same)))
+
+-- the device that its settings are put on
+pub record OnDevice (h : History) (job : Job) : Type 0 where
+  pub device : DeviceState
+  pub at : slice_get h.devices (place_named (infos_of h) job.device) ≡ Some device
+
+settled_on : (h : History) (job : Job) (on : OnDevice h job) (setup : Setup) (placed : List Placement) → AreInForce on.device job placed setup → Settled h job
+settled_on h job on setup placed forced = record {
+  device = on.device;
+  is_there = contains_at h.devices (place_named (infos_of h) job.device) on.device on.at;
+  named = name_of h job.device on.device on.at;
+  setup = setup;
+  placed = placed;
+  in_force = forced;
+}
+
+settings_kept : Below → (h : History) (w : WorldCore) (i : ℕ) (job : Job) (endpoint : Endpoint) (reports : Reports) → IsJob h w i job endpoint → endpoint.client.outcome ≡ Done reports → job.task ≢ tasks.List → OnDevice h job → (s : Settled h job) × AreSettingsReported job.settings.items s.placed reports.settings
+unfolding settled_on
+settings_kept below h w i job endpoint reports j done list on =
+    let device = on.device in
     let k = kept_by below.kept h w job j.led in
     let u = k.run.ghost_then in
-    let new = below.new (sources_of h) h.jobs job h.devices j.led.first j.led.endpoints j.led.daemon j.led.names j.led.limits (have_sources h) j.led.fit in
     let mine = job_there h w job j.led k i j.job_at in
     let p = kept_by_outcome u i endpoint.client.outcome reports done (k.promises.outcomes i endpoint j.endpoint_at) in
     let s = p.settings (λ e. list (sym (ap (λ (x : Job). x.task) mine) ∙ e)) in
     let b = sources_of h (place_named (infos_of h) job.device) in
-    let make : make_for u.system i ≡ make_of b (Some device) = make_there h w job j.led k i j.job_at ∙ ap (make_of b) (device_named h job.device device new.is_of.apart there named) in
+    let make : make_for u.system i ≡ make_of b (Some device) = make_there h w job j.led k i j.job_at ∙ ap (make_of b) (on.at) in
     let forced : ruled.abstract_in_force (make_of b (Some device)) (map requested_setting job.settings.items) ≡ Some (record { options = s.options; reports = s.reports }) =
     subst (λ (x : Job). ruled.abstract_in_force (make_of b (Some device)) (map requested_setting x.settings.items) ≡ Some (record { options = s.options; reports = s.reports })) mine
     (subst (λ (m : Make). ruled.abstract_in_force m (map requested_setting (u.jobs i).settings.items) ≡ Some (record { options = s.options; reports = s.reports })) make s.forced) in
     let each : ruled.AreAnswered (make_of b (Some device)) (map requested_setting job.settings.items) s.reports =
     subst (λ (x : Job). ruled.AreAnswered (make_of b (Some device)) (map requested_setting x.settings.items) s.reports) mine
     (subst (λ (m : Make). ruled.AreAnswered m (map requested_setting (u.jobs i).settings.items) s.reports) make s.answered) in
-    answered b device job s.options s.reports reports.settings forced s.are each
-
-permitted_by : (h : History) (job : Job) (ruled : RuledJob) (sent : Option (List ℕ)) → ruled ≡ abstract_job h.users (infos_of h) job → Permitted ruled sent → JobIsPermitted h job
-permitted_by h job ruled sent e (inl free) = inl (ap (λ (x : RuledJob). x.guarded) (sym e) ∙ free)
-permitted_by h job ruled sent e (inr (c, was, allows)) = inr (c, ap (λ (x : RuledJob). x.allows c) (sym e) ∙ allows)
+    let r = answered b device job s.options s.reports reports.settings forced s.are each in
+    (settled_on h job on r.0.0 r.0.1 r.1, r.2)
 
 -- the job of its session by the model
 ruled_there : Below → (h : History) (w : WorldCore) (i : ℕ) (job : Job) (endpoint : Endpoint) (j : IsJob h w i job endpoint) → (k : PromisesAreKept source_state h.events (at_first h w job j.led) j.led.first w) → (job_state k.run.ghost_then i).session.job ≡ abstract_job h.users (infos_of h) job
@@ -157,29 +194,22 @@ ruled_there below h w i job endpoint j k =
     ∙ (ap (λ (x : List DeviceInfo). abstract_job h.users x (u.jobs i)) infos
     ∙ ap (λ (x : Job). abstract_job h.users (infos_of h) x) (job_there h w job j.led k i j.job_at)))
 
-allowed : Below → (h : History) (w : WorldCore) (i : ℕ) (job : Job) (endpoint : Endpoint) (reports : Reports) → IsJob h w i job endpoint → endpoint.client.outcome ≡ Done reports → job.task ≢ tasks.List → JobIsPermitted h job
-allowed below h w i job endpoint reports j done list =
+shown_kept : Below → (h : History) (w : WorldCore) (i : ℕ) (job : Job) (endpoint : Endpoint) (reports : Reports) → IsJob h w i job endpoint → endpoint.client.outcome ≡ Done reports → job.task ≡ tasks.Show → OnDevice h job → (s : Settled h job) × AreOptionsShown s.setup reports.options
+unfolding descriptors_in_force readable_value kept_by_outcome ruled_there settled_on
+shown_kept below h w i job endpoint reports j done show on =
+    let device = on.device in
     let k = kept_by below.kept h w job j.led in
     let u = k.run.ghost_then in
-    let p = kept_by_outcome u i endpoint.client.outcome reports done (k.promises.outcomes i endpoint j.endpoint_at) in
-    permitted_by h job (job_state u i).session.job (job_state u i).session.sent (ruled_there below h w i job endpoint j k) (p.permitted (λ e. list (sym (ap (λ (x : Job). x.task) (job_there h w job j.led k i j.job_at)) ∙ e)))
-
-shown_kept : Below → (h : History) (w : WorldCore) (i : ℕ) (job : Job) (endpoint : Endpoint) (reports : Reports) (device : DeviceState) → IsJob h w i job endpoint → endpoint.client.outcome ≡ Done reports → job.task ≡ tasks.Show → Contains h.devices device → device.info.name ≡ job.device → AreOptionsShown device job reports.options
-unfolding descriptors_in_force readable_value
-shown_kept below h w i job endpoint reports device j done show there named =
-    let k = kept_by below.kept h w job j.led in
-    let u = k.run.ghost_then in
-    let new = below.new (sources_of h) h.jobs job h.devices j.led.first j.led.endpoints j.led.daemon j.led.names j.led.limits (have_sources h) j.led.fit in
     let p = kept_by_outcome u i endpoint.client.outcome reports done (k.promises.outcomes i endpoint j.endpoint_at) in
     let s = p.options (ap (λ (x : Job). x.task) (job_there h w job j.led k i j.job_at) ∙ show) in
     let b = sources_of h (place_named (infos_of h) job.device) in
-    let make : make_for u.system i ≡ make_of b (Some device) = make_there h w job j.led k i j.job_at ∙ ap (make_of b) (device_named h job.device device new.is_of.apart there named) in
+    let make : make_for u.system i ≡ make_of b (Some device) = make_there h w job j.led k i j.job_at ∙ ap (make_of b) (on.at) in
     let made : ruled.SettingsResult = record { options = s.in_force; reports = (job_state u i).client.reports } in
     let forced : ruled.abstract_in_force (make_of b (Some device)) (map requested_setting job.settings.items) ≡ Some made =
     subst (λ (m : Make). ruled.abstract_in_force m (map requested_setting job.settings.items) ≡ Some made) make
     (ap (λ (x : RuledJob). ruled.abstract_in_force (make_for u.system i) x.settings) (sym (ruled_there below h w i job endpoint j k)) ∙ s.settled.forced) in
     let put = nearest_for device.setup.scene.kind device.setup.order job.settings.items s.in_force (sym (forced_there below.same (make_of b (Some device)) job) ∙ ap (option_map (λ (x : ruled.SettingsResult). x.options)) forced) in
-    record { setup = s.in_force; placed = put.0; in_force = put.1; shown = s.filled }
+    (settled_on h job on s.in_force put.0 put.1, s.filled)
 
 -- ---- the file of a job that is no scan
 
@@ -221,12 +251,18 @@ no_scan below h w i job endpoint reports file j done scan is whole =
 
 -- ---- call by call
 
+on_device : (h : History) (w : WorldCore) (i : ℕ) (job : Job) → IsOpened h w i job → OnDevice h job
+on_device h w i job o = record { device = o.1.0; at = o.1.1 }
+
+shows_not : (task : Task) → task ≡ tasks.Show → task ≢ tasks.List
+shows_not task show list = let clash : tasks.Show ≡ tasks.List = sym show ∙ list in cc
+
 pub outcome_kept : Below → (h : History) (w : WorldCore) (i : ℕ) (job : Job) (p : Endpoint) → IsJob h w i job p → OutcomeIsKept h w i job p.out_of_memory p.client.outcome
 outcome_kept below h w i job p j = record {
   done = λ reports e. record {
-    answered = λ device list there named. settings_kept below h w i job p reports device j e list there named;
-    shown = λ device show there named. shown_kept below h w i job p reports device j e show there named;
-    permitted = λ list. allowed below h w i job p reports j e list;
+    opened = λ list. (opened_there below h w i job p reports j e list).0;
+    answered = λ list. settings_kept below h w i job p reports j e list (on_device h w i job (opened_there below h w i job p reports j e list));
+    shown = λ show. shown_kept below h w i job p reports j e show (on_device h w i job (opened_there below h w i job p reports j e (shows_not job.task show)));
     listed = λ list. list_kept below h w i job p reports j list e;
   };
   ended = λ status why e.
@@ -268,7 +304,7 @@ page_kept below h w i k job p j = record {
 pub count_kept : Below → (h : History) (w : WorldCore) (i : ℕ) (job : Job) (p : Endpoint) → IsJob h w i job p → CountIsKept h w i job p.client.outcome (min p.finished 16)
 count_kept below h w i job p j count reports batch done =
     let fit : IsFitJob job = subst IsFitJob (get_or_from_slice_get h.jobs i job job j.job_at) (j.led.fit i job (slice_get_within h.jobs i job j.job_at)) in
-    counted p.finished count (most_pages job.task count batch fit.1) (counted_there below h w i job p j count reports batch done)
+    counted (HadNoPage h w i job) p.finished count (most_pages job.task count batch fit.1) (counted_there below h w i job p j count reports batch done)
 
 pub move_kept : Below → (h : History) (w : WorldCore) (i : ℕ) (job : Job) (p : Endpoint) (event : Option Event) → IsJob h w i job p → IsNextMove w.daemon i p event → MoveIsKept p.client.outcome event
 move_kept below h w i job p event j is =

@@ -1,47 +1,37 @@
 -- What is so along all steps: the pages of each device, and what is fixed of one job.
-use Rattle.std.specs.Prelude.{cond, eqb, length, option_map, map, slice_get, slice_index_or, Contains, ◌<◌}
-use Rattle.std.specs.List.{AllByRecursion}
-use Rattle.std.proofs.Common.{◌≡◌, ◌∙◌, ◌⊎◌, ◌≢◌, ℕ, zero, suc, List, [], ◌∷◌, ◌++◌, Bool, true, false, Some, None, inl, inr, refl, sym, ap, subst, eqb-true, arith}
+use Rattle.std.specs.Prelude.{eqb, length, option_map, map, slice_get, slice_index_or, Contains, ◌<◌}
+use Rattle.std.proofs.Common.{◌≡◌, ◌∙◌, ℕ, zero, suc, List, [], ◌∷◌, Bool, true, false, Some, None, refl, sym, ap, subst, eqb-true, arith}
 use Rattle.std.proofs.lemmas.Option.{get_or_from_slice_get}
 use Rattle.device_api.specs.InForce as devices
 use Rattle.device_api.specs.State.{DeviceState}
-use Rattle.page_picture.specs.Meaning.{meaning_of}
 use Rattle.scan_frames.specs.declared.setup.Setup.{Setup}
 use Rattle.scan_job.specs.declared.job.Job.{Job}
 use Rattle.client_refines.specs.ClientRefinement.{requested_setting}
-use Rattle.system_model.specs.AbstractMessages.{Status, Why, Eof}
-use Rattle.system_model.specs.Client.{AbstractJob as RuledJob, JobStage, Idle, Running, Done, Ended, ClientView}
-use Rattle.device_api.specs.Kinds.{Page, IsStocked}
-use Rattle.device_api.proofs.KindLaws.{without_pages}
-use Rattle.system_model.specs.Devices.{Make, picture_frames, read_status_of, abstract_status}
+use Rattle.system_model.specs.AbstractMessages.{Status}
+use Rattle.system_model.specs.Client.{AbstractJob as RuledJob}
+use Rattle.system_model.specs.Devices.{Make, read_status_of, abstract_status}
 use Rattle.system_model.specs.AbstractInForce.{SettingsResult, abstract_in_force}
 use Rattle.system_model.specs.Settings.{SettingsMeanTheSame, pair_of}
 use Rattle.system_model.specs.AbstractDevices.{AbstractDevice}
-use Rattle.system_model.specs.Causes.{Cause, IsExplained, Explains, GaveUp, LinkLost, LinkOutOfMemory, WasUnsaid, SourceFailed, NamesEof, Names, Unforced, WasUnlisted, HadNoPicture, WasHeld, Disallowed, TrayWasEmpty, TrayRanOut, ClientOutOfMemory, IsCauseAmong}
-use Rattle.system_model.specs.SystemStates.{JobState, SystemState, listed_devices, make_for, device_for, wanted_place}
-use Rattle.system_model.specs.Actions
-use Rattle.system_model.specs.Actions.{Action, job_after_action}
-use Rattle.system_model.specs.Transitions.{By, IsHistory, IsEnabled, IsUnderWay, Loads, Transition, Unplugs, after_transition, after_all}
+use Rattle.system_model.specs.SystemStates.{SystemState, make_for, device_for, wanted_place}
+use Rattle.system_model.specs.Transitions.{By, IsEnabled, Loads, Transition, Unplugs, after_transition}
 use Rattle.system_model.specs.Marks.{DeviceView, MarksLead, marks, device_view, touched_device}
 use Rattle.system_model.specs.ModelPromises.{CausesAreGrounded, HistoriesKeepInvariant, MarksAreEnabled, OutcomesLast}
-use Rattle.system_model.specs.Invariants.{IsCaused, Invariant, StageInvariant}
-use Rattle.scan_world.specs.declared.event.Event.{Event}
-use Rattle.scan_world.specs.declared.event.Event.TheVariants.{ToDaemon, ToClient, DataTurn, DataToClient, LoseControl, LoseImage, Cancel, Unplug}
+use Rattle.system_model.specs.Invariants.{Invariant}
 use Rattle.world_refines.specs.NewWorlds.{make_of}
 use Rattle.world_refines.specs.WorldRefinement.{HaveDifferentNames}
-use Rattle.world_refines.specs.GhostStates.{backend_of, is_guarded, name_at, place_named, abstract_job}
+use Rattle.world_refines.specs.GhostStates.{name_at, place_named, abstract_job}
 use Rattle.world_refines.proofs.state.Infos.{place_is}
 use Rattle.daemon_refines.proofs.Moved.{own}
 use Rattle.world_contract.specs.Histories.{History}
-use Rattle.world_contract.specs.Page.{Settled, CameFor}
-use Rattle.world_contract.proofs.Sources.{CanFail, can_fail_there, fallible_at, sources_of, make_at}
-use Rattle.world_contract.proofs.Lists.{In, all_each, all_then, contains_at, contains_in}
+use Rattle.world_contract.specs.Page.{Settled}
+use Rattle.world_contract.proofs.Sources.{sources_of, make_at}
+use Rattle.world_contract.proofs.Lists.{contains_at}
 use Rattle.world_contract.proofs.Marked.{Slotted, slotted_then}
-use Rattle.world_contract.proofs.Asked.{AsksGuarded, asks_then}
-use Rattle.world_contract.proofs.Begun.{job_same, party_stays, wants_same}
+use Rattle.world_contract.proofs.Asked.{AsksGuarded}
+use Rattle.world_contract.proofs.Begun.{wants_same}
 use Rattle.world_contract.proofs.Pages.{HasDevice, IsOfDevice, IsOfOne, loads_if, name_there}
-use Rattle.world_contract.proofs.Options.{IsForced, streaming}
-use Rattle.world_contract.proofs.NoPictures.{IsSet, no_meaning, starting}
+use Rattle.world_contract.proofs.Options.{IsForced}
 use Rattle.world_contract.proofs.Nearest.{nearest_for}
 use Rattle.world_contract.proofs.Scanned.{infos_of, name_of}
 

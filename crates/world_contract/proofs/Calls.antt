@@ -1,6 +1,6 @@
 -- What each call promises, and what all of them do.
 use Rattle.std.specs.Prelude.{◌^◌, cond, if◌then◌else◌, ◌<◌, ◌≤◌, ◌≢◌, All, min, length, map, option_map, option_and_then, slice_get}
-use Rattle.std.proofs.Common.{arith, ◌≡◌, ◌∙◌, ℕ, zero, suc, ◌+◌, List, [], ◌∷◌, ◌++◌, Option, Some, None, Bool, true, false, refl, sym, ap, subst, ◌⊎◌, inl, inr}
+use Rattle.std.proofs.Common.{arith, ◌≡◌, ◌∙◌, ℕ, zero, suc, List, [], ◌∷◌, Option, Some, None, Bool, true, false, refl, sym, ap, subst, ◌⊎◌, inl, inr}
 use Rattle.std.proofs.lemmas.Option.{slice_get_within}
 use Rattle.std.proofs.lemmas.List.Elements.{All-map}
 use Rattle.std.specs.List.{AllByRecursion}
@@ -17,15 +17,11 @@ use Rattle.scan_job.specs.declared.job.Task.TheVariants as tasks
 use Rattle.client_replies.specs.ProtocolStates.{is_batch, is_running}
 use Rattle.saned_core.specs.DaemonStates.{Core}
 use Rattle.scan_world.specs.declared.event.Event.{Event}
-use Rattle.scan_world.specs.declared.event.JobEvent.{JobEvent}
-use Rattle.scan_world.specs.declared.event.JobEvent.TheVariants as actions
-use Rattle.scan_world.specs.declared.event.Event.TheVariants.{Connect, ToDaemon, ToClient, DataConnect, DataTurn, DataToClient, LoseControl, LoseImage, Cancel, Load, Unplug}
 use Rattle.scan_world.specs.declared.endpoint.Endpoint.{Endpoint}
 use Rattle.scan_world.specs.Endpoints.{budget_of, finished_page}
-use Rattle.scan_world.specs.JobEvents.{job_event_of}
 use Rattle.scan_world.specs.JobMoves.{IsNextMove, moves_left_of}
-use Rattle.scan_world.specs.Rounds.{Rounds, RoundsRunOut, TakesMoves, all_made, moves_made}
-use Rattle.scan_world.specs.Worlds.{AreNew, IsInitialWorld, MayRun, Runs, WorldCore}
+use Rattle.scan_world.specs.Rounds.{RoundsRunOut, all_made}
+use Rattle.scan_world.specs.Worlds.{AreNew, IsInitialWorld, MayRun, WorldCore}
 use Rattle.world_refines.specs.MainTheorem.{AreTrueLoads, IsTrueLoad}
 use Rattle.world_contract.specs.Histories.{History, LedTo, and_then, begun}
 use Rattle.world_contract.specs.Promise.{CountIsKept, FileIsKept, MoveIsKept, MovesAreKept, OutcomeIsKept, PageIsKept}
@@ -34,7 +30,6 @@ use Rattle.world_contract.specs.Laws.{AllFollow, Below}
 use Rattle.world_contract.proofs.Jobs.{IsJob, item_there}
 use Rattle.world_contract.proofs.Led.{led_then}
 use Rattle.world_contract.proofs.NextMoves.{quiet_loads, quiet_moves, rounds_moves}
-use Rattle.world_contract.proofs.Lists.{all_then}
 use Rattle.world_contract.proofs.Scanned.{at_first, kept_by}
 use Rattle.world_refines.proofs.job_events.Constant.{Fixed, all_fixed}
 use Rattle.world_contract.proofs.AllKept.{count_kept, file_kept, move_kept, moves_kept, outcome_kept, page_kept}

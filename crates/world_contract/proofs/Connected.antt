@@ -18,9 +18,8 @@ use Rattle.scan_world.specs.declared.event.Event.TheVariants.{Connect, ToDaemon,
 use Rattle.scan_world.specs.declared.event.JobEvent.{JobEvent}
 use Rattle.scan_world.specs.declared.event.JobEvent.TheVariants as events
 use Rattle.daemon_refines.proofs.Moved.{own}
-use Rattle.world_contract.specs.Histories.{History}
 use Rattle.world_contract.proofs.Begun.{party_stays}
-use Rattle.world_contract.proofs.Lists.{In, all_then, contains_in}
+use Rattle.world_contract.proofs.Lists.{In, all_then}
 use Rattle.world_contract.proofs.Traced.{AreOf, DeedOf, StepOf, Traced}
 
 -- a job that was never connected

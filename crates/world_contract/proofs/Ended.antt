@@ -7,7 +7,6 @@ use Rattle.sane_fixed.specs.declared.device_info.DeviceInfo.{DeviceInfo}
 use Rattle.sane_fixed.specs.declared.status.Status.{Status as Code}
 use Rattle.sane_fixed.specs.declared.status.Status.TheVariants as codes
 use Rattle.page_picture.specs.Shows.{Frame}
-use Rattle.page_picture.specs.SourceView.{source_state}
 use Rattle.md5_auth.specs.declared.users.Entry.{Entry}
 use Rattle.device_api.specs.InForce as devices
 use Rattle.device_api.specs.State.{DeviceState}
@@ -30,7 +29,7 @@ use Rattle.system_model.specs.AbstractInForce.{SettingsResult, abstract_in_force
 use Rattle.system_model.specs.Causes.{Cause, Explains, GaveUp, LinkLost, LinkOutOfMemory, SourceFailed, NamesEof, Names, Unforced, WasUnlisted, HadNoPicture, WasHeld, Disallowed, TrayWasEmpty, TrayRanOut, ClientOutOfMemory, IsCauseAmong, WasUnsaid}
 use Rattle.system_model.specs.Client as rules
 use Rattle.system_model.specs.Client.{JobStage, Idle, Running, Done, Ended, ClientView}
-use Rattle.system_model.specs.Devices.{Make, abstract_status}
+use Rattle.system_model.specs.Devices.{abstract_status}
 use Rattle.system_model.specs.SystemStates.{SystemState}
 use Rattle.system_model.specs.Transitions.{IsUnderWay, Transition, after_transition}
 use Rattle.scan_world.specs.declared.endpoint.Endpoint.{Endpoint}
@@ -45,9 +44,8 @@ use Rattle.world_contract.specs.Calls.{HadUnsaidReply}
 use Rattle.world_contract.specs.Endings.{AnswerIsExplained, IsEndingExplained, IsUnforced, NamesStatus}
 use Rattle.world_contract.specs.Histories.{History, LedTo, history_up_to}
 use Rattle.world_contract.specs.Laws.{Below}
-use Rattle.world_contract.proofs.Along.{Fine, Here, Laws, NotForced, Own, device_named, forced_there}
+use Rattle.world_contract.proofs.Along.{Here, Laws, NotForced, Own, device_named, forced_there}
 use Rattle.world_contract.proofs.Connected.{all_behind}
-use Rattle.world_contract.proofs.Cuts.{cut_of_history}
 use Rattle.world_contract.proofs.Jobs.{IsJob}
 use Rattle.world_contract.proofs.Nearest.{none_nearest}
 use Rattle.world_contract.proofs.OfJobs.{all_of_jobs}
@@ -55,7 +53,7 @@ use Rattle.world_contract.proofs.Pages.{IsOfOne, all_of_one, first_slot}
 use Rattle.world_contract.proofs.Scanned.{at_first, fresh_there, infos_of, untouched_at_first}
 use Rattle.world_contract.proofs.Sources.{have_sources, loads_fit, sources_of}
 use Rattle.world_contract.proofs.Traced.{each_of, traced}
-use Rattle.world_contract.proofs.moments.Judged.{EndedBy, Evid, Judged, JudgedAt, StepSo, all_judged, among_met}
+use Rattle.world_contract.proofs.moments.Judged.{EndedBy, Evid, Judged, JudgedAt, all_judged, among_met}
 use Rattle.world_contract.proofs.moments.Moments.{AnsweredSo, Comes, HappenedSo, come}
 
 -- ---- the words of the rules, and those of the clients
@@ -227,7 +225,7 @@ steps_of_one below h w job l =
     let u = k.ghost_then in
     let steps = k.steps in
     let behind = all_behind (infos_of h) h.events steps t.system (fresh_there h w job l) (traced h.events t steps u k.comes) k.legal in
-    all_of_one h steps (each_of t.infos h.events steps (traced h.events t steps u k.comes)) (all_of_jobs h.events t steps u (untouched_at_first h w job l) k.comes) (cut_of_history h t u job steps l.users_are refl refl k.comes) behind
+    all_of_one h steps (each_of t.infos h.events steps (traced h.events t steps u k.comes)) (all_of_jobs h.events t steps u (untouched_at_first h w job l) k.comes) behind
 
 -- each cause that a job met that is under way has its evidence, and its ending has its own
 pub judged_there : (below : Below) (h : History) (w : WorldCore) (i : ℕ) (job : Job) (l : LedTo h w) → slice_get h.jobs i ≡ Some job → JudgedAt h w i job (comes_there below h w job l).ghost_then.system
@@ -249,13 +247,13 @@ at_end below h w i job endpoint status why j is =
 
 -- ---- a reply that could not be said
 
-unsaid_judged : (h : History) (w : WorldCore) (i : ℕ) (job : Job) (met : List Cause) (pages : List (List Frame)) (stage : JobStage) → IsUnderWay stage → Judged h w i job met pages stage → IsCauseAmong WasUnsaid met → HadUnsaidReply h job
+unsaid_judged : (h : History) (w : WorldCore) (i : ℕ) (job : Job) (met : List Cause) (pages : List (List Frame)) (stage : JobStage) → IsUnderWay stage → Judged h w i job met pages stage → IsCauseAmong WasUnsaid met → HadUnsaidReply h w i job
 unsaid_judged h w i job met pages Idle on a m = among_met h w i job WasUnsaid met a m
 unsaid_judged h w i job met pages (Running g) on a m = among_met h w i job WasUnsaid met a m
 unsaid_judged h w i job met pages Done on a m = absurd on
 unsaid_judged h w i job met pages (Ended status why) on a m = absurd on
 
-pub loss_kept : (below : Below) (h : History) (w : WorldCore) (i : ℕ) (job : Job) (endpoint : Endpoint) → IsJob h w i job endpoint → IsNextMove w.daemon i endpoint (Some (LoseControl i)) → (endpoint.out_of_memory ≡ true) ⊎ HadUnsaidReply h job
+pub loss_kept : (below : Below) (h : History) (w : WorldCore) (i : ℕ) (job : Job) (endpoint : Endpoint) → IsJob h w i job endpoint → IsNextMove w.daemon i endpoint (Some (LoseControl i)) → (endpoint.out_of_memory ≡ true) ⊎ HadUnsaidReply h w i job
 loss_kept below h w i job endpoint j next =
     let k = comes_there below h w job j.led in
     let u = k.ghost_then in

@@ -1,5 +1,5 @@
 -- The events that steps come from: what is so of the event of a step is so of that one.
-use Rattle.std.proofs.Common.{◌⊎◌, ℕ, List, false, Option, inl, inr, sym, subst}
+use Rattle.std.proofs.Common.{Bool, ◌⊎◌, ℕ, List, false, Option, inl, inr, sym, subst}
 use Rattle.sane_fixed.specs.declared.device_info.DeviceInfo.{DeviceInfo}
 use Rattle.system_model.specs.AbstractMessages.{Challenge, Status}
 use Rattle.system_model.specs.Daemon.{FailureCounts}
@@ -60,6 +60,19 @@ answers_event P infos i challenge fault (LoseImage j) so of = absurd of.1
 answers_event P infos i challenge fault (Cancel j) so of = absurd of.1
 answers_event P infos i challenge fault (Load name source) so of = absurd of
 answers_event P infos i challenge fault (Unplug name) so of = absurd of
+
+pub breaks_event : (P : Event → Type 0) (infos : List DeviceInfo) (i : ℕ) (memory : Bool) (e : Event) → P e → StepOf infos e (By i (deeds.Breaks memory)) → (n : ℕ) × P (ToDaemon i n)
+breaks_event P infos i memory (Connect j) so of = absurd of.1
+breaks_event P infos i memory (ToDaemon j n) so of = (n, subst (λ (m : ℕ). P (ToDaemon m n)) (sym of.0) so)
+breaks_event P infos i memory (ToClient j n) so of = absurd of.1
+breaks_event P infos i memory (DataConnect j) so of = absurd of.1
+breaks_event P infos i memory (DataTurn j) so of = absurd of.1
+breaks_event P infos i memory (DataToClient j n) so of = absurd of.1
+breaks_event P infos i memory (LoseControl j) so of = absurd of.1
+breaks_event P infos i memory (LoseImage j) so of = absurd of.1
+breaks_event P infos i memory (Cancel j) so of = absurd of.1
+breaks_event P infos i memory (Load name source) so of = absurd of
+breaks_event P infos i memory (Unplug name) so of = absurd of
 
 pub named_event : (P : Event → Type 0) (infos : List DeviceInfo) (i : ℕ) (status : Status) (e : Event) → P e → StepOf infos e (By i (deeds.TurnsNamed status)) → P (DataTurn i)
 named_event P infos i status (Connect j) so of = absurd of.1

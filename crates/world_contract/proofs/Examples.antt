@@ -44,7 +44,7 @@ only_one x (suc k) d within = absurd (omega (arith, within))
 all_one : {X : Type 0} → (P : X → Type 0) (x : X) → P x → All P (x ∷ [])
 all_one P x h = λ k d within. subst P (sym (only_one x k d within)) h
 
-contains_one : {X : Type 0} (x y : X) → Contains (x ∷ []) y → x ≡ y
+pub contains_one : {X : Type 0} (x y : X) → Contains (x ∷ []) y → x ≡ y
 contains_one x y (zero, within, is) = is
 contains_one x y (suc k, within, is) = absurd (omega (arith, within))
 

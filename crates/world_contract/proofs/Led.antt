@@ -1,5 +1,5 @@
 -- What events behind a history led to.
-use Rattle.std.proofs.Common.{◌≡◌, List, [], ◌∷◌, ◌++◌, refl, subst}
+use Rattle.std.proofs.Common.{List, [], ◌∷◌, ◌++◌, refl, subst}
 use Rattle.page_picture.specs.SourceView.{source_state}
 use Rattle.scan_world.specs.declared.event.Event.{Event}
 use Rattle.scan_world.specs.Worlds.{Leads, Runs, WorldCore}

@@ -8,7 +8,6 @@ pub mod Asked
 pub mod Traced
 pub mod OfJobs
 pub mod Connected
-pub mod Cuts
 pub mod Pages
 pub mod Sources
 pub mod Settings
@@ -30,3 +29,6 @@ pub mod Timely
 pub mod Examples
 pub mod moments
 pub mod Refused
+pub mod Unhindered
+pub mod Clear
+pub mod PlainJob

@@ -10,7 +10,6 @@ use Rattle.scan_world.specs.declared.event.Event.TheVariants.{Load, Unplug}
 use Rattle.scan_world.specs.declared.event.JobEvent.{JobEvent}
 use Rattle.scan_world.specs.declared.event.JobEvent.TheVariants as moves
 use Rattle.scan_world.specs.JobEvents.{job_event_of}
-use Rattle.scan_world.specs.JobMoves.{IsNextMove}
 use Rattle.scan_world.specs.Rounds.{Rounds, TakesMoves, all_made, moves_made}
 use Rattle.scan_world.specs.Worlds.{WorldCore}
 use Rattle.world_refines.specs.MainTheorem.{AreTrueLoads, IsTrueLoad}

@@ -1,17 +1,14 @@
 -- Where a start finds no picture: the request was START, the job's settings were in force, and mean no picture on the page.
 use Rattle.std.specs.Prelude.{option_map, if◌then◌else◌}
-use Rattle.std.specs.List.{AllByRecursion}
-use Rattle.std.proofs.Common.{◌≡◌, ◌∙◌, ◌≢◌, ℕ, List, [], ◌∷◌, Bool, true, false, Option, Some, None, inl, inr, refl, sym, ap, eqb}
+use Rattle.std.proofs.Common.{◌≡◌, ◌∙◌, ◌≢◌, ℕ, List, [], ◌∷◌, Bool, true, false, Some, None, inl, inr, refl, sym, ap}
 use Rattle.page_picture.specs.Extent.{extent_of}
 use Rattle.page_picture.specs.Meaning.{meaning_of, picture_of}
 use Rattle.scan_frames.specs.Frames.{frame_of, frames_of, has_picture, takes_colors}
 use Rattle.scan_laws.specs.SetAndJoin as rules
-use Rattle.system_model.specs.AbstractMessages.{Challenge, AbstractRequest, Init, GetDevices, Open, Authorize, Describe, Get, Set, Parameters, Start, Cancel, Close, Exit, same_text}
+use Rattle.system_model.specs.AbstractMessages.{AbstractRequest, Init, GetDevices, Open, Authorize, Describe, Get, Set, Parameters, Start}
 use Rattle.device_api.specs.Kinds.{Page}
-use Rattle.system_model.specs.Devices.{Make, OptionsInForce, AbstractAcceptedSet, accept_value, has_readable_value, picture_frames}
-use Rattle.system_model.specs.AbstractDevices.{AbstractDevice, is_held_by, is_resting}
-use Rattle.system_model.specs.Causes.{Cause, HadNoPicture, WasUnlisted, WasHeld, Disallowed}
-use Rattle.system_model.specs.Daemon.{AnswerEffect, Environment, TransferState, allow, answer, answer_awaited, answer_if, get_reply, hand_out_device, held_cause, open_listed, put_reply, refuse, serve, set_reply, take_listed}
+use Rattle.system_model.specs.Devices.{Make, OptionsInForce, picture_frames}
+use Rattle.system_model.specs.AbstractDevices.{AbstractDevice}
 use Rattle.system_model.specs.Client.{JobStage, Idle, Running, Done, Ended, AbstractProgress, Greeting, Listing, Opening, Allowing, Describing, Putting, Getting, Starting, Shaping, Imaging, ClientView, request_awaited}
 use Rattle.system_model.specs.SystemStates.{SessionView, JobState}
 use Rattle.system_model.specs.Transitions.{IsUnderWay}

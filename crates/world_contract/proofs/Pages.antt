@@ -27,7 +27,6 @@ use Rattle.world_contract.proofs.Traced.{IsOfSome, StepOf}
 use Rattle.world_contract.proofs.OfJobs.{IsOfJob}
 use Rattle.page_picture.specs.SourceView.{source_state}
 use Rattle.world_contract.proofs.Connected.{ComesBehind}
-use Rattle.world_contract.proofs.Cuts.{IsCutAt}
 
 -- there is a device of that place; and a page of it
 abbrev pub HasDevice : History → ℕ → Type 0
@@ -101,12 +100,11 @@ pub record IsOfOne (h : History) (x : Transition) : Type 0 where
   pub among : In event h.events
   pub is : StepOf (map info_of_state h.devices) event x
   pub there : IsOfJob (length h.jobs) x
-  pub cut : IsCutAt h x
   pub behind : ComesBehind (map info_of_state h.devices) h.events x
 
-pub all_of_one : (h : History) (xs : List Transition) → AllByRecursion (IsOfSome (map info_of_state h.devices) h.events) xs → AllByRecursion (IsOfJob (length h.jobs)) xs → AllByRecursion (IsCutAt h) xs → AllByRecursion (ComesBehind (map info_of_state h.devices) h.events) xs → AllByRecursion (IsOfOne h) xs
-all_of_one h [] a b c d = tt
-all_of_one h (x ∷ xs) a b c d = (record { event = a.0.event; among = a.0.among; is = a.0.is; there = b.0; cut = c.0; behind = d.0 }, all_of_one h xs a.1 b.1 c.1 d.1)
+pub all_of_one : (h : History) (xs : List Transition) → AllByRecursion (IsOfSome (map info_of_state h.devices) h.events) xs → AllByRecursion (IsOfJob (length h.jobs)) xs → AllByRecursion (ComesBehind (map info_of_state h.devices) h.events) xs → AllByRecursion (IsOfOne h) xs
+all_of_one h [] a b d = tt
+all_of_one h (x ∷ xs) a b d = (record { event = a.0.event; among = a.0.among; is = a.0.is; there = b.0; behind = d.0 }, all_of_one h xs a.1 b.1 d.1)
 
 pub loads_if : (h : History) (d : ℕ) (s : SystemState) (x : Transition) → IsOfOne h x → (b : Bool) → eqb d (touched_device s x) ≡ b → AllByRecursion (LoadsIt (IsOfDevice h d)) (cond b (marks s x) [])
 loads_if h d s x of false e = tt

@@ -1,7 +1,8 @@
 -- Why the promise refuses what it refuses.
-use Rattle.std.specs.Prelude.{◌≢◌, ◌<◌, map, option_map, slice_get, Contains}
+use Rattle.std.specs.Prelude.{◌≢◌, ◌<◌, map, option_map, slice_get}
 use Rattle.std.proofs.Common.{◌≡◌, ◌∙◌, ◌⊎◌, ℕ, List, [], ◌∷◌, Bool, true, false, Option, Some, None, inl, inr, refl, sym, ap, subst, arith}
-use Rattle.page_picture.specs.SourceView.{source_state}
+use Rattle.page_picture.specs.Meaning.{meaning_of}
+use Rattle.page_picture.specs.Page.{PageView}
 use Rattle.sane_fixed.specs.declared.status.Status.{Status}
 use Rattle.sane_fixed.specs.declared.status.Status.TheVariants as statuses
 use Rattle.option_desc.specs.declared.descriptor.Descriptor.{Descriptor}
@@ -9,11 +10,15 @@ use Rattle.option_desc.specs.declared.value.Value.{Value}
 use Rattle.page_picture.specs.declared.scene.DeviceKind.{DeviceKind}
 use Rattle.page_picture.specs.declared.scene.DeviceKind.TheVariants.{Flatbed, Hand, ThreePass, Feeder}
 use Rattle.scan_frames.specs.declared.setup.Setup.{Setup}
+use Rattle.device_api.specs.InForce.{Placement}
 use Rattle.device_api.specs.Options.{descriptor_of, options_of}
+use Rattle.scan_laws.specs.SetInfo.{has_bit}
+use Rattle.scan_job.specs.declared.report.Report.{Report}
+use Rattle.world_refines.specs.GhostStates.{backend_of, is_guarded}
 use Rattle.saned_core.specs.DaemonStates.{Core}
 use Rattle.scan_job.specs.declared.job.Job.{Job}
 use Rattle.scan_job.specs.declared.outcome.Outcome.{Outcome}
-use Rattle.scan_job.specs.declared.outcome.Outcome.TheVariants.{Running, Ended}
+use Rattle.scan_job.specs.declared.outcome.Outcome.TheVariants.{Running, Done, Ended}
 use Rattle.scan_job.specs.declared.outcome.Why.TheVariants as whys
 use Rattle.scan_world.specs.declared.endpoint.Endpoint.{Endpoint}
 use Rattle.scan_world.specs.declared.event.Event.{Event}
@@ -21,15 +26,16 @@ use Rattle.scan_world.specs.declared.event.Event.TheVariants as events
 use Rattle.scan_world.specs.declared.event.Event.TheVariants.{Cancel, ToDaemon}
 use Rattle.scan_world.specs.declared.event.JobEvent.{JobEvent}
 use Rattle.scan_world.specs.declared.event.JobEvent.TheVariants as moves
-use Rattle.scan_world.specs.JobEvents.{Can, job_event_of}
+use Rattle.scan_world.specs.JobEvents.{job_event_of}
 use Rattle.scan_world.specs.JobMoves.{IsFirstMove, IsNext, in_order}
 use Rattle.scan_world.specs.Worlds.{WorldCore}
 use Rattle.client_replies.specs.ProtocolStates.{is_running}
-use Rattle.world_contract.specs.Calls.{AreNextMoves, CancelEnds, MovesNext, outcome_at}
-use Rattle.world_contract.specs.Endings.{AnswerIsExplained, HadNoPage, NamesStatus}
+use Rattle.world_contract.specs.Calls.{AreNextMoves, HadUnsaidReply, MovesNext, outcome_at, starved_at}
+use Rattle.world_contract.specs.Clear.{StoppedIsNoLie}
+use Rattle.world_contract.specs.Endings.{AnswerIsExplained, HadNoPage, IsJudged, NamesStatus}
 use Rattle.world_contract.specs.Histories.{History}
-use Rattle.world_contract.specs.Reports.{told_option}
-use Rattle.world_contract.specs.Lies.{Always, BusyIsNoLie, CancelledIsNoLie, CountIsNoLie, DeniedIsNoLie, EmptyIsNoLie, FailedIsNoLie, GivenUpIsNoLie, GoneOnIsNoLie, IdleIsNoLie, InvalIsNoLie, ListIsNoLie, LostIsNoLie, MemoryIsNoLie, NamesNothing, SharedIsNoLie, ShownIsNoLie, SwappedIsNoLie}
+use Rattle.world_contract.specs.Reports.{AreSettingsReported, IsSettingReported, told_option}
+use Rattle.world_contract.specs.Lies.{AllowedIsNoLie, BusyIsNoLie, CancelledIsNoLie, CountIsNoLie, DeniedIsNoLie, EmptyIsNoLie, FailedIsNoLie, FileIsNoLie, GivenUpIsNoLie, GoneOnIsNoLie, HiddenIsNoLie, IdleIsNoLie, InvalIsNoLie, ListIsNoLie, LossIsNoLie, LostIsNoLie, MemoryIsNoLie, MissingIsNoLie, MovedIsNoLie, NamesNothing, NowhereIsNoLie, PageIsNoLie, RoundedIsNoLie, SharedIsNoLie, ShownIsNoLie, SilentIsNoLie, StuckIsNoLie, SwappedIsNoLie, WholeIsNoLie}
 
 -- ---- endings
 
@@ -50,20 +56,20 @@ inval h w i job starved nothing forced listed meant = by_answer h w i job status
     by_case : AnswerIsExplained h w i job statuses.Inval → ⊥
     by_case (inl unforced) = forced unforced
     by_case (inr (inl (asked, none))) = listed asked.n asked.at none
-    by_case (inr (inr none)) = meant none.asked.n none.asked.at none.device none.has none.none
+    by_case (inr (inr none)) = meant none.asked.n none.asked.at none.device none.has (ap (λ (x : PageView). meaning_of x none.device.setup.scene) (sym none.first) ∙ (ap (λ (x : Setup). meaning_of none.held.page x.scene) (sym none.options) ∙ none.none))
 
 pub denied : DeniedIsNoLie
-denied h w i job starved nothing right = by_answer h w i job statuses.AccessDenied nothing (λ d. (let clash : true ≡ false = sym (right d.sent.resource) ∙ d.denied in cc))
+denied h w i job starved nothing right = by_answer h w i job statuses.AccessDenied nothing (λ (asked, d). (let clash : true ≡ false = sym (right d.sent.resource) ∙ d.is in cc))
 
 pub empty : EmptyIsNoLie
-empty h w i job starved nothing some = by_answer h w i job statuses.NoDocs nothing (λ (asked, d, has, none). some asked.n asked.at d has none)
+empty h w i job starved nothing some = by_answer h w i job statuses.NoDocs nothing (λ (asked, finished, (d, has, none)). some asked.n asked.at d has none)
 
 pub failed : FailedIsNoLie
 failed h w i job starved nothing none = by_answer h w i job statuses.IoError nothing by_case
   where
     by_case : AnswerIsExplained h w i job statuses.IoError → ⊥
     by_case (inl (asked, failed)) = none (ToDaemon i asked.n) asked.at failed
-    by_case (inr (turn, failed)) = none _ turn.0 failed
+    by_case (inr (turn, failed, sent)) = none _ turn.0 failed
 
 pub lost : LostIsNoLie
 lost h w i job control image (same, inl (inl happened)) = control happened
@@ -94,16 +100,89 @@ first_option setup Hand e = none_is _ e
 first_option setup ThreePass e = none_is _ e
 
 pub shown : ShownIsNoLie
-shown h w i job reports device show there named empty done =
-    let s = done.shown device show there named in
-    first_option s.setup s.setup.scene.kind (sym (ap (λ (o : List (Descriptor × Option Value)). slice_get o 0) empty) ∙ s.shown 0)
+shown h w i job reports show empty done =
+    let s = done.shown show in
+    first_option s.0.setup s.0.setup.scene.kind (sym (ap (λ (o : List (Descriptor × Option Value)). slice_get o 0) empty) ∙ s.1 0)
 
 pub counted : CountIsNoLie
 counted h w i job reports count finished batch other some kept = by_case (kept count reports batch refl)
   where
-    by_case : (finished ≡ count) ⊎ ((0 < finished) × (finished < count) × HadNoPage h w i job) → ⊥
+    by_case : (finished ≡ count) ⊎ ((0 < finished) × (finished < count) × HadNoPage h w i job finished) → ⊥
     by_case (inl all) = other all
-    by_case (inr (more, fewer, (asked, d, has, none))) = some asked.n asked.at d has none
+    by_case (inr (more, fewer, (asked, behind, (d, has, none)))) = some asked.n asked.at d has none
+
+-- the device that the settings of a job that is done are put on is there
+pub nowhere : NowhereIsNoLie
+nowhere h w i job reports list none done = let s = (done.answered list).0 in none s.device s.is_there s.named
+
+pub hidden : HiddenIsNoLie
+hidden h w i job reports list never done = let o = done.opened list in o.listed (never o.asked.n o.asked.at)
+
+pub allowed : AllowedIsNoLie
+allowed h w i job reports list guarded wrong done = by_case (done.opened list).permitted
+  where
+    by_case : (is_guarded h.users (backend_of job.device) ≡ false) ⊎ IsJudged h (done.opened list).asked.at.before i job true → ⊥
+    by_case (inl unguarded) = let clash : true ≡ false = sym guarded ∙ unguarded in cc
+    by_case (inr judged) = let clash : false ≡ true = sym (wrong judged.sent.resource) ∙ judged.is in cc
+
+silent_settings : (settings : List (List ℕ × List ℕ)) (placed : List Placement) (reports : List Report) (setting : List ℕ × List ℕ) (more : List (List ℕ × List ℕ)) → settings ≡ setting ∷ more → reports ≡ [] → AreSettingsReported settings placed reports → ⊥
+silent_settings [] placed reports setting more e none h = let clash : [] ≡ setting ∷ more = e in cc
+silent_settings (s ∷ settings) [] reports setting more e none h = h
+silent_settings (s ∷ settings) (p ∷ placed) [] setting more e none h = h
+silent_settings (s ∷ settings) (p ∷ placed) (r ∷ reports) setting more e none h = let clash : r ∷ reports ≡ [] = none in cc
+
+pub silent : SilentIsNoLie
+silent h w i job reports setting more list some none done = let a = done.answered list in silent_settings job.settings.items a.0.placed reports.settings setting more some none a.1
+
+exact_first : (settings : List (List ℕ × List ℕ)) (placed : List Placement) (reports : List Report) (report : Report) (more : List Report) → reports ≡ report ∷ more → AreSettingsReported settings placed reports → report.given ≢ report.asked → has_bit report.info 1 ≡ false → ⊥
+exact_first [] [] [] report more e h other off = let clash : [] ≡ report ∷ more = e in cc
+exact_first [] [] (r ∷ reports) report more e h other off = h
+exact_first [] (p ∷ placed) reports report more e h other off = h
+exact_first (s ∷ settings) [] reports report more e h other off = h
+exact_first (s ∷ settings) (p ∷ placed) [] report more e h other off = h
+exact_first (s ∷ settings) (p ∷ placed) (r ∷ reports) report more e h other off =
+    let same : r ≡ report = (let both : r ∷ reports ≡ report ∷ more = e in cc) in
+    let on : has_bit report.info 1 ≡ true = (subst (IsSettingReported s p) same h.0).inexact.1 other in
+    let clash : false ≡ true = sym off ∙ on in cc
+
+pub rounded : RoundedIsNoLie
+rounded h w i job reports report more list first other off done = let a = done.answered list in exact_first job.settings.items a.0.placed reports.settings report more first a.1 other off
+
+-- ---- a file
+
+pub filed : FileIsNoLie
+filed h w i job starved reports bytes steady scan never kept =
+    let s = kept.scanned reports bytes steady scan refl refl in
+    never s.started.asked.n s.started.asked.at s.started.device s.settled s.picture s.started.has (ap (λ (p : PageView). meaning_of p s.settled.setup.scene) s.started.first ∙ s.meant) s.denotes
+
+pub paged : PageIsNoLie
+paged h w i job starved finished k bytes steady never kept =
+    let s = (kept.scanned bytes refl).2 steady in
+    never s.started.asked.n s.started.asked.at s.started.finished s.started.device s.settled s.picture s.started.has (ap (λ (p : PageView). meaning_of p s.settled.setup.scene) s.started.first ∙ s.meant) s.denotes
+
+pub whole : WholeIsNoLie
+whole h w i job starved outcome bytes undone is kept = let r = kept.whole bytes refl is in undone r.0 r.2
+
+pub missing : MissingIsNoLie
+missing h w i job outcome kept = let clash : false ≡ true = kept.missing refl in cc
+
+-- ---- a move
+
+pub stuck : StuckIsNoLie
+stuck kept = let clash : false ≡ true = kept.running refl in cc
+
+none_move : (event : Event) → Some event ≡ None → ⊥
+none_move event e = let clash : ◌≡◌ {A = Option Event} (Some event) None = e in cc
+
+pub moved : MovedIsNoLie
+moved reports event kept = none_move event (kept.over (λ same. (let clash : Done reports ≡ Running = same in cc)))
+
+pub given_to_loss : LossIsNoLie
+given_to_loss h w i job memory never good = by_case (good.loss refl)
+  where
+    by_case : (starved_at w i ≡ true) ⊎ HadUnsaidReply h w i job → ⊥
+    by_case (inl out) = let clash : false ≡ true = sym memory ∙ out in cc
+    by_case (inr (n, at, cut)) = never n at cut
 
 -- ---- a run
 
@@ -161,7 +240,7 @@ next_not d j i p (Some x) true at is runs over =
     no_cancel d p in_order other_moves (subst (IsFirstMove d p in_order) (cancel_is j i x same) (runs at))
 next_not d j i p (Some x) false at is runs over = let clash : Some x ≡ None = over at in cc
 
-cancel_next : (d : Core) (j i : ℕ) (o : Option Endpoint) → MovesNext d j o (Some (Cancel i)) → ⊥
+pub cancel_next : (d : Core) (j i : ℕ) (o : Option Endpoint) → MovesNext d j o (Some (Cancel i)) → ⊥
 cancel_next d j i None next = let clash : Some (Cancel i) ≡ None = next in cc
 cancel_next d j i (Some p) next = next_not d j i p next.job_event (is_running p.client.outcome) refl next.event_is next.runs next.over
 
@@ -171,10 +250,16 @@ given_up h w v i out is = by_first (subst (λ (es : List Event). AreNextMoves es
     by_first : AreNextMoves (Cancel i ∷ []) w v → ⊥
     by_first (j, next, rest) = cancel_next w.daemon j i (slice_get w.endpoints j) next
 
+pub stopped : StoppedIsNoLie
+stopped h w i job status why enough other never (inl (reports, same)) = let clash : Ended status why ≡ Done reports = same in cc
+stopped h w i job status why enough other never (inr (inl (inl out))) = let clash : false ≡ true = sym enough ∙ out in cc
+stopped h w i job status why enough other never (inr (inl (inr same))) = other (let both : Ended status why ≡ Ended statuses.NoMem whys.Memory = same in cc)
+stopped h w i job status why enough other never (inr (inr broke)) = never broke
+
 -- ---- devices
 
 pub shared : SharedIsNoLie
 shared w i j name a b apart x y one = apart (one i j name a b x y)
 
 pub swapped : SwappedIsNoLie
-swapped w v i name a b e runs x y was busy other stays = other (stays i name a b e refl (λ n is. runs) x y was busy)
+swapped w v i name a b e x y was busy other stays = other (stays i name a b e refl x y was busy)

@@ -1,5 +1,5 @@
 -- The file of a scan, and each finished page of a batch.
-use Rattle.std.specs.Prelude.{length, option_map, map, slice_get, ◌<◌}
+use Rattle.std.specs.Prelude.{length, option_map, map, slice_get}
 use Rattle.std.specs.List.{AllByRecursion}
 use Rattle.std.proofs.Common.{◌≡◌, ◌∙◌, ℕ, zero, suc, List, [], ◌∷◌, Option, Some, None, refl, sym, ap, subst, true}
 use Rattle.std.specs.List.{position}
@@ -8,9 +8,6 @@ use Rattle.page_picture.specs.SourceView.{source_state}
 use Rattle.device_api.specs.State.{DeviceState}
 use Rattle.sane_fixed.specs.declared.device_info.DeviceInfo.{DeviceInfo}
 use Rattle.scan_job.specs.declared.job.Job.{Job}
-use Rattle.scan_job.specs.declared.job.Task.TheVariants as tasks
-use Rattle.scan_job.specs.declared.outcome.Outcome.TheVariants.{Done}
-use Rattle.scan_job.specs.declared.report.Reports.{Reports}
 use Rattle.system_model.specs.Devices.{Make}
 use Rattle.system_model.specs.AbstractDevices.{Begin}
 use Rattle.system_model.specs.SystemStates.{SystemState, make_for, wanted_place}
@@ -18,29 +15,22 @@ use Rattle.system_model.specs.Transitions.{after_all}
 use Rattle.system_model.specs.Marks.{device_view}
 use Rattle.system_model.specs.MoveRuns.{all_marks}
 use Rattle.system_model.specs.ModelPromises.{NotesAreTrue}
-use Rattle.scan_world.specs.declared.endpoint.Endpoint.{Endpoint}
 use Rattle.scan_world.specs.Worlds.{WorldCore}
 use Rattle.world_refines.specs.GhostStates.{Ghost, place_or_length, job_state, place_named}
-use Rattle.world_refines.specs.NewWorlds.{info_of_state, make_of, initial_ghost}
+use Rattle.world_refines.specs.NewWorlds.{info_of_state, initial_ghost}
 use Rattle.world_refines.specs.WorldPromises.{IsMeant}
 use Rattle.world_refines.specs.MainTheorem.{AllIsKept, PromisesAreKept, RunRefines}
 use Rattle.world_refines.proofs.job_events.Constant.{Fixed, all_fixed, makes_stay}
 use Rattle.world_refines.proofs.state.Infos.{is_name, name_here}
-use Rattle.world_contract.proofs.Nearest.{nearest_for}
 use Rattle.world_contract.specs.Histories.{History, LedTo}
-use Rattle.world_contract.specs.Page.{IsScan, CameFor, IsSteady}
-use Rattle.world_contract.proofs.Jobs.{IsJob}
-use Rattle.world_contract.proofs.Lists.{at_all, contains_at}
+use Rattle.world_contract.specs.Page.{IsSteady}
 use Rattle.world_contract.proofs.Marked.{starts_there}
 use Rattle.world_contract.proofs.Begun.{all_begun, wants_all}
 use Rattle.world_contract.proofs.Sources.{sources_of, loads_fit, make_at, have_sources, steady_there}
 use Rattle.world_contract.proofs.Pages.{HasDevice, IsBegun, IsOfDevice, all_loads, all_of_one, first_slot, name_there}
 use Rattle.world_contract.proofs.OfJobs.{AreUntouched, all_of_jobs, no_image_at_first}
 use Rattle.world_contract.proofs.Traced.{each_of, traced}
-use Rattle.page_picture.specs.Page.{PageView}
-use Rattle.page_picture.specs.Meaning.{meaning_of}
 use Rattle.world_contract.proofs.Connected.{ComesBehind, IsUnlinked, all_behind}
-use Rattle.world_contract.proofs.Cuts.{cut_of_history}
 use Rattle.system_model.specs.Client.{Idle, Running}
 
 -- ---- what all that happened stands for
@@ -71,7 +61,7 @@ pub begun_there : NotesAreTrue → (h : History) (w : WorldCore) (job : Job) (l 
 begun_there notes h w job l k i =
     let t = at_first h w job l in
     let steps = k.run.steps in
-    let of = all_of_one h steps (each_of t.infos h.events steps (traced h.events t steps k.run.ghost_then k.run.comes)) (all_of_jobs h.events t steps k.run.ghost_then (untouched_at_first h w job l) k.run.comes) (cut_of_history h t k.run.ghost_then job steps l.users_are refl refl k.run.comes) (behind_there h w job l k.run) in
+    let of = all_of_one h steps (each_of t.infos h.events steps (traced h.events t steps k.run.ghost_then k.run.comes)) (all_of_jobs h.events t steps k.run.ghost_then (untouched_at_first h w job l) k.run.comes) (behind_there h w job l k.run) in
     let starts = λ (d : ℕ). starts_there (HasDevice h d) (IsOfDevice h d) (all_marks d t.system steps) (device_view (t.system.make d) (t.system.device d)) (device_view (t.system.make d) ((after_all t.system steps).device d)) (k.run.marks d) (all_loads h steps t.system of d) (first_slot h (t.system.make d) d) in
     let begun = all_begun notes (IsBegun h) steps t.system starts (λ j. tt) i in
     subst (λ (s : SystemState). AllByRecursion (IsBegun h (wanted_place t.system i)) (s.job i).session.started) (sym k.run.rules_are)

@@ -61,7 +61,7 @@ fallible_at h d = fallible_of_make (sources_of h d) (slice_get h.devices d)
 
 -- ---- tests of lists
 
-neither : (a b : Bool) → (a || b) ≡ false → (a ≡ false) × (b ≡ false)
+pub neither : (a b : Bool) → (a || b) ≡ false → (a ≡ false) × (b ≡ false)
 neither true b e = absurd (false≢true (sym e))
 neither false b e = (refl, e)
 
@@ -121,7 +121,7 @@ have_sources h k s at = each_source (make_of (sources_of h k) (Some s)) s.pages 
 
 -- ---- what events bring
 
-named_at : (devices : List DeviceState) (k : ℕ) (name : List ℕ) → name_at (map info_of_state devices) k ≡ Some name → (s : DeviceState) × (slice_get devices k ≡ Some s) × (s.info.name ≡ name)
+pub named_at : (devices : List DeviceState) (k : ℕ) (name : List ℕ) → name_at (map info_of_state devices) k ≡ Some name → (s : DeviceState) × (slice_get devices k ≡ Some s) × (s.info.name ≡ name)
 named_at [] k name e = absurd (let clash : None ≡ Some name = e in cc)
 named_at (s ∷ devices) zero name e = (s, refl, (let same : Some s.info.name ≡ Some name = e in cc))
 named_at (s ∷ devices) (suc k) name e = named_at devices k name e

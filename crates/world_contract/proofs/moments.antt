@@ -5,6 +5,8 @@ pub mod Waiting
 pub mod Stands
 pub mod Tray
 pub mod Whole
+pub mod Sends
+pub mod Finished
 pub mod Moments
 pub mod Judged
 pub mod Listed
@@ -19,3 +21,5 @@ pub mod Delivered
 pub mod Unfiled
 pub mod Started
 pub mod Filed
+pub mod Opened
+pub mod Counted

@@ -1,5 +1,5 @@
 -- What the calls of a world answer, and what each promises, for whatever history led to the world.
-use Rattle.std.specs.Prelude.{ℕ, ◌≡◌, ◌≢◌, ◌⊎◌, ◌<◌, ◌≤◌, ◌^◌, if◌then◌else◌, Bool, false, min, Option, Some, None, option_map, option_and_then, List, [], ◌∷◌, ◌++◌, Contains, length, slice_get, true, map}
+use Rattle.std.specs.Prelude.{ℕ, ◌≡◌, ◌≢◌, ◌⊎◌, ◌<◌, ◌≤◌, ◌^◌, if◌then◌else◌, Bool, false, min, Option, Some, None, option_map, option_and_then, List, [], ◌∷◌, ◌++◌, Contains, length, slice_get, true}
 use Rattle.page_picture.specs.SourceView.{source_state}
 use Rattle.page_picture.specs.declared.sources.kinds.Source.{Source}
 use Rattle.sane_fixed.specs.declared.status.Status.{Status}
@@ -23,8 +23,7 @@ use Rattle.scan_world.specs.JobEvents.{job_event_of}
 use Rattle.scan_world.specs.JobMoves.{IsNextMove, moves_left_of}
 use Rattle.scan_world.specs.Rounds.{total_left}
 use Rattle.scan_world.specs.Worlds.{Leads, Runs, WorldCore}
-use Rattle.world_refines.specs.Answering.{HasUnsaidReply}
-use Rattle.world_refines.specs.NewWorlds.{info_of_state}
+use Rattle.world_refines.specs.FailedSources.{CutIn}
 use Rattle.world_contract.specs.Endings.{IsEndingExplained}
 use Rattle.world_contract.specs.Histories.{History, LedTo, Moment, and_then, history_up_to}
 use Rattle.world_contract.specs.Promise.{JobAnswers, CountIsKept, FileIsKept, MoveIsKept, MovesAreKept, OutcomeIsKept, PageIsKept}
@@ -144,19 +143,20 @@ KeepsMemory w i given =
     given ≡ false → (file_answered w i ≢ None)
     × ((k : ℕ) → 0 < k → k ≤ finished_at w i → page_answered w i k ≢ None))
 
--- something that the job asks has a reply that passes a limit of the wire, or that has no spelling
-abbrev pub HadUnsaidReply : History → Job → Type 0
-HadUnsaidReply h job = HasUnsaidReply h.users (map info_of_state h.devices) job
+-- in a delivery of its request its session answered, as it stood, with a reply that passes a limit of the wire, or that
+-- has no spelling
+abbrev pub HadUnsaidReply : History → WorldCore → ℕ → Job → Type 0
+HadUnsaidReply h w i job = (n : ℕ) × (at : Moment h w (ToDaemon i n)) × CutIn at.before i job
 
 -- **good move (`IsGoodMove`, `HadUnsaidReply`)**: a job has a next move just where it runs, and it is the loss of the
--- control connection only where the job is told as out of memory, or where a reply to something that it asks cannot be
--- said on the wire.
+-- control connection only where the job is told as out of memory, or where in a delivery of its request its session, as
+-- it stood, answered with a reply that cannot be said on the wire.
 --
 -- `next_move`: it is the loss of the control connection only where the job is told as out of memory, or had such a
 -- reply
 pub record IsGoodMove (h : History) (w : WorldCore) (i : ℕ) (job : Job) (given : Option Event) : Type 0 where
   pub move : (outcome : Outcome) → outcome_at w i ≡ Some outcome → MoveIsKept outcome given
-  pub loss : given ≡ Some (LoseControl i) → (starved_at w i ≡ true) ⊎ HadUnsaidReply h job
+  pub loss : given ≡ Some (LoseControl i) → (starved_at w i ≡ true) ⊎ HadUnsaidReply h w i job
 
 abbrev pub KeepsMove : WorldCore → ℕ → Option Event → Type 0
 KeepsMove w i given = ForEach w i (λ h job. IsGoodMove h w i job given)
@@ -264,20 +264,18 @@ ScansStay events w v =
     (i : ℕ) (name : List ℕ) (d : DeviceState) → AreOthers events i → is_at_rest d.phase ≡ false → Has w i name d
     → Has v i name d
 
--- Within a scan the page stays: a device that a session has in front of an event and behind it, neither time at
--- rest, has the same first
--- page; so far as the event is a request of the job, while the job runs.
+-- within a scan the page stays: a device that a session has in front of an event and behind it, neither time at rest,
+-- has the same first page
 abbrev pub PageStays : List Event → WorldCore → WorldCore → Type 0
 PageStays events w v =
-    (i : ℕ) (name : List ℕ) (a b : DeviceState) (e : Event) → events ≡ e ∷ []
-    → ((n : ℕ) → e ≡ ToDaemon i n → outcome_at w i ≡ Some Running) → Has w i name a → Has v i name b
+    (i : ℕ) (name : List ℕ) (a b : DeviceState) (e : Event) → events ≡ e ∷ [] → Has w i name a → Has v i name b
     → is_at_rest a.phase ≡ false → is_at_rest b.phase ≡ false → page_of b ≡ page_of a
 
 -- and a start takes the first page of those that the device has
 abbrev pub StartsOnFirst : List Event → WorldCore → WorldCore → Type 0
 StartsOnFirst events w v =
-    (i n : ℕ) (name : List ℕ) (a b : DeviceState) → events ≡ ToDaemon i n ∷ [] → outcome_at w i ≡ Some Running
-    → Has w i name a → Has v i name b → is_at_rest b.phase ≡ false → page_of b ≡ page_of a
+    (i n : ℕ) (name : List ℕ) (a b : DeviceState) → events ≡ ToDaemon i n ∷ [] → Has w i name a → Has v i name b
+    → is_at_rest b.phase ≡ false → page_of b ≡ page_of a
 
 -- ---- moves until no job runs
 

@@ -7,5 +7,6 @@ pub mod Endings
 pub mod Promise
 pub mod Calls
 pub mod Laws
+pub mod Clear
 pub mod Lies
 pub mod Examples

@@ -1,5 +1,8 @@
 -- WHAT THE PROMISE REFUSES: of each part of it the smallest lies. So no part of it holds of whatever happens.
-use Rattle.std.specs.Prelude.{ℕ, ◌≡◌, ◌≢◌, ◌<◌, Bool, true, false, Some, None, List, [], ◌∷◌, Contains}
+use Rattle.std.specs.Prelude.{ℕ, ◌≡◌, ◌≢◌, ◌<◌, ◌-◌, Bool, true, false, Some, None, List, [], ◌∷◌, Contains}
+use Rattle.netpbm.specs.Picture.{Picture}
+use Rattle.netpbm.specs.Pnm.{Denotes, IsWhole}
+use Rattle.scan_laws.specs.SetInfo.{has_bit}
 use Rattle.page_picture.specs.Meaning.{meaning_of}
 use Rattle.sane_fixed.specs.declared.device_info.DeviceInfo.{DeviceInfo}
 use Rattle.sane_fixed.specs.declared.status.Status.TheVariants.{Cancelled, DeviceBusy, Inval, NoDocs, IoError, NoMem, AccessDenied}
@@ -10,29 +13,35 @@ use Rattle.scan_job.specs.declared.job.Job.{Job}
 use Rattle.scan_job.specs.declared.job.Task.TheVariants as tasks
 use Rattle.scan_job.specs.declared.outcome.Outcome.TheVariants.{Done, Running}
 use Rattle.scan_job.specs.declared.outcome.Why.TheVariants as whys
+use Rattle.scan_job.specs.declared.outcome.Outcome.{Outcome}
+use Rattle.scan_job.specs.declared.report.Report.{Report}
 use Rattle.scan_job.specs.declared.report.Reports.{Reports}
 use Rattle.scan_world.specs.declared.event.Event.{Event}
-use Rattle.scan_world.specs.declared.event.Event.TheVariants.{Cancel, ToDaemon}
+use Rattle.scan_world.specs.declared.event.Event.TheVariants.{Cancel, LoseControl, ToDaemon}
 use Rattle.scan_world.specs.declared.event.JobEvent.{JobEvent}
 use Rattle.scan_world.specs.declared.event.JobEvent.TheVariants as moves
 use Rattle.scan_world.specs.JobEvents.{job_event_of}
 use Rattle.scan_world.specs.Worlds.{WorldCore}
-use Rattle.world_refines.specs.FailedSources.{FailedIn}
-use Rattle.world_refines.specs.GhostStates.{backend_of, is_allowed_for}
-use Rattle.world_contract.specs.Calls.{CancelEnds, MoveLowers, OneHolder, PageStays, RunsOut, left_at, outcome_at}
+use Rattle.world_refines.specs.FailedSources.{CutIn, FailedIn}
+use Rattle.world_refines.specs.GhostStates.{backend_of, is_allowed_for, is_guarded}
+use Rattle.world_contract.specs.Calls.{CancelEnds, IsGoodMove, MoveLowers, OneHolder, PageStays, RunsOut, left_at, outcome_at, starved_at}
 use Rattle.world_contract.specs.Endings.{IsEndingExplained, IsUnforced}
 use Rattle.world_contract.specs.Histories.{History, Moment}
-use Rattle.world_contract.specs.Page.{Settled}
-use Rattle.world_contract.specs.Promise.{CountIsKept, JobIsDone}
-use Rattle.world_contract.specs.Sessions.{CanAt, Happened, Has}
+use Rattle.world_contract.specs.Page.{IsSteady, Settled}
+use Rattle.world_contract.specs.Promise.{CountIsKept, FileIsKept, JobIsDone, MoveIsKept, PageIsKept}
+use Rattle.world_contract.specs.Sessions.{CanAt, Happened, Has, HasFinished}
 
 -- ---- of an ending
 
 -- **lies (`BusyIsNoLie`, `InvalIsNoLie`, `DeniedIsNoLie`, `EmptyIsNoLie`, `FailedIsNoLie`, `LostIsNoLie`,
--- `MemoryIsNoLie`, `CancelledIsNoLie`, `ListIsNoLie`, `IdleIsNoLie`, `GoneOnIsNoLie`, `GivenUpIsNoLie`,
--- `SharedIsNoLie`, `SwappedIsNoLie`, `Always`, `NamesNothing`)**: the smallest lies, each with the part of the promise
--- that refuses it: an ending of each kind without what explains it; a list of other devices; a run that does nothing, a
--- cancel that ends nothing, a `run_all` that gives a job up; a device of two holders, and another page in mid-scan.
+-- `MemoryIsNoLie`, `CancelledIsNoLie`, `ListIsNoLie`, `NowhereIsNoLie`, `HiddenIsNoLie`, `AllowedIsNoLie`,
+-- `SilentIsNoLie`, `RoundedIsNoLie`, `FileIsNoLie`, `PageIsNoLie`, `WholeIsNoLie`, `MissingIsNoLie`, `StuckIsNoLie`,
+-- `MovedIsNoLie`, `LossIsNoLie`, `IdleIsNoLie`, `GoneOnIsNoLie`, `GivenUpIsNoLie`, `SharedIsNoLie`, `SwappedIsNoLie`,
+-- `Always`, `NamesNothing`, `DenotesNone`)**: the smallest lies, each with the part of the promise that refuses it: an
+-- ending of each kind without what explains it; a list of other devices; settings on no device, or not told; a file of
+-- another page, or whole too soon, or none; a move too few, too many, or a loss where nothing is wrong; a run that does
+-- nothing, a cancel that ends nothing, a `run_all` that gives a job up; a device of two holders, and another page in
+-- mid-scan.
 -- `Always` says what was so in front of each delivery of a job's requests, and `NamesNothing` that its options name no
 -- status.
 --
@@ -111,11 +120,11 @@ ListIsNoLie =
     → Always h w i (λ before. listed_infos before.daemon.registry ≡ infos) → reports.devices ≢ infos
     → JobIsDone h w i job reports → ⊥
 
--- a show of no option, of a device that is there
+-- a show of no option
 abbrev pub ShownIsNoLie : Type 0
 ShownIsNoLie =
-    (h : History) (w : WorldCore) (i : ℕ) (job : Job) (reports : Reports) (device : DeviceState) → job.task ≡ tasks.Show
-    → Contains h.devices device → device.info.name ≡ job.device → reports.options ≡ [] → JobIsDone h w i job reports → ⊥
+    (h : History) (w : WorldCore) (i : ℕ) (job : Job) (reports : Reports) → job.task ≡ tasks.Show → reports.options ≡ []
+    → JobIsDone h w i job reports → ⊥
 
 -- a batch of fewer pages than its count, though its device had one whenever it asked
 abbrev pub CountIsNoLie : Type 0
@@ -124,6 +133,94 @@ CountIsNoLie =
     → job.task ≡ tasks.Batch count
     → finished ≢ count → Always h w i (λ before. (d : DeviceState) → Has before i job.device d → d.pages ≢ [])
     → CountIsKept h w i job (Done reports) finished → ⊥
+
+-- settings put on a device that is not there
+abbrev pub NowhereIsNoLie : Type 0
+NowhereIsNoLie =
+    (h : History) (w : WorldCore) (i : ℕ) (job : Job) (reports : Reports) → job.task ≢ tasks.List
+    → ((device : DeviceState) → Contains h.devices device → device.info.name ≡ job.device → ⊥)
+    → JobIsDone h w i job reports → ⊥
+
+-- done, though the device was not listed whenever it asked
+abbrev pub HiddenIsNoLie : Type 0
+HiddenIsNoLie =
+    (h : History) (w : WorldCore) (i : ℕ) (job : Job) (reports : Reports) → job.task ≢ tasks.List
+    → Always h w i (λ before. find_name job.device before.daemon.registry ≡ None) → JobIsDone h w i job reports → ⊥
+
+-- done, with the wrong password
+abbrev pub AllowedIsNoLie : Type 0
+AllowedIsNoLie =
+    (h : History) (w : WorldCore) (i : ℕ) (job : Job) (reports : Reports) → job.task ≢ tasks.List
+    → is_guarded h.users (backend_of job.device) ≡ true
+    → ((sent : List ℕ)
+    → is_allowed_for h.users job.user job.password (backend_of job.device) (challenge_of sent) ≡ false)
+    → JobIsDone h w i job reports → ⊥
+
+-- settings of which nothing is told
+abbrev pub SilentIsNoLie : Type 0
+SilentIsNoLie =
+    (h : History) (w : WorldCore) (i : ℕ) (job : Job) (reports : Reports) (setting : List ℕ × List ℕ)
+    (more : List (List ℕ × List ℕ)) → job.task ≢ tasks.List → job.settings.items ≡ setting ∷ more
+    → reports.settings ≡ [] → JobIsDone h w i job reports → ⊥
+
+-- another value than was asked for, without INEXACT
+abbrev pub RoundedIsNoLie : Type 0
+RoundedIsNoLie =
+    (h : History) (w : WorldCore) (i : ℕ) (job : Job) (reports : Reports) (report : Report) (more : List Report)
+    → job.task ≢ tasks.List → reports.settings ≡ report ∷ more → report.given ≢ report.asked
+    → has_bit report.info 1 ≡ false → JobIsDone h w i job reports → ⊥
+
+-- ---- of a file
+
+-- this file denotes nothing that settings of the job mean on the first page of its device in this world
+abbrev pub DenotesNone : History → ℕ → Job → List ℕ → WorldCore → Type 0
+DenotesNone h i job bytes before =
+    (d : DeviceState) (s : Settled h job) (picture : Picture) → Has before i job.device d
+    → meaning_of (page_of d) s.setup.scene ≡ Some picture → Denotes bytes picture → ⊥
+
+-- the file of another page, as of one that came in mid-scan
+abbrev pub FileIsNoLie : Type 0
+FileIsNoLie =
+    (h : History) (w : WorldCore) (i : ℕ) (job : Job) (starved : Bool) (reports : Reports) (bytes : List ℕ)
+    → IsSteady h job.device → job.task ≡ tasks.Scan → Always h w i (DenotesNone h i job bytes)
+    → FileIsKept h w i job starved (Done reports) (Some bytes) → ⊥
+
+-- page k of another page, as of the first again
+abbrev pub PageIsNoLie : Type 0
+PageIsNoLie =
+    (h : History) (w : WorldCore) (i : ℕ) (job : Job) (starved : Bool) (finished k : ℕ) (bytes : List ℕ)
+    → IsSteady h job.device → Always h w i (λ before. HasFinished before i (k - 1) → DenotesNone h i job bytes before)
+    → PageIsKept h w i job starved finished k (Some bytes) → ⊥
+
+-- a whole file of a job that is not done
+abbrev pub WholeIsNoLie : Type 0
+WholeIsNoLie =
+    (h : History) (w : WorldCore) (i : ℕ) (job : Job) (starved : Bool) (outcome : Outcome) (bytes : List ℕ)
+    → ((reports : Reports) → outcome ≡ Done reports → ⊥) → IsWhole bytes
+    → FileIsKept h w i job starved outcome (Some bytes) → ⊥
+
+-- no file, though the job is not told as out of memory
+abbrev pub MissingIsNoLie : Type 0
+MissingIsNoLie =
+    (h : History) (w : WorldCore) (i : ℕ) (job : Job) (outcome : Outcome)
+    → FileIsKept h w i job false outcome None → ⊥
+
+-- ---- of a move
+
+-- none for a job that runs
+abbrev pub StuckIsNoLie : Type 0
+StuckIsNoLie = MoveIsKept Running None → ⊥
+
+-- one for a job that is done
+abbrev pub MovedIsNoLie : Type 0
+MovedIsNoLie = (reports : Reports) (event : Event) → MoveIsKept (Done reports) (Some event) → ⊥
+
+-- the loss of its connection, though it is not told as out of memory, and each of its replies can be said
+abbrev pub LossIsNoLie : Type 0
+LossIsNoLie =
+    (h : History) (w : WorldCore) (i : ℕ) (job : Job) → starved_at w i ≡ false
+    → ((n : ℕ) (at : Moment h w (ToDaemon i n)) → CutIn at.before i job → ⊥)
+    → IsGoodMove h w i job (Some (LoseControl i)) → ⊥
 
 -- ---- of a run
 
@@ -154,7 +251,5 @@ SharedIsNoLie =
 -- another page in mid-scan
 abbrev pub SwappedIsNoLie : Type 0
 SwappedIsNoLie =
-    (w v : WorldCore) (i : ℕ) (name : List ℕ) (a b : DeviceState) (e : Event) → outcome_at w i ≡ Some Running
-    → Has w i name a
-    → Has v i name b → is_at_rest a.phase ≡ false → is_at_rest b.phase ≡ false → page_of b ≢ page_of a
-    → PageStays (e ∷ []) w v → ⊥
+    (w v : WorldCore) (i : ℕ) (name : List ℕ) (a b : DeviceState) (e : Event) → Has w i name a → Has v i name b
+    → is_at_rest a.phase ≡ false → is_at_rest b.phase ≡ false → page_of b ≢ page_of a → PageStays (e ∷ []) w v → ⊥

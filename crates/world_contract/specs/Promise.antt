@@ -1,9 +1,8 @@
 -- THE PROMISE, of one job: what each call of a world answers of it is right.
-use Rattle.std.specs.Prelude.{ℕ, ◌≡◌, ◌≢◌, ◌⊎◌, ◌<◌, ◌≤◌, ◌-◌, Bool, true, false, [], Option, Some, None, IsSome, List, Contains}
+use Rattle.std.specs.Prelude.{ℕ, ◌≡◌, ◌≢◌, ◌⊎◌, ◌<◌, ◌≤◌, ◌-◌, Bool, true, false, [], Option, Some, None, IsSome, List}
 use Rattle.sane_fixed.specs.declared.status.Status.{Status}
 use Rattle.sane_fixed.specs.declared.status.Status.TheVariants.{Good, Eof}
 use Rattle.netpbm.specs.Pnm.{IsWhole}
-use Rattle.device_api.specs.State.{DeviceState}
 use Rattle.client_replies.specs.ProtocolStates.{scans}
 use Rattle.dispatch.specs.Table.{listed_infos}
 use Rattle.scan_job.specs.declared.job.Job.{Job}
@@ -14,22 +13,21 @@ use Rattle.scan_job.specs.declared.outcome.Why.{Why}
 use Rattle.scan_job.specs.declared.report.Reports.{Reports}
 use Rattle.scan_world.specs.declared.event.Event.{Event}
 use Rattle.world_contract.specs.Histories.{History}
-use Rattle.world_contract.specs.Page.{IsScan, IsSteady}
-use Rattle.world_contract.specs.Reports.{AreOptionsShown, AreSettingsAnswered}
+use Rattle.world_contract.specs.Page.{IsScan, IsSteady, Settled}
+use Rattle.world_contract.specs.Reports.{AreOptionsShown, AreSettingsReported}
 use Rattle.scan_world.specs.Worlds.{WorldCore}
-use Rattle.world_contract.specs.Endings.{HadNoPage, IsEndingExplained, JobIsPermitted}
+use Rattle.world_contract.specs.Endings.{HadNoPage, IsEndingExplained, WasOpened}
 use Rattle.world_contract.specs.Sessions.{Asked, IsAtList}
 
 -- a job that is done
 pub record JobIsDone (h : History) (w : WorldCore) (i : ℕ) (job : Job) (reports : Reports) : Type 0 where
-  -- but for a list, each setting was given the nearest admitted value, on the device that the job names
-  pub answered : (device : DeviceState) → job.task ≢ tasks.List → Contains h.devices device
-      → device.info.name ≡ job.device → AreSettingsAnswered device job reports.settings
+  -- but for a list, it was permitted as it asked for its device, which was listed and free
+  pub opened : job.task ≢ tasks.List → WasOpened h w i job
+  -- and on that device each setting was given the nearest admitted value, and is reported so
+  pub answered : job.task ≢ tasks.List
+      → (s : Settled h job) × AreSettingsReported job.settings.items s.placed reports.settings
   -- a show tells of the options of that device
-  pub shown : (device : DeviceState) → job.task ≡ tasks.Show → Contains h.devices device → device.info.name ≡ job.device
-      → AreOptionsShown device job reports.options
-  -- and it was permitted
-  pub permitted : job.task ≢ tasks.List → JobIsPermitted h job
+  pub shown : job.task ≡ tasks.Show → (s : Settled h job) × AreOptionsShown s.setup reports.options
   -- a list tells the devices that were listed as it asked for them: all, once, in their order
   pub listed : job.task ≡ tasks.List → (asked : Asked h w i IsAtList)
       × (reports.devices ≡ listed_infos asked.at.before.daemon.registry)
@@ -74,11 +72,11 @@ pub record PageIsKept (h : History) (w : WorldCore) (i : ℕ) (job : Job) (starv
   pub missing : 0 < k → k ≤ finished → file ≡ None → starved ≡ true
 
 -- `finished`: a batch that is done has all its pages, or fewer, one at least, and then its device had no more as it
--- asked for a start
+-- asked for a start behind just these
 abbrev pub CountIsKept : History → WorldCore → ℕ → Job → Outcome → ℕ → Type 0
 CountIsKept h w i job outcome finished =
     (count : ℕ) (reports : Reports) → job.task ≡ tasks.Batch count → outcome ≡ Done reports
-    → (finished ≡ count) ⊎ ((0 < finished) × (finished < count) × HadNoPage h w i job)
+    → (finished ≡ count) ⊎ ((0 < finished) × (finished < count) × HadNoPage h w i job finished)
 
 -- `next_move`: a job has one just where it runs
 pub record MoveIsKept (outcome : Outcome) (next : Option Event) : Type 0 where

@@ -3,19 +3,15 @@ use Rattle.std.specs.Prelude.{ℕ, ◌≡◌, ◌≢◌, ◌↔◌, if◌then◌
 use Rattle.option_desc.specs.declared.descriptor.Descriptor.{Descriptor}
 use Rattle.option_desc.specs.declared.value.Value.{Value}
 use Rattle.scan_frames.specs.declared.setup.Setup.{Setup}
-use Rattle.device_api.specs.State.{DeviceState}
 use Rattle.device_api.specs.InForce.{Placement}
 use Rattle.device_api.specs.Options.{descriptors_of}
 use Rattle.device_api.specs.Values.{option_got}
 use Rattle.scan_laws.specs.SetInfo.{has_bit}
 use Rattle.system_model.specs.Devices.{is_readable, value_or_false}
-use Rattle.scan_job.specs.declared.job.Job.{Job}
 use Rattle.scan_job.specs.declared.report.Report.{Report}
-use Rattle.world_contract.specs.Page.{AreInForce}
 
--- **answered (`IsSettingReported`, `AreSettingsReported`, `AreSettingsAnswered`)**: one report for each setting in their
--- order: what its text reads as, the value that its option was given, and INEXACT just where the two differ; each the
--- nearest admitted value.
+-- **answered (`IsSettingReported`, `AreSettingsReported`)**: one report for each setting in their order: what its text
+-- reads as, the value that its option was given, and INEXACT just where the two differ.
 pub record IsSettingReported (setting : List ℕ × List ℕ) (placed : Placement) (report : Report) : Type 0 where
   pub name : report.name ≡ setting.0
   pub asked : report.asked ≡ placed.asked
@@ -29,21 +25,11 @@ AreSettingsReported (setting ∷ settings) (placed ∷ more) (report ∷ reports
     × AreSettingsReported settings more reports
 AreSettingsReported settings placed reports = ⊥
 
--- the settings are in force on the device, each was given the nearest admitted value, and is reported so
-pub record AreSettingsAnswered (device : DeviceState) (job : Job) (reports : List Report) : Type 0 where
-  pub setup : Setup
-  pub placed : List Placement
-  pub in_force : AreInForce device job placed setup
-  pub reported : AreSettingsReported job.settings.items placed reports
-
 -- option n as a show tells it: with the value that GET answers, where that can be read
 abbrev pub told_option : Setup → ℕ → Descriptor → Descriptor × Option Value
 told_option setup n desc = (desc, if is_readable desc then Some (value_or_false (option_got setup n)) else None)
 
--- a show tells each option of the device's table, and no other, as the settings put it in force
-pub record AreOptionsShown (device : DeviceState) (job : Job) (options : List (Descriptor × Option Value))
-    : Type 0 where
-  pub setup : Setup
-  pub placed : List Placement
-  pub in_force : AreInForce device job placed setup
-  pub shown : (n : ℕ) → slice_get options n ≡ option_map (told_option setup n) (slice_get (descriptors_of setup) n)
+-- a show tells each option of the device's table, and no other
+abbrev pub AreOptionsShown : Setup → List (Descriptor × Option Value) → Type 0
+AreOptionsShown setup options =
+    (n : ℕ) → slice_get options n ≡ option_map (told_option setup n) (slice_get (descriptors_of setup) n)

@@ -5,6 +5,7 @@ ghost use Rattle.page_picture.specs.SourceView.{source_state};
 ghost use Rattle.scan_world.specs.declared.event.Event.{Event};
 ghost use Rattle.scan_world.specs.Worlds.{Runs, WorldCore};
 ghost use Rattle.world_contract.specs.Calls.{CancelEnds, MoveLowers, MovesFall, OthersStay, OverStays};
+ghost use Rattle.world_contract.specs.Clear.{PlainIsClear};
 ghost use Rattle.world_contract.specs.Laws.{AllFollow, AllIsRight, Below};
 
 use system_model::{
@@ -66,4 +67,12 @@ pub fn jobs_end_once()
         → Runs source_state events w v → MoveLowers events w v }
     ensures cancel { (events : List Event) (w v : WorldCore)
         → Runs source_state events w v → CancelEnds events w v }
+{}
+
+/// A job in whose way nothing stands.
+#[tactic(none)]
+pub fn a_plain_job_is_clear()
+    /// As a world is new, a job without settings is clear that is alone on a flatbed whose page means a picture at its
+    /// defaults, where its source cannot fail, and its password is right, if a line of the users names its backend.
+    ensures { PlainIsClear }
 {}

@@ -1,6 +1,7 @@
 //! Of each part of the promise, that it refuses the smallest lies.
 
-ghost use Rattle.world_contract.specs.Lies.{BusyIsNoLie, CancelledIsNoLie, CountIsNoLie, DeniedIsNoLie, EmptyIsNoLie, FailedIsNoLie, GivenUpIsNoLie, GoneOnIsNoLie, IdleIsNoLie, InvalIsNoLie, ListIsNoLie, LostIsNoLie, MemoryIsNoLie, SharedIsNoLie, ShownIsNoLie, SwappedIsNoLie};
+ghost use Rattle.world_contract.specs.Clear.{StoppedIsNoLie};
+ghost use Rattle.world_contract.specs.Lies.{AllowedIsNoLie, BusyIsNoLie, CancelledIsNoLie, CountIsNoLie, DeniedIsNoLie, EmptyIsNoLie, FailedIsNoLie, FileIsNoLie, GivenUpIsNoLie, GoneOnIsNoLie, HiddenIsNoLie, IdleIsNoLie, InvalIsNoLie, ListIsNoLie, LossIsNoLie, LostIsNoLie, MemoryIsNoLie, MissingIsNoLie, MovedIsNoLie, NowhereIsNoLie, PageIsNoLie, RoundedIsNoLie, SharedIsNoLie, ShownIsNoLie, SilentIsNoLie, StuckIsNoLie, SwappedIsNoLie, WholeIsNoLie};
 
 /// The table of endings explains none that nothing stood for.
 #[tactic(none)]
@@ -28,10 +29,48 @@ pub fn a_report_is_no_lie()
     /// Where the same devices were listed in front of all its requests, no list is done that tells others, one of them
     /// twice, or another order.
     ensures listed { ListIsNoLie }
-    /// No show of a device that is there is done with no options.
+    /// No show is done with no options.
     ensures shown { ShownIsNoLie }
     /// No batch is done with another number of pages than its count where its device had a page in front of all its requests.
     ensures counted { CountIsNoLie }
+    /// No job but a list is done that names a device which is not there, or which was not listed in front of its
+    /// requests, nor one with a wrong password where a line of the users names its backend.
+    /// Carried by: `nowhere`, `hidden`, `allowed` of `a_report_is_no_lie`
+    ensures nowhere { NowhereIsNoLie }
+    ensures hidden { HiddenIsNoLie }
+    ensures allowed { AllowedIsNoLie }
+    /// None is done with settings of which nothing is told, or of which the first was given another value than was
+    /// asked for, without INEXACT.
+    /// Carried by: `silent`, `rounded` of `a_report_is_no_lie`
+    ensures silent { SilentIsNoLie }
+    ensures rounded { RoundedIsNoLie }
+{}
+
+/// A file is of the page of its start, whole no sooner than it is done, and there.
+#[tactic(none)]
+pub fn a_file_is_no_lie()
+    /// No file of a scan that is done denotes nothing that the settings mean on any page which the device had first in
+    /// front of the job's requests, as a page that came in mid-scan; nor that of a batch's page k on those that it had
+    /// while k - 1 pages were finished, as the first page again.
+    /// Carried by: `filed`, `paged` of `a_file_is_no_lie`
+    ensures filed { FileIsNoLie }
+    ensures paged { PageIsNoLie }
+    /// No file is whole of a job that is not done, and none is missing of one that is not told as out of memory.
+    /// Carried by: `whole`, `missing` of `a_file_is_no_lie`
+    ensures whole { WholeIsNoLie }
+    ensures missing { MissingIsNoLie }
+{}
+
+/// A job that runs has a move, another has none, and a loss is none where nothing is wrong.
+#[tactic(none)]
+pub fn a_move_is_no_lie()
+    /// No job that runs has no next move, and none that is done has one.
+    /// Carried by: `stuck`, `moved` of `a_move_is_no_lie`
+    ensures stuck { StuckIsNoLie }
+    ensures moved { MovedIsNoLie }
+    /// The loss of its connection is not the next move of a job that is not told as out of memory, and whose session
+    /// could say its reply to each request that was delivered.
+    ensures lost { LossIsNoLie }
 {}
 
 /// A run does what its events do, and moves until no job runs are moves.
@@ -42,6 +81,8 @@ pub fn a_run_is_no_lie()
     ensures idle { IdleIsNoLie }
     ensures gone_on { GoneOnIsNoLie }
     ensures given_up { GivenUpIsNoLie }
+    /// And no clear job ends behind them that is not told as out of memory and whose session did not break off.
+    ensures stopped { StoppedIsNoLie }
 {}
 
 /// No device has two holders, and none another page in mid-scan.

@@ -8,6 +8,7 @@ ghost use Rattle.world_refines.specs.MainTheorem.{IsTrueLoad};
 ghost use Rattle.scan_world.specs.Worlds.{HasFaultAmong, IsInitialWorld, MayRun, Runs, seen_world};
 ghost use Rattle.world_contract.specs.Histories.{History, LedTo, and_then, begun};
 ghost use Rattle.world_contract.specs.Calls.{CancelEnds, FewMoves, ImageLossEnds, IsMoveAt, KeepsPageCount, KeepsScanFile, KeepsMemory, KeepsEnding, KeepsMove, KeepsMoves, KeepsOutcome, KeepsPage, KeepsRunning, LossEnds, MoveLowers, MovesFall, OneHolder, OthersStay, OverStays, PageStays, ScansStay, SessionsStay, StartsOnFirst, file_answered, finished_at, left_at, outcome_at, page_answered, starved_at};
+ghost use Rattle.world_contract.specs.Clear.{ClearsUp};
 
 use crate::laws::what_stands_below;
 use device_api::Device;
@@ -161,12 +162,11 @@ impl World {
             let v = seen self.new.inner in
             (h : History) → LedTo h w → ScansStay events.items w v }
         /// Within a scan the page stays: a device that a session has in front of an event and behind it, neither time
-        /// at rest, has the same first page both times; where the event delivers requests of the session's own job, so
-        /// far as that runs.
+        /// at rest, has the same first page both times.
         /// Carried by: `page_stays` of `World::run`
         ///
-        /// A start takes the first page: where requests of a job that runs were delivered, a device that its session
-        /// had and has, and has within a scan now, has the first page that it had.
+        /// A start takes the first page: where requests of a job were delivered, a device that its session had and has,
+        /// and has within a scan now, has the first page that it had.
         /// Carried by: `first_page` of `World::run`
         ensures page_stays { let seen = seen_world ⟦<Box<dyn Device> as Device>⟧.state in
             let w = seen self.old.inner in
@@ -190,6 +190,15 @@ impl World {
         ensures kept { let w = seen_world ⟦<Box<dyn Device> as Device>⟧.state self.old.inner in
             let v = seen_world ⟦<Box<dyn Device> as Device>⟧.state self.new.inner in
             KeepsRunning w v }
+        /// A job in whose way nothing stood in front of these moves is done behind them, or is told as out of memory, or
+        /// lost its connection as its next move, for want of memory or at a reply that cannot be said. Nothing stands in
+        /// its way where its device is there, is no feeder and is named by no other job, its sources cannot fail, its
+        /// settings can be in force, name no status and mean a picture on each page that came, and its password is
+        /// allowed; and no event gave it up, took a connection of it, or took its device out.
+        /// Carried by: `clear` of `World::run_all`: `ClearsUp`, `IsClear`
+        ensures clear { let w = seen_world ⟦<Box<dyn Device> as Device>⟧.state self.old.inner in
+            let v = seen_world ⟦<Box<dyn Device> as Device>⟧.state self.new.inner in
+            ClearsUp w v }
         ensures over { let w = seen_world ⟦<Box<dyn Device> as Device>⟧.state self.old.inner in
             let v = seen_world ⟦<Box<dyn Device> as Device>⟧.state self.new.inner in
             OverStays w v }
@@ -206,17 +215,17 @@ impl World {
     pub fn outcome(&self, i: usize) -> Option<&Outcome>
         ensures is { let w = seen_world ⟦<Box<dyn Device> as Device>⟧.state self.now.inner in
             option_map (λ o. o.now) result ≡ outcome_at w i }
-        /// A job that is done, but for a list, was answered each setting with the nearest admitted value, and with
-        /// INEXACT just where it differs.
+        /// A job that is done, but for a list, was answered each setting with the nearest admitted value of a device
+        /// that is there and has its name, and with INEXACT just where it differs.
         /// Carried by: `kept` of `World::outcome`: `answered` of `JobIsDone`
         ///
         /// A show that is done tells each option of its device, and no other, with its descriptor and the value in force, where
         /// that can be read, as the job's settings left them.
         /// Carried by: `kept` of `World::outcome`: `shown` of `JobIsDone`
         ///
-        /// It was permitted: no line of the users names its backend, or its user and password are allowed for some
-        /// challenge.
-        /// Carried by: `kept` of `World::outcome`: `permitted`
+        /// As it asked for its device that was listed, no session had it, and the job was permitted: no line of the users
+        /// names its backend, or its user and password are allowed for the challenge that its session had sent.
+        /// Carried by: `kept` of `World::outcome`: `opened` of `JobIsDone`: `WasOpened`
         ///
         /// A list that is done tells the devices that were listed as the last bytes of its request were delivered: all,
         /// once, in their order.
@@ -247,7 +256,7 @@ impl World {
         /// Carried by: `WasUnlisted`, `IsUnforced`, `HadNoPicture` of `IsEndingExplained`
         ///
         /// Else NO_DOCS was answered only where the device that its session had had no page, as the job asked for a
-        /// start.
+        /// start while none of its pages was finished.
         /// Carried by: `HadNoPage` of `IsEndingExplained`
         ///
         /// Else IO_ERROR was answered only where the source of the first page failed as the job asked for a start, or
@@ -255,9 +264,9 @@ impl World {
         /// counted.
         /// Carried by: `HadFailed` of `IsEndingExplained`
         ///
-        /// A feeder lets go of that page with its count; so there the end of a page that was given whole looks alike,
-        /// where its source can fail.
-        /// Carried by: `HadFailed` of `IsEndingExplained`
+        /// In a turn the end with IO_ERROR came behind the bytes of the frame, unless its connection went for want of
+        /// memory; so the end of a page that a feeder gave whole is none, though it lets go of that page with its count.
+        /// Carried by: `SendsFailure` of `HadFailed`
         ///
         /// As lost a job ended only where a connection of it that stood was lost, or where it is told as out of memory;
         /// as starved, which is NO_MEM, only where a piece came to its client; as cancelled only where it was
@@ -322,7 +331,7 @@ impl World {
         ensures is { let w = seen_world ⟦<Box<dyn Device> as Device>⟧.state self.now.inner in
             result ≡ finished_at w i }
         /// A batch that is done has finished as many pages as it wanted, or fewer and at least one; then its device had no
-        /// page more as it asked for a start.
+        /// page more as it asked for a start behind just these.
         /// Carried by: `kept` of `World::finished`: `CountIsKept`
         ensures kept { let w = seen_world ⟦<Box<dyn Device> as Device>⟧.state self.now.inner in
             KeepsPageCount w i result }
@@ -349,9 +358,9 @@ impl World {
         /// A job has a next move just where it runs.
         /// Carried by: `kept` of `World::next_move`: `MoveIsKept`
         ///
-        /// It is the loss of its control connection only where the job is told as out of memory, or where a reply to
-        /// something that it asks passes a limit of the wire or has no spelling. This second case holds of every job:
-        /// it fixes which devices there are, their options within limits, and no more of them.
+        /// It is the loss of its control connection only where the job is told as out of memory, or where its session, as
+        /// it stood in front of a delivery of the request that its client waits for, answers that with a reply that
+        /// passes a limit of the wire or has no spelling.
         /// Carried by: `kept` of `World::next_move`: `loss` of `IsGoodMove`
         ensures kept { let w = seen_world ⟦<Box<dyn Device> as Device>⟧.state self.now.inner in
             KeepsMove w i result }

@@ -21,6 +21,7 @@ pub mod Sent
 pub mod Fed
 pub mod FedSlot
 pub mod FailedRequests
+pub mod Waiting
 pub mod FedEvent
 pub mod Lent
 pub mod RequestDeliveries

@@ -1,15 +1,28 @@
--- A source that failed in an event: the device that a job's session held is stopped behind it, and its source has counted that.
-use Rattle.std.specs.Prelude.{ℕ, ◌≡◌, ◌⊎◌, ◌++◌, Some, List, [], ◌∷◌, slice_get}
+-- What fails in an event: a source, when the device that a job's session held is stopped behind it, and its source has counted that; or
+-- the saying of a reply, when the session answers a request with one that passes a limit of the wire.
+use Rattle.std.specs.Prelude.{ℕ, ◌≡◌, ◌⊎◌, ◌++◌, Bool, true, false, Some, List, [], ◌∷◌, slice_get}
 use Rattle.page_picture.specs.Source.{SourceState}
 use Rattle.page_picture.specs.declared.sources.kinds.Source.{Source}
 use Rattle.device_api.specs.State.{DeviceState, HasStopped, after_cancel}
+use Rattle.option_desc.specs.declared.descriptor.Descriptor.{Descriptor}
+use Rattle.wire_message.specs.declared.message.Reply.{Reply}
+use Rattle.wire_message.specs.declared.message.Request.{Request}
 use Rattle.dispatch.specs.declared.table.place.Lease.{Lease}
+use Rattle.saned_requests.specs.declared.request_answer.RequestAnswer.{RequestAnswer}
+use Rattle.saned_requests.specs.RequestAnswers.{Answers as AnswersRequest, RequestContext}
+use Rattle.scan_job.specs.declared.job.Job.{Job}
+use Rattle.client_replies.specs.ProtocolStates.{target_of}
+use Rattle.client_replies.specs.declared.progress.Progress.{Progress}
+use Rattle.client_replies.specs.declared.progress.Progress.TheVariants as stages
+use Rattle.client_refines.specs.RequestRefinement.{IsRequest}
 use Rattle.saned_requests.specs.declared.session.Session.{Session}
 use Rattle.saned_requests.specs.Holding.{held_by}
 use Rattle.saned_requests.specs.LeaseLaws.{IsIn}
 use Rattle.saned_core.specs.declared.session_slot.SessionId.{SessionId}
 use Rattle.saned_core.specs.DaemonStates.{Core, session_of}
-use Rattle.system_model.specs.Actions.{Answers, TurnsFault}
+use Rattle.saned_core.specs.Feeding.{IsUnsaid, core_context, replies_to}
+use Rattle.system_model.specs.AbstractMessages.{AbstractRequest, Init, GetDevices, Open, Authorize, Describe, Get, Set, Parameters, Start}
+use Rattle.system_model.specs.Actions.{Answers, Breaks, TurnsFault}
 use Rattle.system_model.specs.SystemStates.{SystemState}
 use Rattle.system_model.specs.Transitions.{By, IsUnderWay, Transition, after_transition}
 use Rattle.scan_world.specs.declared.event.Event.{Event}
@@ -25,7 +38,7 @@ pub record HoldsLease (core : Core) (n word : ℕ) (lease : Lease DeviceState) :
   pub stands : session_of core n ≡ Some session
   pub held : held_by session.held word ≡ Some lease
 
--- **failed in (`FailedIn`, `HoldsLease`, `IsInSome`, `HasFailed`, `AllAlong`, `FailsSo`, `FailsIn`, `FailsInSome`)**: the
+-- **failed in (`FailedIn`, `HoldsLease`, `IsInSome`, `HasFailed`, `AllAlong`, `FailsSo`, `FailsIn`, `FailsInSome`, `InEvent`)**: the
 -- session of a job held the device of a name in a world, its page's source failed and counted that, and in the daemon
 -- behind the event it holds the device stopped, or the device lies so in its place; that is so of one of some events, of
 -- the world in front of it and the daemon behind; along steps, each of the state that it is taken in; of a turn that fails
@@ -42,6 +55,47 @@ pub record FailedIn (before : WorldCore) (behind : Core) (i : ℕ) (name : List 
   pub after : DeviceState
   pub stopped : HasStopped lease.device after
   pub left : HoldsLease behind id.number word (record lease { device = after }) ⊎ IsIn (after_cancel after) lease.place behind.registry
+
+-- the client waits for the answer to that request
+abbrev pub AwaitsAnswer : AbstractRequest → Progress → Type 0
+AwaitsAnswer Init stages.Greeting = Unit {0}
+AwaitsAnswer GetDevices stages.Listing = Unit {0}
+AwaitsAnswer Open stages.Opening = Unit {0}
+AwaitsAnswer (Authorize challenge) (stages.Allowing resource answer) = Unit {0}
+AwaitsAnswer Describe stages.Describing = Unit {0}
+AwaitsAnswer (Set n value) (stages.Putting m kind name asked) = Unit {0}
+AwaitsAnswer (Get n) (stages.Getting m kind size) = Unit {0}
+AwaitsAnswer Start (stages.Starting first) = Unit {0}
+AwaitsAnswer Parameters (stages.Shaping port order) = Unit {0}
+AwaitsAnswer q progress = ⊥
+
+-- **cut in (`CutIn`, `AwaitsAnswer`)**: the session of a job answers the request that its client waits for, of the users, the devices
+-- and itself as they stand in a world, and a reply to it passes a limit of the wire, or has no spelling.
+pub record CutIn (before : WorldCore) (i : ℕ) (job : Job) : Type 0 where
+  pub endpoint : Endpoint
+  pub is_there : slice_get before.endpoints i ≡ Some endpoint
+  pub id : SessionId
+  pub linked : endpoint.link ≡ Some id
+  pub session : Session DeviceState
+  pub stands : session_of before.daemon id.number ≡ Some session
+  pub request : Request
+  pub known : List Descriptor
+  pub asked : AbstractRequest
+  pub is : IsRequest (target_of job) 0 known request asked
+  pub waits : AwaitsAnswer asked endpoint.client.progress
+  pub said : RequestAnswer
+  pub then_is : RequestContext
+  pub answers : AnswersRequest before.daemon.users (core_context before.daemon session) request said then_is
+  pub front : List Reply
+  pub reply : Reply
+  pub behind : List Reply
+  pub among : replies_to said ≡ front ++ reply ∷ behind
+  pub unsaid : IsUnsaid reply
+
+-- in an event a source of a job's device failed, or a reply to it could not be said
+abbrev pub InEvent : Bool → WorldCore → Core → ℕ → Job → Type 0
+InEvent true before behind i job = FailedIn before behind i job.device
+InEvent false before behind i job = CutIn before i job
 
 -- ---- in one of some events
 
@@ -65,19 +119,21 @@ abbrev pub AllAlong : (SystemState → Transition → Type 0) → SystemState �
 AllAlong Holds s [] = Unit {0}
 AllAlong Holds s (x ∷ xs) = Holds s x × AllAlong Holds (after_transition s x) xs
 
--- where a source of a job's device fails by the model, of a job that is under way, that is so of the job
-abbrev pub FailsSo : (ℕ → Type 0) → SystemState → Transition → Type 0
-FailsSo Failed s (By i (Answers challenge (Some fault))) = IsUnderWay (s.job i).client.stage → Failed i
-FailsSo Failed s (By i (TurnsFault fault)) = Failed i
+-- where a source of a job's device fails by the model, of a job that is under way, that is so of the job; and where its session breaks
+-- off at a reply
+abbrev pub FailsSo : (Bool → ℕ → Type 0) → SystemState → Transition → Type 0
+FailsSo Failed s (By i (Answers challenge (Some fault))) = IsUnderWay (s.job i).client.stage → Failed true i
+FailsSo Failed s (By i (TurnsFault fault)) = Failed true i
+FailsSo Failed s (By i (Breaks false)) = IsUnderWay (s.job i).client.stage → Failed false i
 FailsSo Failed s x = Unit {0}
 
 -- of the steps that an event takes
 abbrev pub FailsIn : Ghost → WorldCore → Core → SystemState → Transition → Type 0
-FailsIn t w core = FailsSo (λ i. FailedIn w core i (t.jobs i).device)
+FailsIn t w core = FailsSo (λ b i. InEvent b w core i (t.jobs i))
 
 -- and of those of all events
-abbrev pub HasFailed : (Source → SourceState) → List Event → Ghost → WorldCore → WorldCore → ℕ → Type 0
-HasFailed source events t w v i = IsInSome source events w v (λ before behind. FailedIn before behind i (t.jobs i).device)
+abbrev pub HasFailed : (Source → SourceState) → List Event → Ghost → WorldCore → WorldCore → Bool → ℕ → Type 0
+HasFailed source events t w v b i = IsInSome source events w v (λ before behind. InEvent b before behind i (t.jobs i))
 
 abbrev pub FailsInSome : (Source → SourceState) → List Event → Ghost → WorldCore → WorldCore → SystemState → Transition → Type 0
 FailsInSome source events t w v = FailsSo (HasFailed source events t w v)

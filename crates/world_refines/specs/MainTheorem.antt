@@ -90,7 +90,7 @@ pub record RunRefines (source : Source → SourceState) (events : List Event) (t
   pub rules_are : ghost_then.system ≡ after_all t.system steps
   pub marks : (d : ℕ) → MarksLead (device_view (t.system.make d) (t.system.device d)) (all_marks d t.system steps) (device_view (t.system.make d) ((after_all t.system steps).device d))
   pub stands : WorldRefines ghost_then v
-  -- each source that fails by them failed in one of the events, and counted it
+  -- each source that fails by them failed in one of the events, and counted it, and so each reply that breaks a session off
   pub failures : AllAlong (FailsInSome source events t w v) t.system steps
   -- moves that sufficed suffice
   pub pays : Pays t w → Pays ghost_then v

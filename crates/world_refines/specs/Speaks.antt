@@ -6,7 +6,7 @@ use Rattle.saned_requests.specs.declared.session.AwaitedAuthorization.{AwaitedAu
 use Rattle.saned_requests.specs.declared.session.Session.{Session}
 use Rattle.client_replies.specs.declared.progress.Progress.{Progress}
 use Rattle.client_replies.specs.declared.progress.Progress.TheVariants as stages
-use Rattle.system_model.specs.AbstractMessages.{Challenge, AbstractRequest, Init, Set}
+use Rattle.system_model.specs.AbstractMessages.{Challenge, AbstractRequest, Init, Set, Start}
 use Rattle.system_model.specs.Devices.{Make, descriptors_in_force}
 use Rattle.system_model.specs.AbstractDevices.{AbstractDevice}
 use Rattle.system_model.specs.SystemStates.{JobState, SystemState, make_for, device_for}
@@ -25,7 +25,8 @@ Awaits name (Some awaited) sent = (awaited.name ≡ name) × (sent ≡ Some awai
 
 -- **what a session and a device have of requests (`SpeaksAs`, `Awaits`, `SetsAsHeld`)**: a session was greeted, or INIT is
 -- its next request; it awaits AUTHORIZE just where it does by the model, for the job's device and with the resource that
--- was sent; a SET comes first among the requests on the way, and is of an option as the client's device has it.
+-- was sent; a SET and a START come first among the requests on the way, and a SET is of an option as the client's device
+-- has it.
 pub record SpeaksAs (name : List ℕ) (p : JobState) (session : Session DeviceState) : Type 0 where
   pub greeted : IsGreeted session.greeted p.todo
   pub awaits : Awaits name session.awaited p.session.awaited
@@ -47,12 +48,14 @@ pub record WaitsQuietly (progress : Progress) (todo : List AbstractRequest) : Ty
 
 -- ---- a device
 
+-- no SET and no START is among them
 abbrev pub SetsNothing : List AbstractRequest → Type 0
 SetsNothing [] = Unit {0}
 SetsNothing (Set n value ∷ todo) = ⊥
+SetsNothing (Start ∷ todo) = ⊥
 SetsNothing (q ∷ todo) = SetsNothing todo
 
--- a SET comes first, and is of an option as client i's device has it
+-- a SET and a START come first, and a SET is of an option as client i's device has it
 abbrev pub SetsAsHeld : ℕ → Make → List Descriptor → AbstractDevice → List AbstractRequest → Type 0
 SetsAsHeld i make known dev [] = Unit {0}
 SetsAsHeld i make known dev (Set n value ∷ todo) = (dev.holder ≡ Some i) × (known ≡ descriptors_in_force make dev.options) × SetsNothing todo

@@ -1,6 +1,6 @@
 -- Entries of lists, and the job of a step.
 use Rattle.std.specs.Prelude.{cond, length, slice_get, slice_set, ◌≤◌}
-use Rattle.std.proofs.Common.{◌≡◌, ◌∙◌, ◌⊎◌, ℕ, zero, suc, arith, List, [], ◌∷◌, Bool, true, false, Option, Some, None, inl, inr, refl, sym, ap, subst}
+use Rattle.std.proofs.Common.{◌≡◌, ◌∙◌, ◌⊎◌, ℕ, zero, suc, arith, List, [], ◌∷◌, Bool, true, false, Option, Some, None, inl, inr, refl, sym, ap}
 use Rattle.system_model.specs.AbstractDevices.{AbstractDevice}
 use Rattle.system_model.specs.Actions.{Action, job_after_action}
 use Rattle.system_model.specs.Client.{JobStage, Idle, Running, Done, Ended}

@@ -1,7 +1,6 @@
 -- A file that is meant: on the page of its start.
-use Rattle.std.specs.Prelude.{cond, length, map, slice_get, slice_index_or, if◌then◌else◌, ◌<◌, ◌≤◌, ◌+◌, ◌-◌}
-use Rattle.std.specs.List.{AllByRecursion}
-use Rattle.std.proofs.Common.{◌≡◌, ◌∙◌, ◌⊎◌, inl, inr, ℕ, zero, suc, arith, List, [], ◌∷◌, ◌++◌, Bool, true, false, Option, Some, None, refl, sym, ap, subst}
+use Rattle.std.specs.Prelude.{cond, length, map, slice_get, if◌then◌else◌, ◌<◌, ◌≤◌, ◌+◌, ◌-◌}
+use Rattle.std.proofs.Common.{◌≡◌, ◌∙◌, ◌⊎◌, inl, inr, ℕ, suc, arith, List, [], ◌∷◌, ◌++◌, Bool, true, false, Option, Some, refl, sym, ap, subst}
 use Rattle.std.proofs.lemmas.Option.{get_or_from_slice_get}
 use Rattle.page_picture.specs.Meaning.{meaning_of}
 use Rattle.page_picture.specs.Page.{PageView}
@@ -12,17 +11,16 @@ use Rattle.frame_join.specs.FrameHistory.{JoinHistory, is_joined}
 use Rattle.scan_job.specs.declared.job.Job.{Job}
 use Rattle.scan_job.specs.declared.job.Task.{Task}
 use Rattle.scan_job.specs.declared.job.Task.TheVariants as tasks
-use Rattle.scan_job.specs.declared.outcome.Outcome.{Outcome}
 use Rattle.scan_job.specs.declared.outcome.Outcome.TheVariants.{Done}
 use Rattle.scan_job.specs.declared.report.Reports.{Reports}
 use Rattle.client_replies.specs.ProtocolStates.{is_batch}
 use Rattle.client_refines.specs.ClientRefinement.{task_of, wholes}
 use Rattle.system_model.specs.AbstractDevices.{Begin}
 use Rattle.system_model.specs.Client as rules
-use Rattle.system_model.specs.Client.{AbstractJob, JobStage}
+use Rattle.system_model.specs.Client.{AbstractJob}
 use Rattle.system_model.specs.Devices.{Make}
 use Rattle.system_model.specs.Invariants.{IsRightlyDone, StageInvariant}
-use Rattle.system_model.specs.SystemStates.{JobState, SystemState, device_for, make_for, wanted_place}
+use Rattle.system_model.specs.SystemStates.{SystemState, device_for, make_for, wanted_place}
 use Rattle.system_model.specs.Transitions.{after_all}
 use Rattle.scan_world.specs.declared.endpoint.Endpoint.{Endpoint}
 use Rattle.scan_world.specs.JobEvents.{is_done}
@@ -39,19 +37,19 @@ use Rattle.world_contract.specs.Histories.{History, LedTo}
 use Rattle.world_contract.specs.Laws.{Below}
 use Rattle.world_contract.specs.Page.{CameFor, IsScan, IsSteady, StartedOn}
 use Rattle.world_contract.proofs.Begun.{wants_all}
-use Rattle.world_contract.proofs.Ended.{comes_there, first_here, judged_there, laws_of, steps_of_one}
+use Rattle.world_contract.proofs.Ended.{comes_there, first_here, laws_of, steps_of_one}
 use Rattle.world_contract.proofs.Jobs.{IsJob}
 use Rattle.world_contract.proofs.Lists.{contains_at}
 use Rattle.world_contract.proofs.Nearest.{nearest_for}
 use Rattle.world_contract.proofs.Scanned.{at_first, infos_of, job_there, kept_by, name_of, wants_there}
 use Rattle.world_contract.proofs.Sources.{make_at, sources_of, steady_there}
-use Rattle.world_contract.proofs.moments.Judged.{CountsTo, Judged}
-use Rattle.world_contract.proofs.moments.Moments.{Comes}
-use Rattle.world_contract.proofs.moments.Started.{StartFact, app_length, mapped_length, starts_first}
+use Rattle.world_contract.proofs.moments.Counted.{CountsTo, counts}
+use Rattle.world_contract.proofs.moments.Started.{StartFact, app_length, starts_first}
+use Rattle.world_contract.proofs.moments.Finished.{mapped_length}
 
 -- ---- the job of these steps, and its device
 
-job_of : (below : Below) (h : History) (w : WorldCore) (job : Job) (l : LedTo h w) (i : ℕ) → slice_get h.jobs i ≡ Some job → (comes_there below h w job l).ghost_then.jobs i ≡ job
+pub job_of : (below : Below) (h : History) (w : WorldCore) (job : Job) (l : LedTo h w) (i : ℕ) → slice_get h.jobs i ≡ Some job → (comes_there below h w job l).ghost_then.jobs i ≡ job
 job_of below h w job l i at =
     let k = comes_there below h w job l in
     ap (λ (f : Fixed). f.3 i) (all_fixed source_state h.events (at_first h w job l) k.steps k.ghost_then k.comes) ∙ get_or_from_slice_get h.jobs i job job at
@@ -175,20 +173,23 @@ page_right below h w i n job p file j steady low is =
 
 -- ---- how many they are
 
-few_or_none : {X : Type 0} (finished count n : ℕ) (met : Type 0) → finished ≡ n → (finished ≡ count) ⊎ ((0 < finished) × (finished < count) × met) → (n ≡ suc (count - 1)) ⊎ X → (finished ≡ count) ⊎ ((0 < finished) × (finished < count) × X)
-few_or_none finished count n met same (inl all) counts = inl all
-few_or_none finished count n met same (inr few) (inl all) = let some = few.0 in let less = few.1 in absurd (omega (arith, some, less, same, all))
-few_or_none finished count n met same (inr few) (inr none) = inr (few.0, few.1, none)
+few_or_none : (X : ℕ → Type 0) (finished count n : ℕ) (met : Type 0) → finished ≡ n → (finished ≡ count) ⊎ ((0 < finished) × (finished < count) × met) → (n ≡ suc (count - 1)) ⊎ X n → (finished ≡ count) ⊎ ((0 < finished) × (finished < count) × X finished)
+few_or_none X finished count n met same (inl all) counts = inl all
+few_or_none X finished count n met same (inr few) (inl all) = let some = few.0 in let less = few.1 in absurd (omega (arith, some, less, same, all))
+few_or_none X finished count n met same (inr few) (inr none) = inr (few.0, few.1, subst X (sym same) none)
 
-pub counted_there : Below → (h : History) (w : WorldCore) (i : ℕ) (job : Job) (p : Endpoint) → IsJob h w i job p → (count : ℕ) (reports : Reports) → job.task ≡ tasks.Batch count → p.client.outcome ≡ Done reports → (p.finished ≡ count) ⊎ ((0 < p.finished) × (p.finished < count) × HadNoPage h w i job)
+pub counted_there : Below → (h : History) (w : WorldCore) (i : ℕ) (job : Job) (p : Endpoint) → IsJob h w i job p → (count : ℕ) (reports : Reports) → job.task ≡ tasks.Batch count → p.client.outcome ≡ Done reports → (p.finished ≡ count) ⊎ ((0 < p.finished) × (p.finished < count) × HadNoPage h w i job p.finished)
 counted_there below h w i job p j count reports batch done =
-    let u = (comes_there below h w job j.led).ghost_then in
-    let stands = (comes_there below h w job j.led).stands in
+    let c = comes_there below h w job j.led in
+    let u = c.ghost_then in
+    let t = at_first h w job j.led in
     let k = kept_by below.kept h w job j.led in
     let me = job_state u i in
     let task : (u.jobs i).task ≡ tasks.Batch count = ap (λ (x : Job). x.task) (job_of below h w job j.led i j.job_at) ∙ batch in
-    let promise : KeepsPromise u i reports = subst (IsOutcome u i) done (below.outcomes u w i p stands j.endpoint_at) in
-    let counts : CountsTo h w i job me.client.pages = subst (Judged h w i job me.session.met me.client.pages) promise.stage (judged_there below h w i job j.led j.job_at) in
-    let pages = pages_count u w i p stands j.endpoint_at (ap is_done done) (ap is_batch task) in
+    let ruled : me.session.job.task ≡ rules.Batch (count - 1) = ap (λ (x : AbstractJob). x.task) (c.stands.endpoints i p j.endpoint_at).job_is ∙ ap task_of task in
+    let promise : KeepsPromise u i reports = subst (IsOutcome u i) done (below.outcomes u w i p c.stands j.endpoint_at) in
+    let so : CountsTo h w i job me = subst (λ (s : SystemState). CountsTo h w i job (s.job i)) (sym c.rules_are)
+    (counts (laws_of below) h w i job c.steps t.system (first_here below h w i job j.led j.job_at) (steps_of_one below h w job j.led) c.answered c.legal (λ m. m) (subst (λ (s : SystemState). (s.job i).client.stage ≡ rules.Done) c.rules_are promise.stage)) in
+    let pages = pages_count u w i p c.stands j.endpoint_at (ap is_done done) (ap is_batch task) in
     let known = k.promises.batches i count p reports j.endpoint_at (ap (λ (x : Job). x.task) (job_there h w job j.led k i j.job_at) ∙ batch) done in
-    few_or_none p.finished count (length me.client.pages) _ pages known (counts (count - 1) (ap task_of batch))
+    few_or_none (HadNoPage h w i job) p.finished count (length me.client.pages) _ pages known (so (count - 1) ruled)

@@ -1,6 +1,6 @@
 -- Two clients never hold one device, whatever led to the world.
 use Rattle.std.specs.Prelude.{slice_get, length, ◌≤◌}
-use Rattle.std.proofs.Common.{◌≡◌, ◌∙◌, ℕ, List, [], ◌∷◌, Option, Some, None, refl, sym, ap, subst, arith}
+use Rattle.std.proofs.Common.{◌≡◌, ◌∙◌, ℕ, List, [], ◌∷◌, Some, None, refl, sym, ap, subst, arith}
 use Rattle.page_picture.specs.SourceView.{source_state}
 use Rattle.device_api.specs.State.{DeviceState}
 use Rattle.scan_job.specs.declared.job.Job.{Job}

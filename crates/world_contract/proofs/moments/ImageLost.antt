@@ -1,12 +1,11 @@
 -- The loss of the data connection of a job that runs ends it.
 use Rattle.std.specs.Prelude.{IsSome, option_map, slice_get}
-use Rattle.std.proofs.Common.{◌≡◌, ◌∙◌, ℕ, List, [], ◌∷◌, ◌++◌, Bool, true, false, Option, Some, None, refl, sym, ap, subst}
+use Rattle.std.proofs.Common.{◌≡◌, ◌∙◌, ℕ, List, [], ◌∷◌, true, false, Option, Some, None, refl, sym, ap, subst}
 use Rattle.page_picture.specs.SourceView.{source_state}
 use Rattle.sane_fixed.specs.declared.status.Status.TheVariants.{IoError}
 use Rattle.client_replies.specs.ProtocolStates.{is_lost_by}
 use Rattle.client_replies.specs.declared.progress.Link.TheVariants as links
 use Rattle.saned_core.specs.declared.session_slot.SessionId.{SessionId}
-use Rattle.saned_core.specs.DaemonStates.{Core}
 use Rattle.scan_job.specs.declared.job.Job.{Job}
 use Rattle.scan_job.specs.declared.outcome.Outcome.{Outcome}
 use Rattle.scan_job.specs.declared.outcome.Outcome.TheVariants.{Running, Ended}
@@ -17,7 +16,7 @@ use Rattle.scan_world.specs.declared.endpoint.Image.{Image}
 use Rattle.scan_world.specs.declared.event.Event.{Event}
 use Rattle.scan_world.specs.declared.event.Event.TheVariants as events
 use Rattle.scan_world.specs.declared.event.JobEvent.TheVariants.{LoseImage}
-use Rattle.scan_world.specs.JobEvents.{IfLinked, image_lost}
+use Rattle.scan_world.specs.JobEvents.{IfLinked}
 use Rattle.scan_world.specs.Worlds.{AtEndpoint, Runs, WorldCore}
 use Rattle.world_refines.specs.GhostStates.{Ghost, place_of_info}
 use Rattle.world_refines.specs.MainTheorem.{AllIsKept, AreTrueLoads}

@@ -1,7 +1,7 @@
 -- What each cause that a job met comes from, of the world in front of its event; and so why a job ended.
-use Rattle.std.specs.Prelude.{cond, eqb, length, option_map, map, slice_get, slice_index_or, Contains}
+use Rattle.std.specs.Prelude.{eqb, length, map, slice_get, Contains}
 use Rattle.std.specs.List.{AllByRecursion}
-use Rattle.std.proofs.Common.{◌≡◌, ◌∙◌, ◌⊎◌, ◌≢◌, ℕ, suc, List, [], ◌∷◌, ◌++◌, Bool, true, false, Option, Some, None, inl, inr, refl, sym, ap, subst, eqb-true}
+use Rattle.std.proofs.Common.{◌≡◌, ◌∙◌, ◌⊎◌, ◌≢◌, ℕ, List, [], ◌∷◌, ◌++◌, Bool, true, false, Option, Some, None, inl, inr, refl, sym, ap, subst, eqb-true}
 use Rattle.std.proofs.lemmas.Option.{get_or_from_slice_get}
 use Rattle.device_api.specs.Kinds.{Page}
 use Rattle.device_api.specs.State.{DeviceState}
@@ -12,37 +12,36 @@ use Rattle.scan_job.specs.declared.job.Job.{Job}
 use Rattle.scan_job.specs.declared.job.Task.{Task}
 use Rattle.scan_job.specs.declared.job.Task.TheVariants as tasks
 use Rattle.scan_laws.specs.Passes.{IsInScan}
-use Rattle.dispatch.specs.Table.{find_name}
 use Rattle.md5_auth.specs.ChallengeReading.{challenge_of}
 use Rattle.client_replies.specs.declared.progress.Progress.{Progress}
 use Rattle.client_replies.specs.ProtocolStates.{scans}
 use Rattle.client_refines.specs.ClientRefinement.{requested_setting, task_of}
 use Rattle.system_model.specs.AbstractMessages.{AbstractRequest, Challenge, Open, Authorize, Start, Status, Why, Eof}
-use Rattle.system_model.specs.AbstractDevices.{AbstractDevice, Resting}
+use Rattle.system_model.specs.AbstractDevices.{AbstractDevice, Begin, Resting}
 use Rattle.system_model.specs.AbstractInForce.{abstract_in_force}
 use Rattle.system_model.specs.Actions
-use Rattle.system_model.specs.Actions.{Action, job_after_action}
+use Rattle.system_model.specs.Actions.{Action, is_some_begun}
 use Rattle.system_model.specs.Causes.{Cause, IsExplained, Explains, GaveUp, LinkLost, LinkOutOfMemory, WasUnsaid, SourceFailed, NamesEof, Names, Unforced, WasUnlisted, HadNoPicture, WasHeld, Disallowed, TrayWasEmpty, TrayRanOut, ClientOutOfMemory, IsCauseAmong}
-use Rattle.system_model.specs.Client.{AbstractJob as RuledJob, Batch, JobStage, Idle, Running, Done, Ended, ClientView}
+use Rattle.system_model.specs.Client.{AbstractJob as RuledJob, JobStage, Idle, Running, Done, Ended, ClientView}
 use Rattle.system_model.specs.Daemon.{FailureCounts, Streaming}
-use Rattle.system_model.specs.Sync.{Scans}
+use Rattle.system_model.specs.Sync.{Ready, Scans}
 use Rattle.system_model.specs.Devices.{Make, picture_frames, read_status_of}
 use Rattle.system_model.specs.Invariants.{IsCaused, StageInvariant}
 use Rattle.system_model.specs.ModelPromises.{CausesAreGrounded}
 use Rattle.system_model.specs.SystemStates.{JobState, SystemState, listed_devices, make_for, device_for, wanted_place}
-use Rattle.system_model.proofs.JobPromises.{batches_counted}
 use Rattle.system_model.specs.Transitions.{By, IsActionEnabled, IsHistory, IsEnabled, IsUnderWay, Loads, Transition, Unplugs, after_transition, after_all}
 use Rattle.scan_world.specs.declared.event.Event.TheVariants.{Cancel}
 use Rattle.scan_world.specs.declared.event.JobEvent.TheVariants.{DataTurn}
 use Rattle.scan_world.specs.Worlds.{WorldCore}
 use Rattle.daemon_refines.specs.ContextRefinement.{abstract_device}
 use Rattle.world_refines.specs.FailedSources.{AllAlong, FailedIn}
-use Rattle.world_refines.specs.GhostStates.{Ghost, backend_of, is_allowed_for, is_guarded, name_at, place_named, abstract_job}
+use Rattle.world_refines.specs.GhostStates.{backend_of, is_allowed_for, name_at, place_named}
 use Rattle.world_refines.proofs.job_events.Constant.{Fixed}
 use Rattle.world_contract.specs.Calls.{HadUnsaidReply}
 use Rattle.world_contract.specs.Endings as rows
 use Rattle.world_contract.specs.Histories.{History}
-use Rattle.world_contract.specs.Sessions.{Asked, Happened, Has, IsAtOpen, IsAtStart, WaitsAt}
+use Rattle.world_contract.specs.Page.{CameFor}
+use Rattle.world_contract.specs.Sessions.{Asked, Happened, Has, HasFinished, IsAtOpen, IsAtStart, WaitsAt}
 use Rattle.world_contract.proofs.Along.{Fine, Here, IsTold, Laws, NotForced, Own, fine_then, own_place, settled_by, told_by}
 use Rattle.world_contract.proofs.Asked.{AsksGuarded, asks_then}
 use Rattle.world_contract.proofs.Begun.{job_same, party_stays}
@@ -51,14 +50,15 @@ use Rattle.world_contract.proofs.Evident.{Begins, Comes, IsAnswer, IsFailedAnswe
 use Rattle.world_contract.proofs.Lists.{all_each, all_then, contains_in}
 use Rattle.world_contract.proofs.NoPictures.{IsSet, no_meaning, starting}
 use Rattle.world_contract.proofs.Options.{streaming}
-use Rattle.world_contract.proofs.Pages.{HasDevice, IsOfOne, name_there}
+use Rattle.world_contract.proofs.Pages.{HasDevice, IsOfDevice, IsOfOne, name_there}
 use Rattle.world_contract.proofs.Scanned.{infos_of, name_of}
 use Rattle.world_contract.proofs.Sources.{make_at}
 use Rattle.world_contract.proofs.moments.Entries.{linked_by, own_party}
-use Rattle.world_contract.proofs.moments.Moments.{AnsweredSo, AnswersAt, HappenedSo, job_at}
+use Rattle.world_contract.proofs.moments.Moments.{AnsweredSo, AnswersAt, HappenedSo}
 use Rattle.world_contract.proofs.moments.Requests.{IsOpening}
 use Rattle.world_contract.proofs.moments.Stands.{awaits_there, holder_has, unlisted_none}
-use Rattle.world_contract.proofs.moments.Tray.{dry_there, empty_there, page_there}
+use Rattle.world_contract.proofs.moments.Tray.{empty_there, first_rests, page_there, starts_ready}
+use Rattle.world_contract.proofs.moments.Finished.{as_many, count_at}
 use Rattle.world_contract.proofs.moments.Waiting.{WaitsFor, waits_there}
 
 -- ---- what a cause says
@@ -71,7 +71,7 @@ abbrev pub Evid : History → WorldCore → ℕ → Job → Cause → Type 0
 Evid h w i job GaveUp = Contains h.events (Cancel i)
 Evid h w i job LinkLost = rows.WasLost h w i
 Evid h w i job LinkOutOfMemory = Unit {0}
-Evid h w i job WasUnsaid = HadUnsaidReply h job
+Evid h w i job WasUnsaid = HadUnsaidReply h w i job
 Evid h w i job SourceFailed = rows.HadFailed h w i job
 Evid h w i job NamesEof = IsNamed h w i job Eof
 Evid h w i job (Names status) = IsNamed h w i job status
@@ -80,8 +80,8 @@ Evid h w i job WasUnlisted = rows.WasUnlisted h w i job
 Evid h w i job HadNoPicture = rows.HadNoPicture h w i job
 Evid h w i job WasHeld = rows.WasHeld h w i job
 Evid h w i job Disallowed = rows.WasDisallowed h w i job
-Evid h w i job TrayWasEmpty = rows.HadNoPage h w i job
-Evid h w i job TrayRanOut = rows.HadNoPage h w i job
+Evid h w i job TrayWasEmpty = rows.HadNoPage h w i job 0
+Evid h w i job TrayRanOut = Unit {0}
 Evid h w i job ClientOutOfMemory = rows.WasStarved h w i
 
 abbrev pub StepSo : History → WorldCore → Job → SystemState → Transition → Type 0
@@ -112,7 +112,7 @@ Front h w job s i = (fault : Option FailureCounts) × AnswersAt h w job s i faul
 front_by : (h : History) (w : WorldCore) (i : ℕ) (job : Job) (s : SystemState) (x : Action) → IsAnswer x → IsUnderWay (s.job i).client.stage → StepSo h w job s (By i x) → Front h w job s i
 front_by h w i job s x a on so = (a.1, (subst (λ (y : Action). AnsweredSo h w job s (By i y)) a.2 so.0) on)
 
-infos_there : (h : History) (w : WorldCore) (job : Job) (s : SystemState) (i : ℕ) (a : Front h w job s i) → a.1.ghost.infos ≡ infos_of h
+pub infos_there : (h : History) (w : WorldCore) (job : Job) (s : SystemState) (i : ℕ) (a : Front h w job s i) → a.1.ghost.infos ≡ infos_of h
 infos_there h w job s i a = ap (λ (f : Fixed). f.1) a.1.fixed
 
 -- the client waits for the answer to that request
@@ -125,12 +125,12 @@ asked_there h w i job s Waits q rest on a todo is = record {
   waits = subst (WaitsAt a.1.at.before i) is (waits_there a.1.ghost a.1.at.before i q rest a.1.stands (subst (λ (u : SystemState). IsUnderWay (u.job i).client.stage) (sym a.1.state) on) (ap (λ (u : SystemState). (u.job i).todo) a.1.state ∙ todo));
 }
 
-open_waits : (q : AbstractRequest) → IsOpening q → WaitsFor q ≡ IsAtOpen
+pub open_waits : (q : AbstractRequest) → IsOpening q → WaitsFor q ≡ IsAtOpen
 open_waits Open opening = refl
 open_waits (Authorize challenge) opening = refl
 open_waits q opening = absurd opening
 
-abbrev asked_open : (h : History) (w : WorldCore) (i : ℕ) (job : Job) (s : SystemState) → IsUnderWay (s.job i).client.stage → (a : Front h w job s i) → Opens (s.job i) → Asked h w i IsAtOpen
+abbrev pub asked_open : (h : History) (w : WorldCore) (i : ℕ) (job : Job) (s : SystemState) → IsUnderWay (s.job i).client.stage → (a : Front h w job s i) → Opens (s.job i) → Asked h w i IsAtOpen
 asked_open h w i job s on a o = asked_there h w i job s IsAtOpen o.0 o.1 on a o.2 (open_waits o.0 o.3)
 
 abbrev pub asked_start : (h : History) (w : WorldCore) (i : ℕ) (job : Job) (s : SystemState) → IsUnderWay (s.job i).client.stage → (a : Front h w job s i) → (rest : List AbstractRequest) → (s.job i).todo ≡ Start ∷ rest → Asked h w i IsAtStart
@@ -161,29 +161,47 @@ not_listed h w i job s e on a opens none =
     (ap (λ (u : SystemState). (u.device (place_named (infos_of h) job.device)).listed) a.1.state ∙ off) in
     (asked_open h w i job s on a opens, unlisted_none a.1.ghost a.1.at.before job.device a.1.stands there)
 
-not_allowed : (h : History) (w : WorldCore) (i : ℕ) (job : Job) (s : SystemState) → Here h i job s → IsUnderWay (s.job i).client.stage → (s.job i).served ≡ true → Front h w job s i → Opens (s.job i) → (c : Challenge) → (s.job i).session.awaited ≡ Some c → (s.job i).session.job.allows c ≡ false → rows.WasDisallowed h w i job
-not_allowed h w i job s e on served a opens c awaited denied =
+-- whether its user and password are allowed for the challenge that its session had sent
+pub judged_by : (h : History) (w : WorldCore) (i : ℕ) (job : Job) (s : SystemState) (allowed : Bool) → Here h i job s → IsUnderWay (s.job i).client.stage → (s.job i).served ≡ true → (a : Front h w job s i) → (c : Challenge) → (s.job i).session.awaited ≡ Some c → (s.job i).session.job.allows c ≡ allowed → rows.IsJudged h a.1.at.before i job allowed
+judged_by h w i job s allowed e on served a c awaited allows =
     let linked = linked_by i (make_for s i) (s.job i) (device_for s i) (s.job i).client.stage (e.sound.talks i) on served in
     let r = awaits_there a.1.ghost a.1.at.before i c a.1.stands (slice_get a.1.at.before.endpoints i) refl (ap (λ (u : SystemState). (u.job i).served) a.1.state ∙ served) (ap (λ (u : SystemState). (u.job i).linked) a.1.state ∙ linked) (ap (λ (u : SystemState). (u.job i).session.awaited) a.1.state ∙ awaited) in
-    let no : is_allowed_for h.users job.user job.password (backend_of job.device) (challenge_of c) ≡ false = ap (λ (j : RuledJob). j.allows c) (sym e.is) ∙ denied in
+    let so : is_allowed_for h.users job.user job.password (backend_of job.device) (challenge_of c) ≡ allowed = ap (λ (j : RuledJob). j.allows c) (sym e.is) ∙ allows in
     record {
-      asked = asked_open h w i job s on a opens;
       session = r.0;
       stands = r.2;
       sent = r.1;
       awaited = r.3;
       guarded = ap (λ (j : RuledJob). j.guarded) (sym e.is) ∙ e.asks c awaited;
-      denied = subst (λ (x : _). is_allowed_for h.users job.user job.password (backend_of job.device) (challenge_of x) ≡ false) r.4 no;
+      is = subst (λ (x : _). is_allowed_for h.users job.user job.password (backend_of job.device) (challenge_of x) ≡ allowed) r.4 so;
     }
+
+not_allowed : (h : History) (w : WorldCore) (i : ℕ) (job : Job) (s : SystemState) → Here h i job s → IsUnderWay (s.job i).client.stage → (s.job i).served ≡ true → Front h w job s i → Opens (s.job i) → (c : Challenge) → (s.job i).session.awaited ≡ Some c → (s.job i).session.job.allows c ≡ false → rows.WasDisallowed h w i job
+not_allowed h w i job s e on served a opens c awaited denied = (asked_open h w i job s on a opens, judged_by h w i job s false e on served a c awaited denied)
 
 -- its device is had, and has no page
 abbrev HasNone : ℕ → AbstractDevice → Type 0
 HasNone i dev = (dev.holder ≡ Some i) × ((d : DeviceState) → dev ≡ abstract_device (Some i) d → IsInScan d → d.pages ≡ [])
 
-no_page : (h : History) (w : WorldCore) (i : ℕ) (job : Job) (s : SystemState) → Here h i job s → IsUnderWay (s.job i).client.stage → Front h w job s i → (rest : List AbstractRequest) → (s.job i).todo ≡ Start ∷ rest → HasNone i (device_for s i) → rows.HadNoPage h w i job
-no_page h w i job s e on a rest todo held =
+-- as it asks for a start of a device at rest, just so many of its pages are finished
+finished_there : (h : History) (w : WorldCore) (i : ℕ) (job : Job) (s : SystemState) → Here h i job s → IsUnderWay (s.job i).client.stage → (a : Front h w job s i) → (rest : List AbstractRequest) → (s.job i).todo ≡ Start ∷ rest → (device_for s i).phase ≡ Resting → HasFinished a.1.at.before i (length (s.job i).client.pages)
+finished_there h w i job s e on a rest todo rests =
+    let p = s.job i in
+    let ready = starts_ready i (make_for s i) p (device_for s i) p.client.stage rest on (e.sound.talks i) todo rests in
+    let count : HasFinished a.1.at.before i (length (a.1.ghost.system.job i).session.started) =
+    count_at a.1.ghost a.1.at.before i rest (slice_get a.1.at.before.endpoints i) refl a.1.stands (ap (λ (u : SystemState). (u.job i).client.stage) a.1.state ∙ ready.1)
+    (subst (λ (u : SystemState). Ready i (make_for u i) (u.job i).session (u.job i).client (device_for u i)) (sym a.1.state) ready.0) in
+    subst (HasFinished a.1.at.before i) (as_many (make_for s i) p.session.job.settings p.session.started p.client.pages ready.0.pictures)
+    (subst (λ (u : SystemState). HasFinished a.1.at.before i (length (u.job i).session.started)) a.1.state count)
+
+none_begun : (xs : List Begin) → is_some_begun xs ≡ false → length xs ≡ 0
+none_begun [] e = refl
+none_begun (x ∷ xs) e = absurd (let clash : true ≡ false = e in cc)
+
+pub no_page : (h : History) (w : WorldCore) (i : ℕ) (job : Job) (s : SystemState) → Here h i job s → IsUnderWay (s.job i).client.stage → Front h w job s i → (rest : List AbstractRequest) → (s.job i).todo ≡ Start ∷ rest → (device_for s i).phase ≡ Resting → HasNone i (device_for s i) → rows.HadNoPage h w i job (length (s.job i).client.pages)
+no_page h w i job s e on a rest todo rests held =
     let r = has_there h w i job s i e.own_job e.fine a held.0 in
-    (asked_start h w i job s on a rest todo, r.0, r.1, held.1 r.0 r.2 r.3)
+    (asked_start h w i job s on a rest todo, finished_there h w i job s e on a rest todo rests, (r.0, r.1, held.1 r.0 r.2 r.3))
 
 no_meaning_there : (h : History) (w : WorldCore) (i : ℕ) (job : Job) (s : SystemState) → Here h i job s → IsUnderWay (s.job i).client.stage → (a : Front h w job s i) → (rest : List AbstractRequest) → (s.job i).todo ≡ Start ∷ rest → IsSet i (make_for s i) (s.job i).session (device_for s i) → (page : Page) (later : List Page) → (device_for s i).tray ≡ page ∷ later → picture_frames (make_for s i) (device_for s i).options page ≡ [] → (device_for s i).phase ≡ Resting → rows.HadNoPicture h w i job
 no_meaning_there h w i job s e on a rest todo set page later tray none rests =
@@ -191,13 +209,17 @@ no_meaning_there h w i job s e on a rest todo set page later tray none rests =
     let r = has_there h w i job s i e.own_job e.fine a set.0 in
     let setup : (device_for s i).options ≡ r.0.setup = ap (λ (dev : AbstractDevice). dev.options) r.2 in
     let first = page_there (Some i) (device_for s i) r.0 page later rests tray r.2 r.3 in
+    let came = (subst (AllByRecursion (IsOfDevice h (wanted_place s i))) tray (e.fine.slots (wanted_place s i)).pages).0 settled.0.device settled.2 in
     record {
       asked = asked_start h w i job s on a rest todo;
       device = r.0;
       has = r.1;
       settled = settled.0;
       options = settled.1 ∙ setup;
-      none = ap (λ (p : Page). meaning_of p r.0.setup.scene) first ∙ (ap (λ (y : Setup). meaning_of page y.scene) (sym setup) ∙ no_meaning (make_for s i) (device_for s i).options page none);
+      held = came.0;
+      came = subst (λ (name : List ℕ). CameFor h name came.0) settled.0.named came.1;
+      first = came.2 ∙ sym first;
+      none = ap (λ (p : Page). meaning_of p settled.0.setup.scene) came.2 ∙ (ap (λ (y : Setup). meaning_of page y.scene) settled.1 ∙ no_meaning (make_for s i) (device_for s i).options page none);
     }
 
 source_failed : (h : History) (w : WorldCore) (i : ℕ) (job : Job) (s : SystemState) (x : Action) → (IsFailedAnswer x × Begins (s.job i)) ⊎ ((fault : FailureCounts) × (x ≡ Actions.TurnsFault fault)) → IsUnderWay (s.job i).client.stage → StepSo h w job s (By i x) → slice_get h.jobs i ≡ Some job → rows.HadFailed h w i job
@@ -206,7 +228,7 @@ source_failed h w i job s x (inl (a, begins)) on so at =
     inl (asked_start h w i job s on (Some a.1, m) begins.0 begins.1, subst (λ (j : Job). FailedIn m.at.before m.at.behind.daemon i j.device) (get_or_from_slice_get h.jobs i job job at) m.failed)
 source_failed h w i job s x (inr a) on so at =
     let f = happened_by h w job s i x (Actions.TurnsFault a.0) a.1 so in
-    inr (f.0, subst (λ (j : Job). FailedIn f.0.0.before f.0.0.behind.daemon i j.device) (get_or_from_slice_get h.jobs i job job at) f.1)
+    inr (f.0, subst (λ (j : Job). FailedIn f.0.0.before f.0.0.behind.daemon i j.device) (get_or_from_slice_get h.jobs i job job at) f.1, f.2)
 
 served_by_step : (i : ℕ) (k : Make) (p : JobState) (dev : AbstractDevice) (x : Action) → IsAnswer x → IsActionEnabled i k p dev x → p.served ≡ true
 served_by_step i k p dev x a may = (subst (IsActionEnabled i k p dev) a.2 may).0
@@ -227,7 +249,7 @@ evid : (h : History) (w : WorldCore) (i : ℕ) (job : Job) (s : SystemState) (x 
 evid h w i job s x e on of so may GaveUp c = let o = of_deed h i x Actions.Stops c of in stops_event (Contains h.events) (infos_of h) i o.event (contains_in h.events o.event o.among) o.is
 evid h w i job s x e on of so may LinkLost c = link_lost h w job s i x c so
 evid h w i job s x e on of so may LinkOutOfMemory c = tt
-evid h w i job s x e on of so may WasUnsaid c = (of_deed h i x (Actions.Breaks false) c of).cut job e.own_job.at
+evid h w i job s x e on of so may WasUnsaid c = subst (HadUnsaidReply h w i) (get_or_from_slice_get h.jobs i job job e.own_job.at) (happened_by h w job s i x (Actions.Breaks false) c so on)
 evid h w i job s x e on of so may SourceFailed c = source_failed h w i job s x c on so e.own_job.at
 evid h w i job s x e on of so may NamesEof c = named_by h w i job s Eof e on c.1 c.2 c.3 (happened_by h w job s i x Actions.TurnsShort c.0 so)
 evid h w i job s x e on of so may (Names status) c = named_by h w i job s status e on c.1 c.2 c.3 (happened_by h w job s i x (Actions.TurnsNamed status) c.0 so)
@@ -237,8 +259,13 @@ evid h w i job s x e on of so may HadNoPicture c =
     no_meaning_there h w i job s e on (front_by h w i job s x c.0 on so) c.1.0 c.1.1 (starting i (make_for s i) (s.job i) (device_for s i) (s.job i).client.stage c.1.0 on (e.sound.talks i) c.1.1) c.1.2.0 c.1.2.1 c.1.2.2 c.1.2.3 c.2
 evid h w i job s x e on of so may WasHeld c = held_by_other h w i job s c.2.0 e on (front_by h w i job s x c.0 on so) c.1 c.2.1 c.2.2
 evid h w i job s x e on of so may Disallowed c = not_allowed h w i job s e on (served_by_step i (make_for s i) (s.job i) (device_for s i) x c.0 may) (front_by h w i job s x c.0 on so) c.1 c.2.0 c.2.1 c.2.2
-evid h w i job s x e on of so may TrayWasEmpty c = no_page h w i job s e on (front_by h w i job s x c.0 on so) c.1.0 c.1.1 (empty_there i (make_for s i) (s.job i) (device_for s i) (s.job i).client.stage (e.sound.talks i) on c.1)
-evid h w i job s x e on of so may TrayRanOut c = no_page h w i job s e on (front_by h w i job s x c.0 on so) c.1.0 c.1.1 (dry_there i (make_for s i) (s.job i) (device_for s i) (s.job i).client.stage (e.sound.talks i) on c.1)
+evid h w i job s x e on of so may TrayWasEmpty c =
+    let p = s.job i in
+    let rests = first_rests i (make_for s i) p (device_for s i) p.client.stage (e.sound.talks i) on c.1 in
+    let ready = starts_ready i (make_for s i) p (device_for s i) p.client.stage c.1.0 on (e.sound.talks i) c.1.1 rests in
+    let none : length p.client.pages ≡ 0 = sym (as_many (make_for s i) p.session.job.settings p.session.started p.client.pages ready.0.pictures) ∙ none_begun p.session.started c.1.3 in
+    subst (rows.HadNoPage h w i job) none (no_page h w i job s e on (front_by h w i job s x c.0 on so) c.1.0 c.1.1 rests (empty_there i (make_for s i) p (device_for s i) p.client.stage (e.sound.talks i) on c.1))
+evid h w i job s x e on of so may TrayRanOut c = tt
 evid h w i job s x e on of so may ClientOutOfMemory c = happened_by h w job s i x Actions.RunsOutOfMemory c so
 
 -- ---- what the job met
@@ -246,15 +273,11 @@ evid h w i job s x e on of so may ClientOutOfMemory c = happened_by h w job s i 
 abbrev pub EndedBy : History → WorldCore → ℕ → Job → List Cause → Status → Why → Type 0
 EndedBy h w i job met status why = ((c : Cause) × Evid h w i job c × IsCauseAmong c met × Explains c status why) ⊎ (NotForced h job × Explains Unforced status why)
 
--- a batch that is done has its count of pages, or its device had no more
-abbrev pub CountsTo : History → WorldCore → ℕ → Job → List (List Frame) → Type 0
-CountsTo h w i job pages = (n : ℕ) → task_of job.task ≡ Batch n → (length pages ≡ suc n) ⊎ rows.HadNoPage h w i job
-
 -- each cause that a job met that is under way is so, and an ending is by one of them
 abbrev pub Judged : History → WorldCore → ℕ → Job → List Cause → List (List Frame) → JobStage → Type 0
 Judged h w i job met pages Idle = AllByRecursion (Evid h w i job) met
 Judged h w i job met pages (Running g) = AllByRecursion (Evid h w i job) met
-Judged h w i job met pages Done = CountsTo h w i job pages
+Judged h w i job met pages Done = Unit {0}
 Judged h w i job met pages (Ended status why) = EndedBy h w i job met status why
 
 abbrev pub JudgedAt : History → WorldCore → ℕ → Job → SystemState → Type 0
@@ -264,12 +287,6 @@ pub among_met : (h : History) (w : WorldCore) (i : ℕ) (job : Job) (c : Cause) 
 among_met h w i job c [] a m = absurd m
 among_met h w i job c (d ∷ met) a (inl same) = subst (Evid h w i job) (sym same) a.0
 among_met h w i job c (d ∷ met) a (inr m) = among_met h w i job c met a.1 m
-
-counts_to : (h : History) (w : WorldCore) (i : ℕ) (job : Job) (s : SystemState) → (s.job i).client.stage ≡ Done → Here h i job s → AllByRecursion (Evid h w i job) (s.job i).session.met → CountsTo h w i job (s.job i).client.pages
-counts_to h w i job s at e a n batch = elim (batches_counted s i n e.sound at (ap (λ (j : RuledJob). j.task) e.is ∙ batch)) [
-  | inl all ↦ inl all
-  | inr few ↦ inr (among_met h w i job TrayRanOut (s.job i).session.met a few.2)
-]
 
 pick : (h : History) (w : WorldCore) (i : ℕ) (job : Job) (status : Status) (why : Why) (met : List Cause) → AllByRecursion (Evid h w i job) met → IsExplained status why met → (c : Cause) × Evid h w i job c × IsCauseAmong c met × Explains c status why
 pick h w i job status why [] a e = absurd e
@@ -290,7 +307,7 @@ caused h w i job s status why e a (inr c) = inr (forced_same h w i job s e c.0, 
 judge_all : (h : History) (w : WorldCore) (i : ℕ) (job : Job) (s : SystemState) (stage : JobStage) → (s.job i).client.stage ≡ stage → Here h i job s → AllByRecursion (Evid h w i job) (s.job i).session.met → Judged h w i job (s.job i).session.met (s.job i).client.pages stage
 judge_all h w i job s Idle at e a = a
 judge_all h w i job s (Running g) at e a = a
-judge_all h w i job s Done at e a = counts_to h w i job s at e a
+judge_all h w i job s Done at e a = tt
 judge_all h w i job s (Ended status why) at e a = caused h w i job s status why e a (subst (λ (st : JobStage). StageInvariant i (make_for s i) (s.job i) (device_for s i) st) at (e.sound.talks i))
 
 met_then : CausesAreGrounded → (h : History) (w : WorldCore) (i : ℕ) (job : Job) (s : SystemState) (x : Action) → Here h i job s → IsUnderWay (s.job i).client.stage → own_of h i x → StepSo h w job s (By i x) → IsEnabled s (By i x) → AllByRecursion (Evid h w i job) (s.job i).session.met → AllByRecursion (Evid h w i job) ((after_transition s (By i x)).job i).session.met
@@ -307,7 +324,7 @@ more_ended h w i job old new status why grow (inr n) = inr n
 judged_over : (h : History) (w : WorldCore) (i : ℕ) (job : Job) (old new : List Cause) (pages : List (List Frame)) (stage : JobStage) → (IsUnderWay stage → ⊥) → ((c : Cause) → IsCauseAmong c old → IsCauseAmong c new) → Judged h w i job old pages stage → Judged h w i job new pages stage
 judged_over h w i job old new pages Idle off grow j = absurd (off tt)
 judged_over h w i job old new pages (Running g) off grow j = absurd (off tt)
-judged_over h w i job old new pages Done off grow j = j
+judged_over h w i job old new pages Done off grow j = tt
 judged_over h w i job old new pages (Ended status why) off grow j = more_ended h w i job old new status why grow j
 
 met_more : (c : Cause) (xs old : List Cause) → IsCauseAmong c old → IsCauseAmong c (xs ++ old)

@@ -1,6 +1,6 @@
 -- A job that runs and was connected is linked, and the loss of that link ends it.
-use Rattle.std.specs.Prelude.{slice_get, slice_set, option_map, length, ◌≤◌, ◌≢◌, Contains, is_some, IsSome, if◌then◌else◌, nat_lt, ◌&&◌, ◌<◌, ◌+◌}
-use Rattle.std.proofs.Common.{◌≡◌, ◌∙◌, ◌⊎◌, ℕ, zero, suc, List, [], ◌∷◌, ◌++◌, Bool, true, false, Option, Some, None, refl, sym, ap, subst, inl, inr, arith}
+use Rattle.std.specs.Prelude.{slice_get, slice_set, option_map, Contains, is_some, IsSome, if◌then◌else◌, nat_lt, ◌&&◌, ◌+◌}
+use Rattle.std.proofs.Common.{◌≡◌, ◌∙◌, ◌⊎◌, ℕ, zero, suc, List, [], ◌∷◌, Bool, true, false, Option, Some, None, refl, sym, ap, subst, inl, inr, arith}
 use Rattle.page_picture.specs.SourceView.{source_state}
 use Rattle.sane_fixed.specs.declared.status.Status.TheVariants.{IoError}
 use Rattle.client_replies.specs.ProtocolStates.{is_batch, is_running}
@@ -35,7 +35,7 @@ use Rattle.world_refines.specs.WorldPromises.{IsOutcome}
 use Rattle.world_contract.specs.Histories.{History, LedTo, and_then}
 use Rattle.world_contract.specs.Calls.{LossEnds, outcome_at}
 use Rattle.world_contract.proofs.Led.{first_runs, led_then, loads_front, runs_split}
-use Rattle.world_contract.proofs.Over.{ended_stays, lose_one, lost_runs, over_stays, running_in}
+use Rattle.world_contract.proofs.Over.{ended_stays, lose_one, over_stays}
 use Rattle.world_contract.proofs.Scanned.{kept_by}
 use Rattle.world_contract.proofs.moments.Entries.{past_end, set_get, set_here}
 use Rattle.world_contract.proofs.moments.Holder.{no_endpoints}

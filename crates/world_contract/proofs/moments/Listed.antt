@@ -1,16 +1,14 @@
 -- A list that is done tells the devices that were listed in front of the delivery of its request.
-use Rattle.std.specs.Prelude.{cond, eqb, length, map, slice_get, slice_index_or, ◌<◌, ◌≤◌}
+use Rattle.std.specs.Prelude.{eqb, length, map, slice_get, ◌<◌}
 use Rattle.std.specs.List.{AllByRecursion}
-use Rattle.std.proofs.Common.{◌≡◌, ◌∙◌, ◌⊎◌, ℕ, zero, suc, arith, List, [], ◌∷◌, ◌++◌, Bool, true, false, Option, Some, None, inl, inr, refl, sym, ap, subst, eqb-true}
+use Rattle.std.proofs.Common.{◌≡◌, ◌∙◌, ◌⊎◌, ℕ, List, [], ◌∷◌, Bool, true, false, Option, Some, None, inl, inr, refl, sym, ap, subst, eqb-true}
 use Rattle.std.proofs.lemmas.Option.{get_or_from_slice_get}
 use Rattle.sane_fixed.specs.declared.device_info.DeviceInfo.{DeviceInfo}
 use Rattle.dispatch.specs.Table.{listed_infos}
 use Rattle.saned_core.specs.declared.session_slot.SessionId.{SessionId}
 use Rattle.saned_core.specs.DaemonStates.{Core}
 use Rattle.scan_job.specs.declared.job.Job.{Job}
-use Rattle.scan_job.specs.declared.job.Task.{Task}
 use Rattle.scan_job.specs.declared.job.Task.TheVariants as tasks
-use Rattle.scan_job.specs.declared.outcome.Outcome.{Outcome}
 use Rattle.scan_job.specs.declared.outcome.Outcome.TheVariants.{Done}
 use Rattle.scan_job.specs.declared.report.Reports.{Reports}
 use Rattle.client_refines.specs.ClientRefinement.{task_of}
@@ -29,14 +27,12 @@ use Rattle.system_model.specs.SystemStates.{JobState, SystemState, listed_device
 use Rattle.system_model.specs.Transitions.{By, IsEnabled, IsHistory, IsUnderWay, Loads, Transition, Unplugs, after_transition, after_all}
 use Rattle.scan_world.specs.declared.endpoint.Endpoint.{Endpoint}
 use Rattle.scan_world.specs.Worlds.{WorldCore}
-use Rattle.daemon_refines.proofs.Moved.{own}
-use Rattle.daemon_refines.specs.ContextRefinement.{ContextRefines}
 use Rattle.daemon_refines.specs.Cores.{SessionRefines}
 use Rattle.saned_core.specs.Feeding.{core_context}
-use Rattle.world_refines.specs.GhostStates.{Ghost, job_state, place_of_info, abstract_job}
+use Rattle.world_refines.specs.GhostStates.{Ghost, place_of_info}
 use Rattle.world_refines.specs.FailedSources.{AllAlong}
-use Rattle.world_refines.specs.WorldPromises.{AreListed, IsOutcome, OutcomesAreRight}
-use Rattle.world_refines.specs.WorldRefinement.{AreListedBelow, IsServed, WorldRefines, info_at, numbers_from, session_by}
+use Rattle.world_refines.specs.WorldPromises.{AreListed, IsOutcome}
+use Rattle.world_refines.specs.WorldRefinement.{AreListedBelow, IsServed, WorldRefines, session_by}
 use Rattle.world_refines.proofs.job_events.Constant.{Fixed, all_fixed}
 use Rattle.world_refines.proofs.requests.Listing.{listed_told}
 use Rattle.world_refines.proofs.state.Infos.{stand_there}

@@ -1,8 +1,7 @@
 -- Each step of a history, with the moment of its event. An answer to a job that is under way is to the only request that was on its way:
 -- the world in front of the event stood for the very state in which it is answered.
 use Rattle.std.specs.Prelude.{length, slice_get, slice_index_or, ◌≤◌, ◌<◌}
-use Rattle.std.specs.List.{AllByRecursion}
-use Rattle.std.proofs.Common.{◌≡◌, ◌∙◌, ◌⊎◌, ℕ, arith, Bool, true, false, List, [], ◌∷◌, ◌++◌, Option, Some, None, inl, inr, refl, sym, ap, subst, append_assoc}
+use Rattle.std.proofs.Common.{◌≡◌, ◌∙◌, ◌⊎◌, ℕ, Bool, true, false, List, [], ◌∷◌, ◌++◌, Option, Some, None, inl, inr, refl, sym, ap, subst, append_assoc}
 use Rattle.std.proofs.lemmas.List.{append-nil}
 use Rattle.std.proofs.lemmas.Option.{slice_get_within}
 use Rattle.page_picture.specs.SourceView.{source_state}
@@ -30,7 +29,7 @@ use Rattle.scan_world.specs.declared.event.JobEvent.TheVariants as moves
 use Rattle.scan_world.specs.Worlds.{Runs, WorldCore}
 use Rattle.world_refines.specs.GhostEvents.{GhostCan, GhostHappens}
 use Rattle.world_refines.specs.GhostStates.{Ghost}
-use Rattle.world_refines.specs.FailedSources.{AllAlong, FailedIn, FailsInSome, FailsSo, HasFailed}
+use Rattle.world_refines.specs.FailedSources.{AllAlong, CutIn, FailedIn, FailsInSome, FailsSo, HasFailed, InEvent}
 use Rattle.world_refines.specs.MainTheorem.{AreFittingLoads, AreTrueLoads, EventsFollow, GhostComes, GhostComesAll}
 use Rattle.world_refines.specs.WorldRefinement.{WorldRefines}
 use Rattle.world_refines.proofs.frames.Seeing.{data_decides}
@@ -43,14 +42,16 @@ use Rattle.world_refines.proofs.requests.FedEvent.{delivery_decides}
 use Rattle.world_refines.proofs.requests.OneAnswer.{all_requests}
 use Rattle.world_refines.proofs.state.Failing.{along_each, along_then, fails_more}
 use Rattle.world_refines.proofs.state.Taking.{DecidesAt, nobody_can}
-use Rattle.world_contract.specs.Endings.{WasStarved}
+use Rattle.world_contract.specs.Calls.{HadUnsaidReply}
+use Rattle.world_contract.specs.Endings.{SendsFailure, WasStarved}
 use Rattle.world_contract.specs.Histories.{History, LedTo, Moment, history_up_to}
 use Rattle.world_contract.specs.Sessions.{CanAt, Happened, HasSent, SessionAt}
 use Rattle.world_contract.proofs.Led.{led_then}
-use Rattle.world_contract.proofs.Events.{answers_event, chokes_event, fault_event, image_event, loses_event, named_event, short_event}
+use Rattle.world_contract.proofs.Events.{answers_event, breaks_event, chokes_event, fault_event, image_event, loses_event, named_event, short_event}
 use Rattle.world_contract.proofs.Scanned.{infos_of}
 use Rattle.world_contract.proofs.Traced.{AreOf, StepOf, comes_of}
 use Rattle.world_contract.proofs.moments.Entries.{own_party, past_end}
+use Rattle.world_contract.proofs.moments.Sends.{AllSend, FaultSends, event_sends}
 use Rattle.world_contract.proofs.moments.Whole.{all_sent}
 
 -- ---- what an answer has
@@ -83,8 +84,8 @@ AnsweredSo h w other s (By i (Actions.Answers challenge fault)) = IsUnderWay (s.
 AnsweredSo h w other s x = Unit {0}
 
 -- a source that failed did so in its event
-abbrev FailedHere : (h : History) (w : WorldCore) → Job → (e : Event) → Moment h w e → ℕ → Type 0
-FailedHere h w other e at i = FailedIn at.before at.behind.daemon i (job_at h other i).device
+abbrev FailedHere : (h : History) (w : WorldCore) → Job → (e : Event) → Moment h w e → Bool → ℕ → Type 0
+FailedHere h w other e at b i = InEvent b at.before at.behind.daemon i (job_at h other i)
 
 not_empty : (xs : List Event) (e : Event) (ys : List Event) → [] ≡ xs ++ e ∷ ys → ⊥
 not_empty [] e ys is = let clash : [] ≡ e ∷ ys = is in cc
@@ -96,10 +97,10 @@ single_in Holds e event u v before behind [] [] split comes rest holds =
 single_in Holds e event u v before behind [] (b ∷ back) split comes rest holds = absurd (let clash : e ∷ [] ≡ event ∷ b ∷ back = split in cc)
 single_in Holds e event u v before behind (f ∷ front) back split comes rest holds = absurd (not_empty front event back (let both : e ∷ [] ≡ f ∷ (front ++ event ∷ back) = split in cc))
 
-failed_here : (h : History) (w : WorldCore) (other : Job) (e : Event) (m : Moment h w e) (t : Ghost) → IsFixed h other t → (i : ℕ) → HasFailed source_state (e ∷ []) t m.before m.behind i → FailedHere h w other e m i
-failed_here h w other e m t fixed i f =
-    subst (λ (j : Job). FailedIn m.before m.behind.daemon i j.device) (ap (λ (x : Fixed). x.3 i) fixed)
-    (single_in (λ (before : WorldCore) (behind : Core). FailedIn before behind i (t.jobs i).device) e f.event m.before m.behind f.before f.behind f.front f.back f.split f.comes f.rest f.holds)
+failed_here : (h : History) (w : WorldCore) (other : Job) (e : Event) (m : Moment h w e) (t : Ghost) → IsFixed h other t → (b : Bool) (i : ℕ) → HasFailed source_state (e ∷ []) t m.before m.behind b i → FailedHere h w other e m b i
+failed_here h w other e m t fixed b i f =
+    subst (λ (j : Job). InEvent b m.before m.behind.daemon i j) (ap (λ (x : Fixed). x.3 i) fixed)
+    (single_in (λ (before : WorldCore) (behind : Core). InEvent b before behind i (t.jobs i)) e f.event m.before m.behind f.before f.behind f.front f.back f.split f.comes f.rest f.holds)
 
 -- ---- one request at a time
 
@@ -209,7 +210,7 @@ there_if : (fault : Option FailureCounts) (before : WorldCore) (behind : Core) (
 there_if None before behind i name failed = tt
 there_if (Some f) before behind i name failed = failed f refl
 
-fails_there : (F : ℕ → Type 0) (s : SystemState) (i : ℕ) (challenge : Challenge) (fault : Option FailureCounts) → FailsSo F s (By i (Actions.Answers challenge fault)) → IsUnderWay (s.job i).client.stage → (f : FailureCounts) → fault ≡ Some f → F i
+fails_there : (F : Bool → ℕ → Type 0) (s : SystemState) (i : ℕ) (challenge : Challenge) (fault : Option FailureCounts) → FailsSo F s (By i (Actions.Answers challenge fault)) → IsUnderWay (s.job i).client.stage → (f : FailureCounts) → fault ≡ Some f → F true i
 fails_there F s i challenge None fails on f is = absurd (let clash : None ≡ Some f = is in cc)
 fails_there F s i challenge (Some g) fails on f is = fails on
 
@@ -265,23 +266,27 @@ HappenedSo h w other s (By i (Actions.Loses false)) = Happened h w i moves.LoseC
 HappenedSo h w other s (By i (Actions.LosesImage false)) = Happened h w i moves.LoseImage
 HappenedSo h w other s (By i (Actions.TurnsNamed status)) = Happened h w i moves.DataTurn
 HappenedSo h w other s (By i Actions.TurnsShort) = Happened h w i moves.DataTurn
-HappenedSo h w other s (By i (Actions.TurnsFault fault)) = (turn : Happened h w i moves.DataTurn) × FailedIn turn.0.before turn.0.behind.daemon i (job_at h other i).device
+HappenedSo h w other s (By i (Actions.TurnsFault fault)) = (turn : Happened h w i moves.DataTurn) × FailedIn turn.0.before turn.0.behind.daemon i (job_at h other i).device × SendsFailure turn.0.before turn.0.behind i
+HappenedSo h w other s (By i (Actions.Breaks false)) = IsUnderWay (s.job i).client.stage → HadUnsaidReply h w i (job_at h other i)
 HappenedSo h w other s (By i Actions.RunsOutOfMemory) = WasStarved h w i
 HappenedSo h w other s x = Unit {0}
 
-happened_step : (h : History) (w : WorldCore) (other : Job) (infos : List DeviceInfo) (e : Event) (here : HappenedAt h w e) (s : SystemState) (x : Transition) → StepOf infos e x → FailsSo (FailedHere h w other e here.0) s x → HappenedSo h w other s x
-happened_step h w other infos e here s (By i (Actions.Loses false)) of fails = loses_event (HappenedAt h w) infos i e here of
-happened_step h w other infos e here s (By i (Actions.LosesImage false)) of fails = image_event (HappenedAt h w) infos i e here of
-happened_step h w other infos e here s (By i (Actions.TurnsNamed status)) of fails = named_event (HappenedAt h w) infos i status e here of
-happened_step h w other infos e here s (By i Actions.TurnsShort) of fails = short_event (HappenedAt h w) infos i e here of
-happened_step h w other infos e here s (By i (Actions.TurnsFault fault)) of fails =
-    fault_event (λ (event : Event). (turn : HappenedAt h w event) × FailedIn turn.0.before turn.0.behind.daemon i (job_at h other i).device) infos i fault e (here, fails) of
-happened_step h w other infos e here s (By i Actions.RunsOutOfMemory) of fails = chokes_event (HappenedAt h w) infos i e here of
-happened_step h w other infos e here s x of fails = tt
+happened_step : (h : History) (w : WorldCore) (other : Job) (infos : List DeviceInfo) (e : Event) (here : HappenedAt h w e) (s : SystemState) (x : Transition) → StepOf infos e x → FailsSo (FailedHere h w other e here.0) s x → FaultSends here.0.before here.0.behind x → HappenedSo h w other s x
+happened_step h w other infos e here s (By i (Actions.Loses false)) of fails sends = loses_event (HappenedAt h w) infos i e here of
+happened_step h w other infos e here s (By i (Actions.LosesImage false)) of fails sends = image_event (HappenedAt h w) infos i e here of
+happened_step h w other infos e here s (By i (Actions.TurnsNamed status)) of fails sends = named_event (HappenedAt h w) infos i status e here of
+happened_step h w other infos e here s (By i Actions.TurnsShort) of fails sends = short_event (HappenedAt h w) infos i e here of
+happened_step h w other infos e here s (By i (Actions.TurnsFault fault)) of fails sends =
+    fault_event (λ (event : Event). (turn : HappenedAt h w event) × FailedIn turn.0.before turn.0.behind.daemon i (job_at h other i).device × SendsFailure turn.0.before turn.0.behind i) infos i fault e (here, fails, sends) of
+happened_step h w other infos e here s (By i (Actions.Breaks false)) of fails sends = λ on.
+    let r = breaks_event (λ (event : Event). (at : Moment h w event) × CutIn at.before i (job_at h other i)) infos i false e (here.0, fails on) of in
+    (r.0, r.1.0, r.1.1)
+happened_step h w other infos e here s (By i Actions.RunsOutOfMemory) of fails sends = chokes_event (HappenedAt h w) infos i e here of
+happened_step h w other infos e here s x of fails sends = tt
 
-happened_steps : (h : History) (w : WorldCore) (other : Job) (infos : List DeviceInfo) (e : Event) (here : HappenedAt h w e) (xs : List Transition) (s : SystemState) → AreOf infos e xs → AllAlong (FailsSo (FailedHere h w other e here.0)) s xs → AllAlong (HappenedSo h w other) s xs
-happened_steps h w other infos e here [] s of fails = tt
-happened_steps h w other infos e here (x ∷ xs) s of fails = (happened_step h w other infos e here s x of.0 fails.0, happened_steps h w other infos e here xs (after_transition s x) of.1 fails.1)
+happened_steps : (h : History) (w : WorldCore) (other : Job) (infos : List DeviceInfo) (e : Event) (here : HappenedAt h w e) (xs : List Transition) (s : SystemState) → AreOf infos e xs → AllAlong (FailsSo (FailedHere h w other e here.0)) s xs → AllSend here.0.before here.0.behind xs → AllAlong (HappenedSo h w other) s xs
+happened_steps h w other infos e here [] s of fails sends = tt
+happened_steps h w other infos e here (x ∷ xs) s of fails sends = (happened_step h w other infos e here s x of.0 fails.0 sends.0, happened_steps h w other infos e here xs (after_transition s x) of.1 fails.1 sends.1)
 
 -- what can happen by the model can happen
 can_there : (y : JobEvent) (Does : Ghost → ℕ → List Transition → Ghost → Type 0) → DecidesAt y Does → (t : Ghost) (w : WorldCore) (i : ℕ) (o : Option Endpoint) → slice_get w.endpoints i ≡ o → WorldRefines t w → GhostCan t i y → CanAt w i y
@@ -309,9 +314,9 @@ event_can (Cancel i) t w steps u h c = inl tt
 event_can (Load name source) t w steps u h c = inl tt
 event_can (Unplug name) t w steps u h c = inl tt
 
-event_happened : (h : History) (w : WorldCore) (other : Job) (e : Event) (m : Moment h w e) (t : Ghost) (steps : List Transition) → AreOf t.infos e steps → AllAlong (FailsSo (FailedHere h w other e m)) t.system steps → CanEvent m.before e ⊎ (steps ≡ []) → AllAlong (HappenedSo h w other) t.system steps
-event_happened h w other e m t steps of fails (inl can) = happened_steps h w other t.infos e (m, can) steps t.system of fails
-event_happened h w other e m t steps of fails (inr none) = subst (AllAlong (HappenedSo h w other) t.system) (sym none) tt
+event_happened : (h : History) (w : WorldCore) (other : Job) (e : Event) (m : Moment h w e) (t : Ghost) (steps : List Transition) → AreOf t.infos e steps → AllAlong (FailsSo (FailedHere h w other e m)) t.system steps → AllSend m.before m.behind steps → CanEvent m.before e ⊎ (steps ≡ []) → AllAlong (HappenedSo h w other) t.system steps
+event_happened h w other e m t steps of fails sends (inl can) = happened_steps h w other t.infos e (m, can) steps t.system of fails sends
+event_happened h w other e m t steps of fails sends (inr none) = subst (AllAlong (HappenedSo h w other) t.system) (sym none) tt
 
 -- ---- all events
 
@@ -363,5 +368,5 @@ come follow keeps h w other (e ∷ es) seen t u split led loads fits (v, leads, 
       rules_are = later.rules_are ∙ (ap (λ (s : SystemState). after_all s later.steps) r.rules_are ∙ sym (after_then t.system r.steps later.steps));
       stands = later.stands;
       answered = along_then (AnsweredSo h w other) t.system r.steps later.steps (event_answers keeps h w other e m t g stands fixed r.stands r.steps can r.rules_are of fails r.legal) (subst (λ (s : SystemState). AllAlong (AnsweredSo h w other) s later.steps) r.rules_are later.answered);
-      happened = along_then (HappenedSo h w other) t.system r.steps later.steps (event_happened h w other e m t r.steps of fails can) (subst (λ (s : SystemState). AllAlong (HappenedSo h w other) s later.steps) r.rules_are later.happened);
+      happened = along_then (HappenedSo h w other) t.system r.steps later.steps (event_happened h w other e m t r.steps of fails (event_sends e t g u v r.steps stands r.stands c) can) (subst (λ (s : SystemState). AllAlong (HappenedSo h w other) s later.steps) r.rules_are later.happened);
     }

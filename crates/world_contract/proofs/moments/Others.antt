@@ -1,12 +1,12 @@
 -- What comes to others leaves a session as it stands.
-use Rattle.std.specs.Prelude.{Contains, if◌then◌else◌, ◌==◌, ◌&&◌, ◌<◌, ◌≤◌, length, slice_get, slice_set}
+use Rattle.std.specs.Prelude.{Contains, if◌then◌else◌, ◌==◌, ◌<◌, slice_get}
 use Rattle.std.specs.Option.{option_and_then}
 use Rattle.std.specs.List.{list_any}
 use Rattle.std.proofs.Common.{◌≡◌, ◌≢◌, ◌∙◌, ◌⊎◌, inl, inr, ℕ, zero, suc, List, [], ◌∷◌, Option, Some, None, Bool, true, false, refl, sym, ap, subst, arith}
 use Rattle.std.proofs.lemmas.Bool.Decides.{nat_tests}
 use Rattle.page_picture.specs.Source.{SourceState}
 use Rattle.page_picture.specs.SourceView.{source_state}
-use Rattle.device_api.specs.State.{DeviceState, is_at_rest, takes_page}
+use Rattle.device_api.specs.State.{DeviceState, is_at_rest}
 use Rattle.dispatch.specs.declared.table.place.Lease.{Lease}
 use Rattle.dispatch.specs.Table.{after_unplug, loaded_device, table_after_load}
 use Rattle.saned_requests.specs.declared.session.Session.{Session}
@@ -32,12 +32,12 @@ use Rattle.world_refines.specs.MainTheorem.{AllIsKept, AreTrueLoads}
 use Rattle.world_refines.specs.WorldRefinement.{WorldRefines}
 use Rattle.world_contract.specs.Histories.{History, LedTo, and_then}
 use Rattle.world_contract.proofs.Scanned.{kept_by}
-use Rattle.world_contract.specs.Calls.{AreOthers, ScansStay, SessionsStay}
+use Rattle.world_contract.specs.Calls.{ScansStay, SessionsStay}
 use Rattle.world_contract.specs.Sessions.{Has, SessionAt}
 use Rattle.world_contract.proofs.Led.{led_then}
 use Rattle.world_contract.proofs.moments.Entries.{past_end, unsome}
 use Rattle.world_contract.proofs.moments.Holder.{no_endpoints}
-use Rattle.world_contract.proofs.moments.Linked.{Goes, goes}
+use Rattle.world_contract.proofs.moments.Linked.{goes}
 
 abbrev Slot : Type 0
 Slot = SessionSlot DeviceState

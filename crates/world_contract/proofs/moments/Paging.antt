@@ -1,12 +1,11 @@
 -- Within a scan the page stays.
-use Rattle.std.specs.Prelude.{slice_get, slice_set, option_map, length, ◌≤◌, ◌≢◌, Contains, is_some, IsSome, if◌then◌else◌, nat_lt, ◌&&◌, ◌<◌, ◌+◌, ◌==◌}
-use Rattle.std.proofs.Common.{◌≡◌, ◌∙◌, ◌⊎◌, ℕ, zero, suc, List, [], ◌∷◌, ◌++◌, Bool, true, false, Option, Some, None, refl, sym, ap, subst, inl, inr, arith, ◌≢◌}
+use Rattle.std.specs.Prelude.{slice_get, slice_set, option_map, if◌then◌else◌, nat_lt, ◌&&◌, ◌+◌}
+use Rattle.std.proofs.Common.{◌≡◌, ◌∙◌, ◌⊎◌, ℕ, zero, suc, List, [], ◌∷◌, ◌++◌, Bool, true, false, Option, Some, None, refl, sym, ap, subst, inl, inr}
 use Rattle.page_picture.specs.SourceView.{source_state}
 use Rattle.client_replies.specs.ProtocolStates.{is_batch, is_running}
-use Rattle.saned_core.specs.declared.session_slot.Fed.{Fed}
 use Rattle.saned_core.specs.declared.session_slot.DataStep.{DataStep}
 use Rattle.saned_core.specs.declared.session_slot.SessionId.{SessionId}
-use Rattle.saned_core.specs.DaemonStates.{Core, is_closed, after_connected, after_lost, after_taken, after_reply_bytes, is_slot_number, new_session_slot, no_more, on_session, on_session_slot, session_in, session_of, session_slot_of, slot_if_open, with_session, with_session_slot, lost_from}
+use Rattle.saned_core.specs.DaemonStates.{Core, after_connected, after_lost, after_taken, after_reply_bytes, on_session, on_session_slot, session_in, session_of, session_slot_of, slot_if_open, with_session, lost_from}
 use Rattle.scan_job.specs.declared.job.Job.{Job}
 use Rattle.scan_world.specs.declared.endpoint.Endpoint.{Endpoint}
 use Rattle.scan_world.specs.declared.event.Event.{Event}
@@ -14,29 +13,23 @@ use Rattle.world_contract.specs.Histories.{history_up_to}
 use Rattle.scan_world.specs.declared.event.JobEvent.{JobEvent}
 use Rattle.scan_world.specs.declared.event.JobEvent.TheVariants.{Connect, ToDaemon, ToClient, DataConnect, DataTurn, DataToClient, LoseControl, LoseImage, Cancel}
 use Rattle.scan_world.specs.Endpoints.{after_move, laid_by}
-use Rattle.scan_world.specs.JobEvents.{Can, Connects, Does, Happens, HeedsPiece, IfLinked, SendsRecord, SendsStep, TakesDataPiece, after_fed, is_done, with_last_page, image_lost, job_event_of}
+use Rattle.scan_world.specs.JobEvents.{Can, Does, Happens, HeedsPiece, IfLinked, SendsRecord, SendsStep, TakesDataPiece, is_done, with_last_page, image_lost}
 use Rattle.scan_world.specs.Worlds.{AtEndpoint, Leads, Runs, WorldCore}
 use Rattle.scan_world.proofs.Deciding.{can_or_not}
 use Rattle.world_refines.specs.MainTheorem.{AllIsKept}
 use Rattle.world_contract.specs.Histories.{History, LedTo}
 use Rattle.world_contract.proofs.Scanned.{kept_by}
-use Rattle.world_contract.specs.Sessions.{Has, SessionAt}
+use Rattle.world_contract.specs.Sessions.{Has}
 use Rattle.world_contract.proofs.moments.Entries.{set_here, unsome}
 use Rattle.world_contract.proofs.moments.Holder.{no_endpoints}
-use Rattle.std.specs.Option.{option_and_then}
-use Rattle.std.specs.List.{list_any}
-use Rattle.page_picture.specs.Source.{SourceState}
 use Rattle.device_api.specs.State.{DeviceState, Phase, after_cancel, cancelled_in, is_at_rest, page_of}
 use Rattle.dispatch.specs.declared.table.place.Lease.{Lease}
-use Rattle.dispatch.specs.Table.{after_unplug, loaded_device, table_after_load}
 use Rattle.saned_requests.specs.declared.session.Session.{Session}
 use Rattle.saned_requests.specs.Holding.{held_by, on_word, with_device, cancelled_lease}
 use Rattle.saned_core.specs.declared.session_slot.SessionSlot.{SessionSlot}
-use Rattle.saned_core.specs.Loading.{core_after_load, held_with, holds, is_lease_named, lease_with, on_first, slot_with_page}
-use Rattle.saned_core.specs.Turns.{StreamsFrom, StreamsIn, StreamsOn, TurnsSessions, TurnsSlots}
+use Rattle.saned_core.specs.Turns.{StreamsFrom, StreamsIn, TurnsSessions}
 use Rattle.world_refines.specs.WorldRefinement.{WorldRefines}
-use Rattle.world_contract.proofs.moments.Linked.{Goes, goes}
-use Rattle.world_contract.proofs.moments.Others.{by_link, decide, stays_at, still_has}
+use Rattle.world_contract.proofs.moments.Others.{decide, stays_at, still_has}
 use Rattle.world_contract.proofs.moments.Stands.{one_lease}
 use Rattle.world_contract.proofs.moments.Reading.{reads_stay}
 use Rattle.saned_requests.specs.declared.session.DataPhase.{DataPhase}

@@ -1,6 +1,6 @@
 -- Which request each cause is met at: a device is asked for by OPEN or AUTHORIZE, a page by START, and a list by GET_DEVICES.
 use Rattle.std.specs.List.{AllByRecursion}
-use Rattle.std.proofs.Common.{◌≡◌, ◌∙◌, ℕ, List, [], ◌∷◌, Bool, true, false, Option, Some, None, refl, sym, ap, eqb}
+use Rattle.std.proofs.Common.{◌≡◌, ℕ, List, [], ◌∷◌, Bool, true, false, Option, Some, None, refl, eqb}
 use Rattle.page_picture.specs.Shows.{Frame}
 use Rattle.device_api.specs.Kinds.{Page}
 use Rattle.system_model.specs.AbstractMessages.{Challenge, AbstractRequest, Init, GetDevices, Open, Authorize, Describe, Get, Set, Parameters, Start, Cancel, Close, Exit, same_text}

@@ -1,6 +1,6 @@
 -- What a session holds by the model it holds in the world, and the other way round.
-use Rattle.std.specs.Prelude.{slice_get, length, ◌≤◌, ◌≢◌}
-use Rattle.std.proofs.Common.{◌≡◌, ◌∙◌, ◌⊎◌, ℕ, zero, suc, List, [], ◌∷◌, Bool, true, false, Option, Some, None, refl, sym, ap, subst, inl, inr, arith}
+use Rattle.std.specs.Prelude.{slice_get}
+use Rattle.std.proofs.Common.{◌≡◌, ◌∙◌, ◌⊎◌, ℕ, List, [], Bool, true, false, Option, Some, None, refl, sym, ap, subst, inl, inr}
 use Rattle.sane_fixed.specs.declared.device_info.DeviceInfo.{DeviceInfo}
 use Rattle.device_api.specs.State.{DeviceState}
 use Rattle.dispatch.specs.declared.table.place.Lease.{Lease}
@@ -17,15 +17,17 @@ use Rattle.system_model.specs.AbstractMessages.{Challenge}
 use Rattle.system_model.specs.Devices.{Make}
 use Rattle.system_model.specs.AbstractDevices.{AbstractDevice}
 use Rattle.system_model.specs.AbstractSessions.{AbstractSession}
-use Rattle.daemon_refines.specs.ContextRefinement.{HoldsPlace, IsAway, LeaseRefines, PlaceRefines, SlotRefines, TableRefines, abstract_device}
+use Rattle.system_model.specs.SystemStates.{JobState}
+use Rattle.daemon_refines.specs.ContextRefinement.{HoldsPlace, IsAway, IsMade, LeaseRefines, PlaceRefines, SlotRefines, TableRefines, abstract_device}
 use Rattle.daemon_refines.specs.Cores.{SessionRefines}
 use Rattle.daemon_refines.proofs.OtherSessions.{IsThere}
 use Rattle.scan_world.specs.declared.endpoint.Endpoint.{Endpoint}
 use Rattle.scan_world.specs.Worlds.{WorldCore}
 use Rattle.world_refines.specs.GhostStates.{Ghost, name_at, place_named}
 use Rattle.world_refines.specs.Speaks.{Awaits, Speaks}
-use Rattle.world_refines.specs.WorldRefinement.{IsServed, WorldRefines, info_at, session_by, slot_of_link}
-use Rattle.world_refines.proofs.state.Finding.{FoundPlace, found_place, names_at}
+use Rattle.world_refines.specs.WorldRefinement.{IsServed, WorldRefines, session_by, slot_of_link}
+use Rattle.world_refines.proofs.state.CoreCallsKeep.{holds_wanted}
+use Rattle.world_refines.proofs.state.Finding.{found_place, names_at}
 use Rattle.world_refines.proofs.state.Infos.{place_is}
 use Rattle.world_refines.proofs.state.Taking.{served_table}
 use Rattle.scan_laws.specs.Passes.{IsInScan}
@@ -114,10 +116,23 @@ served_lease i make core (Some other) true device s h id linked session stands w
     let same : r.session ≡ session = (let both : Some r.session ≡ Some session = sym r.stands ∙ stands in cc) in
     r.shows.devices.leases word lease (subst (λ (x : Session DeviceState). held_by x.held word ≡ Some lease) (sym same) held)
 
+-- it is the device that the job wants
+served_wants : (i : ℕ) (make : ℕ → Make) (core : Core) (link : Option SessionId) (served : Bool) (device : ℕ → AbstractDevice) (p : JobState) → IsServed i make core link served device (session_by i device p) → (id : SessionId) → link ≡ Some id → (session : Session DeviceState) → session_of core id.number ≡ Some session → (word : ℕ) (lease : Lease DeviceState) → held_by session.held word ≡ Some lease → lease.place ≡ p.session.job.wants
+served_wants i make core link false device p h id linked session stands word lease held =
+    absurd (let clash : None ≡ Some session = sym (subst (λ (l : Option SessionId). session_in (slot_of_link core l) ≡ None) linked h.0) ∙ stands in cc)
+served_wants i make core None true device p h id linked session stands word lease held = absurd h
+served_wants i make core (Some other) true device p h id linked session stands word lease held =
+    let one : other ≡ id = (let both : Some other ≡ Some id = linked in cc) in
+    let r : SessionRefines i make core id.number device (session_by i device p) = subst (λ (x : SessionId). SessionRefines i make core x.number device (session_by i device p)) one h in
+    let same : r.session ≡ session = (let both : Some r.session ≡ Some session = sym r.stands ∙ stands in cc) in
+    holds_wanted i make core id.number device p lease.place r (record { word = word; lease = lease; stands = subst (λ (x : Session DeviceState). held_by x.held word ≡ Some lease) (sym same) held; place = refl })
+
 pub record Holds (t : Ghost) (i : ℕ) (name : List ℕ) (d : DeviceState) : Type 0 where
   pub place : ℕ
   pub is : t.system.device place ≡ abstract_device (Some i) d
   pub named : name_at t.infos place ≡ Some name
+  pub made : IsMade (t.system.make place) d
+  pub wanted : place ≡ (t.system.job i).session.job.wants
 
 pub has_holds : (t : Ghost) (w : WorldCore) (i : ℕ) (name : List ℕ) (d : DeviceState) → WorldRefines t w → Has w i name d → Holds t i name d
 has_holds t w i name d h x =
@@ -127,6 +142,8 @@ has_holds t w i name d h x =
       place = x.lease.place;
       is = l.device ∙ ap (abstract_device (Some i)) x.is;
       named = lease_name t w x.lease h l.own ∙ (ap (λ (s : DeviceState). Some s.info.name) x.is ∙ ap (λ (n : List ℕ). Some n) x.named);
+      made = subst (IsMade (t.system.make x.lease.place)) x.is l.made;
+      wanted = served_wants i t.system.make w.daemon a.endpoint.link (t.system.job i).served t.system.device (t.system.job i) (h.endpoints i a.endpoint a.is_there).served a.id a.linked x.session a.stands x.word x.lease x.held;
     }
 
 pub one_has : (t : Ghost) (w : WorldCore) (i j : ℕ) (name : List ℕ) (a b : DeviceState) → WorldRefines t w → Has w i name a → Has w j name b → i ≡ j
@@ -144,7 +161,7 @@ listed_slot j make held k dev name Gone r off = refl
 listed_slot j make held k dev name (In s) r off = absurd (let clash : true ≡ false = sym (ap (λ (x : AbstractDevice). x.listed) r.0) ∙ off in cc)
 listed_slot j make held k dev name Out r off = absurd (let clash : true ≡ false = sym r.0 ∙ off in cc)
 
-table_of : (t : Ghost) (w : WorldCore) (i : ℕ) (o : Option Endpoint) → slice_get w.endpoints i ≡ o → WorldRefines t w → (held : List (Option (Lease DeviceState))) × TableRefines i t.system.make held w.daemon.registry t.system.device
+pub table_of : (t : Ghost) (w : WorldCore) (i : ℕ) (o : Option Endpoint) → slice_get w.endpoints i ≡ o → WorldRefines t w → (held : List (Option (Lease DeviceState))) × TableRefines i t.system.make held w.daemon.registry t.system.device
 table_of t w i None at h = ([], (h.beyond i (past_end w.endpoints i at)).table)
 table_of t w i (Some p) at h = let s = served_table i t.system.make w.daemon p.link (t.system.job i).served t.system.device (session_by i t.system.device (t.system.job i)) (h.endpoints i p at).served in (s.held, s.shows)
 

@@ -1,17 +1,17 @@
 -- A first start that finds no page: its device is at rest and has none.
-use Rattle.std.proofs.Common.{◌≡◌, ◌∙◌, ◌⊎◌, ℕ, List, [], ◌∷◌, ◌++◌, Bool, true, false, Option, Some, None, inl, inr, refl, sym, ap, subst}
+use Rattle.std.proofs.Common.{◌≡◌, ◌∙◌, ℕ, List, [], ◌∷◌, ◌++◌, true, false, Option, Some, inl, inr, refl, sym, ap}
 use Rattle.page_picture.specs.Page.{PageView}
 use Rattle.device_api.specs.State.{DeviceState, HeldPage, Phase as AnyPhase, first_page, is_at_rest, page_of}
 use Rattle.device_api.specs.State.Phase.{AtRest as Rest, Between as Amid, Reading as Read}
 use Rattle.scan_laws.specs.Passes.{IsInScan}
-use Rattle.system_model.specs.AbstractMessages.{AbstractRequest, Init, GetDevices, Open, Authorize, Describe, Get, Set, Parameters, Start, Cancel, Close, Exit}
+use Rattle.system_model.specs.AbstractMessages.{AbstractRequest, Init, GetDevices, Open, Authorize, Describe, Get, Set, Parameters, Start}
 use Rattle.system_model.specs.AbstractDevices.{AbstractDevice, Begin, Between, Resting, is_resting}
 use Rattle.system_model.specs.Actions.{is_some_begun}
 use Rattle.system_model.specs.Client.{AbstractProgress, JobStage, Idle, Running, Done, Ended, Greeting, Listing, Opening, Allowing, Describing, Putting, Getting, Starting, Shaping, Imaging, ClientView, request_awaited}
 use Rattle.system_model.specs.Devices.{Make}
 use Rattle.system_model.specs.Invariants.{StageInvariant}
 use Rattle.system_model.specs.SystemStates.{JobState, SessionView}
-use Rattle.system_model.specs.Sync.{InSync, Pauses, Ready}
+use Rattle.system_model.specs.Sync.{InSync, Ready}
 use Rattle.system_model.specs.Transitions.{IsUnderWay}
 use Rattle.daemon_refines.specs.ContextRefinement.{abstract_device, page_views, pages_to_come}
 use Rattle.daemon_refines.proofs.Scanning.{rests}
@@ -64,6 +64,9 @@ resting i k p dev (Running g) rest on (inr (inl h)) e first = none_asked p.todo 
 resting i k p dev (Running g) rest on (inr (inr h)) e first = none_asked p.todo rest h.todo e
 resting i k p dev Done rest on h e first = absurd on
 resting i k p dev (Ended status why) rest on h e first = absurd on
+
+pub first_rests : (i : ℕ) (k : Make) (p : JobState) (dev : AbstractDevice) (stage : JobStage) → StageInvariant i k p dev stage → IsUnderWay stage → StartsEmpty p dev → dev.phase ≡ Resting
+first_rests i k p dev stage inv on c = (resting i k p dev stage c.0 on inv c.1 c.3).1
 
 pub empty_there : (i : ℕ) (k : Make) (p : JobState) (dev : AbstractDevice) (stage : JobStage) → StageInvariant i k p dev stage → IsUnderWay stage → StartsEmpty p dev → (dev.holder ≡ Some i) × ((d : DeviceState) → dev ≡ abstract_device (Some i) d → IsInScan d → d.pages ≡ [])
 empty_there i k p dev stage inv on c =

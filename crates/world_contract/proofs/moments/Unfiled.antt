@@ -1,6 +1,6 @@
 -- A job that does not scan keeps its empty file.
-use Rattle.std.specs.Prelude.{cond, if◌then◌else◌, ◌&&◌, ◌+◌, nat_lt, slice_get, slice_set}
-use Rattle.std.proofs.Common.{◌≡◌, ◌∙◌, ◌⊎◌, ℕ, zero, suc, List, [], ◌∷◌, Bool, true, false, Option, Some, None, inl, inr, refl, sym, ap, subst}
+use Rattle.std.specs.Prelude.{if◌then◌else◌, ◌&&◌, ◌+◌, nat_lt, slice_get, slice_set}
+use Rattle.std.proofs.Common.{◌≡◌, ◌∙◌, ℕ, zero, suc, List, [], ◌∷◌, Bool, true, false, Option, Some, None, inl, inr, refl, sym, ap, subst}
 use Rattle.page_picture.specs.SourceView.{source_state}
 use Rattle.client_replies.specs.ProtocolStates.{is_batch, is_running, scans}
 use Rattle.saned_core.specs.declared.session_slot.Fed.{Fed}
@@ -17,12 +17,12 @@ use Rattle.scan_world.specs.declared.event.Event.{Event}
 use Rattle.scan_world.specs.declared.event.Event.TheVariants as events
 use Rattle.scan_world.specs.declared.event.JobEvent.{JobEvent}
 use Rattle.scan_world.specs.declared.event.JobEvent.TheVariants.{Connect, ToDaemon, ToClient, DataConnect, DataTurn, DataToClient, LoseControl, LoseImage, Cancel}
-use Rattle.scan_world.specs.Endpoints.{after_move, image_out_of_memory, laid_by, shut_out, with_image_link, with_link, without_image_link, without_link}
-use Rattle.scan_world.specs.JobEvents.{Can, Connects, Does, Happens, HeedsPiece, IfLinked, SendsRecord, SendsStep, TakesDataPiece, after_fed, is_done, with_last_page, without_sent}
+use Rattle.scan_world.specs.Endpoints.{after_move, laid_by, shut_out, with_image_link, with_link, without_image_link, without_link}
+use Rattle.scan_world.specs.JobEvents.{Connects, Does, Happens, HeedsPiece, IfLinked, SendsRecord, SendsStep, TakesDataPiece, after_fed, is_done, with_last_page, without_sent}
 use Rattle.scan_world.specs.Worlds.{AreNew, AtEndpoint, Leads, Runs, WorldCore}
 use Rattle.scan_world.proofs.Deciding.{can_or_not}
 use Rattle.world_contract.specs.Histories.{History, LedTo}
-use Rattle.world_contract.proofs.moments.Linked.{Goes, goes}
+use Rattle.world_contract.proofs.moments.Linked.{goes}
 
 -- ---- at an endpoint
 

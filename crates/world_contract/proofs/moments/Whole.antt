@@ -1,5 +1,5 @@
 -- With the delivery that a request is answered in, its last byte came.
-use Rattle.std.specs.Prelude.{slice_get, ◌++◌}
+use Rattle.std.specs.Prelude.{◌++◌}
 use Rattle.std.proofs.Common.{◌≡◌, ◌∙◌, ℕ, List, [], Bool, true, false, Option, Some, None, refl, sym, ap, subst}
 use Rattle.device_api.specs.State.{DeviceState}
 use Rattle.saned_requests.specs.declared.session.Session.{Session}

@@ -1,6 +1,6 @@
 -- Events one after another.
 use Rattle.std.specs.Prelude.{◌<◌}
-use Rattle.std.proofs.Common.{◌≡◌, ◌≢◌, ◌⊎◌, inl, inr, ◌∙◌, ℕ, List, [], ◌∷◌, ◌++◌, Some, false, refl, sym, ap, subst, slice_get}
+use Rattle.std.proofs.Common.{◌≡◌, ◌≢◌, ◌⊎◌, inl, inr, ◌∙◌, ℕ, Bool, List, [], ◌∷◌, ◌++◌, Some, false, refl, sym, ap, subst, slice_get}
 use Rattle.sane_fixed.specs.declared.status.Status.{Status}
 use Rattle.sane_fixed.specs.declared.status.Status.TheVariants.{Good, Eof}
 use Rattle.page_picture.specs.Source.{SourceState}
@@ -29,7 +29,7 @@ use Rattle.world_refines.specs.GhostStates.{Ghost, Wires}
 use Rattle.world_refines.specs.WorldRefinement.{WorldRefines}
 use Rattle.world_refines.specs.Costs.{Pays}
 use Rattle.world_refines.specs.GhostEvents.{GhostCan, CanLoad, CanUnplug, GhostConnects, Dials, GivesUp, GhostHappens, LaysIn, GhostLeads, GhostLeadsTo, LosesControl, LosesImage, GhostSends, GhostTakes, TakesOut, GhostTurns}
-use Rattle.world_refines.specs.FailedSources.{AllAlong, FailedIn, FailsIn, FailsInSome, HasFailed, IsInSome}
+use Rattle.world_refines.specs.FailedSources.{AllAlong, FailsIn, FailsInSome, HasFailed, InEvent, IsInSome}
 use Rattle.world_refines.specs.Answering.{AnswersSome, BreaksOff, GoesOn, IsOver, WasOver}
 use Rattle.world_refines.specs.ClientDeliveries.{Delivers, GhostHears}
 use Rattle.world_refines.specs.DataDeliveries.{GhostSees}
@@ -145,7 +145,7 @@ by_leads source e i action Does c t w v h at l failures =
 -- in which no source fails
 quiet_happens : (May What : Type 0) (t : Ghost) (w v : WorldCore) (steps : List Transition) (u : Ghost) → (What → AreQuiet steps) → GhostHappens May What t steps u → AllAlong (FailsIn t w v.daemon) t.system steps
 quiet_happens May What t w v steps u quiet h =
-    along_happens (FailsIn t w v.daemon) May What t steps u (λ does. quiet_all (λ (j : ℕ). FailedIn w v.daemon j (t.jobs j).device) t.system steps (quiet does)) h
+    along_happens (FailsIn t w v.daemon) May What t steps u (λ does. quiet_all (λ (b : Bool) (j : ℕ). InEvent b w v.daemon j (t.jobs j)) t.system steps (quiet does)) h
 
 to_job : (source : Source → SourceState) (e : Event) (i : ℕ) (action : JobEvent) (Does : Ghost → ℕ → List Transition → Ghost → Type 0) → Comer source e i action Does → ((t : Ghost) (steps : List Transition) (u : Ghost) → Does t i steps u → AreQuiet steps) → (t : Ghost) (w v : WorldCore) → WorldRefines t w → AtEndpoint w i action v → Behind source e t w v
 to_job source e i action Does c quiet t w v h at =
@@ -230,9 +230,9 @@ all_failures : (source : Source → SourceState) (e : Event) (es : List Event) (
     AllAlong (FailsInSome source (e ∷ es) t w v) t.system (steps ++ more)
 all_failures source e es t u w mid v steps more jobs rules_are leads rest first later =
     let now = along_each (FailsIn t w mid.daemon) (FailsInSome source (e ∷ es) t w v)
-    (fails_more (λ i. FailedIn w mid.daemon i (t.jobs i).device) (HasFailed source (e ∷ es) t w v) (λ i f. in_first source e es w mid v (λ before behind. FailedIn before behind i (t.jobs i).device) leads rest f)) t.system steps first in
-    let then_on = along_each (FailsInSome source es u mid v) (FailsInSome source (e ∷ es) t w v) (fails_more (HasFailed source es u mid v) (HasFailed source (e ∷ es) t w v) (λ i f. in_later source e es w mid v (λ before behind. FailedIn before behind i (t.jobs i).device) leads
-    (subst (λ (js : ℕ → Job). IsInSome source es mid v (λ before behind. FailedIn before behind i (js i).device)) jobs f))) u.system more later in
+    (fails_more (λ b i. InEvent b w mid.daemon i (t.jobs i)) (HasFailed source (e ∷ es) t w v) (λ b i f. in_first source e es w mid v (λ before behind. InEvent b before behind i (t.jobs i)) leads rest f)) t.system steps first in
+    let then_on = along_each (FailsInSome source es u mid v) (FailsInSome source (e ∷ es) t w v) (fails_more (HasFailed source es u mid v) (HasFailed source (e ∷ es) t w v) (λ b i f. in_later source e es w mid v (λ before behind. InEvent b before behind i (t.jobs i)) leads
+    (subst (λ (js : ℕ → Job). IsInSome source es mid v (λ before behind. InEvent b before behind i (js i))) jobs f))) u.system more later in
     along_then (FailsInSome source (e ∷ es) t w v) t.system steps more now (subst (λ (s : SystemState). AllAlong (FailsInSome source (e ∷ es) t w v) s more) rules_are then_on)
 
 all_events : (source : Source → SourceState) (events : List Event) (t : Ghost) (w v : WorldCore) → WorldRefines t w → AreTrueLoads source events → AreFittingLoads source t.infos t.system.make events → Runs source events w v → AllBehind source events t w v

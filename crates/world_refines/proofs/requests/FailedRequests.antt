@@ -1,6 +1,6 @@
 -- A source that fails in the answer to the only request of a delivery.
 use Rattle.std.specs.Prelude.{length, map, option_map, position}
-use Rattle.std.proofs.Common.{◌≡◌, ◌∙◌, ℕ, List, [], ◌∷◌, ◌++◌, Option, Some, None, refl, sym, ap, subst, length-append, arith}
+use Rattle.std.proofs.Common.{◌≡◌, ◌∙◌, ℕ, Bool, true, List, [], ◌∷◌, ◌++◌, Option, Some, None, refl, sym, ap, subst, length-append, arith}
 use Rattle.md5_auth.specs.declared.users.Entry.{Entry}
 use Rattle.sane_fixed.specs.declared.device_info.DeviceInfo.{DeviceInfo}
 use Rattle.device_api.specs.State.{DeviceState}
@@ -58,19 +58,19 @@ FailsAlone Failed [] = Unit {0}
 FailsAlone Failed (chance ∷ []) = IfFailed chance.1 Failed
 FailsAlone Failed (chance ∷ other ∷ chances) = ⊥
 
-by_fault : (F : ℕ → Type 0) (i : ℕ) (s : SystemState) (challenge : Challenge) (fault : Option FailureCounts) → (IsUnderWay (s.job i).client.stage → IfFailed fault (F i)) → FailsSo F s (By i (Answers challenge fault))
+by_fault : (F : Bool → ℕ → Type 0) (i : ℕ) (s : SystemState) (challenge : Challenge) (fault : Option FailureCounts) → (IsUnderWay (s.job i).client.stage → IfFailed fault (F true i)) → FailsSo F s (By i (Answers challenge fault))
 by_fault F i s challenge None h = tt
 by_fault F i s challenge (Some fault) h = h
 
 -- of a job that is over nothing is asked
-never_fails : (F : ℕ → Type 0) (i : ℕ) (s : SystemState) (chances : List Chance) → (IsUnderWay (s.job i).client.stage → ⊥) → AllAlong (FailsSo F) s (answers i chances)
+never_fails : (F : Bool → ℕ → Type 0) (i : ℕ) (s : SystemState) (chances : List Chance) → (IsUnderWay (s.job i).client.stage → ⊥) → AllAlong (FailsSo F) s (answers i chances)
 never_fails F i s [] off = tt
 never_fails F i s (chance ∷ chances) off = (
   by_fault F i s chance.0 chance.1 (λ under. absurd (off under)),
   never_fails F i (after_transition s (By i (Answers chance.0 chance.1))) chances (λ under. off (subst (λ (m : ClientView). IsUnderWay m.stage) (stays i s (chance ∷ [])).own.client under)),
 )
 
-pub fails_alone : (F : ℕ → Type 0) (i : ℕ) (s : SystemState) (chances : List Chance) → (IsUnderWay (s.job i).client.stage → FailsAlone (F i) chances) → AllAlong (FailsSo F) s (answers i chances)
+pub fails_alone : (F : Bool → ℕ → Type 0) (i : ℕ) (s : SystemState) (chances : List Chance) → (IsUnderWay (s.job i).client.stage → FailsAlone (F true i) chances) → AllAlong (FailsSo F) s (answers i chances)
 fails_alone F i s [] h = tt
 fails_alone F i s (chance ∷ []) h = (by_fault F i s chance.0 chance.1 h, tt)
 fails_alone F i s (chance ∷ other ∷ chances) h = never_fails F i s (chance ∷ other ∷ chances) (λ under. h under)

@@ -8,7 +8,7 @@ use Rattle.saned_requests.specs.declared.session.Session.{Session as DeskSession
 use Rattle.md5_auth.specs.declared.users.Entry.{Entry}
 use Rattle.dispatch.specs.declared.table.place.Lease.{Lease}
 use Rattle.saned_requests.specs.Holding.{held_by}
-use Rattle.saned_requests.specs.RequestAnswers.{RequestContext}
+use Rattle.saned_requests.specs.RequestAnswers.{Answers as AnswersRequest, RequestContext}
 use Rattle.saned_core.specs.declared.session_slot.Fed.{Fed}
 use Rattle.saned_core.specs.declared.session_slot.Fed.TheVariants.{Standing, Over, Starved}
 use Rattle.saned_core.specs.declared.session_slot.SessionSlot.{SessionSlot}
@@ -38,7 +38,7 @@ use Rattle.system_model.specs.Daemon.{TransferState, FailureCounts}
 use Rattle.system_model.specs.AbstractDevices.{AbstractDevice}
 use Rattle.system_model.specs.Deliveries.{Chance, answers}
 use Rattle.system_model.specs.Invariants.{StageInvariant as SoundTalks}
-use Rattle.system_model.specs.SystemStates.{JobState, make_for, device_for}
+use Rattle.system_model.specs.SystemStates.{JobState, SystemState, make_for, device_for}
 use Rattle.system_model.specs.Transitions.{IsHistory, IsImaging, IsUnderWay, MayBreak, Transition, after_all}
 use Rattle.daemon_refines.specs.ContextRefinement.{ContextRefines, TableRefines}
 use Rattle.daemon_refines.specs.Failures.{FailedAt}
@@ -55,7 +55,7 @@ use Rattle.world_refines.specs.Wires.{FlightMatches, FlowsBy, SpellsAsked, Spell
 use Rattle.world_refines.specs.WorldRefinement.{HasNoEnd, IsFaithfulLease, IsFaithfulSessionSlot, IsFaithfulSession, IsServed, WorldRefines, slot_of_link, session_by, AreStartedViews}
 use Rattle.world_refines.specs.Speaks.{Speaks}
 use Rattle.world_refines.specs.GhostEvents.{GhostCan, GhostLeads}
-use Rattle.world_refines.specs.FailedSources.{AllAlong, FailedIn, FailsIn, HoldsLease}
+use Rattle.world_refines.specs.FailedSources.{AllAlong, AwaitsAnswer, CutIn, FailedIn, FailsIn, FailsSo, HoldsLease, InEvent}
 use Rattle.saned_requests.specs.LeaseLaws.{HoldsWell, IsIn}
 use Rattle.saned_requests.proofs.Returning.{all_return}
 use Rattle.world_refines.proofs.requests.Lent.{holds_well}
@@ -66,7 +66,9 @@ use Rattle.world_refines.proofs.requests.Closing.{Closed, broken, keeps_stayed}
 use Rattle.world_refines.proofs.requests.FedSlot.{HeldTrue, IsNotOn, leaves_fed, left_down, reseats_fed, seat_on, seat_over}
 use Rattle.world_refines.proofs.state.Faithful.{Seats, seat_all}
 use Rattle.world_refines.proofs.requests.Fed.{FedSo, fed_stands, fed_wires}
-use Rattle.world_refines.proofs.requests.RequestDeliveries.{IsCountedAlone, counted_alone, cut_piece, is_over, is_starved, same_count}
+use Rattle.world_refines.proofs.requests.Waiting.{waits_there}
+use Rattle.daemon_refines.proofs.Moved.{unsome}
+use Rattle.world_refines.proofs.requests.RequestDeliveries.{UnsaidAt, IsCountedAlone, counted_alone, cut_piece, is_over, is_starved, same_count}
 use Rattle.world_refines.proofs.requests.FailedRequests.{counted_fails, fails_alone, lease_named}
 use Rattle.world_refines.proofs.replies.Offered.{is_asking}
 use Rattle.world_refines.proofs.requests.Folding.{Desked, IsReadAs, OneRequest, due_none, run_all, spells_none}
@@ -213,18 +215,69 @@ failed_by t w i p id session e context fault r left f well = record {
 fails_here : (t : Ghost) (w : WorldCore) (i : ℕ) (p : Endpoint) (id : SessionId) (session : DeskSession DeviceState) (e : Core) (context : RequestContext) (chances : List Chance) (asked later : List AbstractRequest) → Ready t w i p id session → length chances ≡ length asked → (t.system.job i).todo ≡ asked ++ later →
     ((q : AbstractRequest) → (t.system.job i).todo ≡ q ∷ [] → IsCountedAlone (core_context w.daemon session) chances context) → IsLeft e id.number context → AllAlong (FailsIn t w e) t.system (answers i chances)
 fails_here t w i p id session e context chances asked later r count are counted left =
-    fails_alone (λ (j : ℕ). FailedIn w e j (t.jobs j).device) i t.system chances (λ under.
+    fails_alone (λ (b : Bool) (j : ℕ). InEvent b w e j (t.jobs j)) i t.system chances (λ under.
     let a = is_asking i t.system r.next r.others r.desked.sound under r.desked.served r.todo in
     let only : (t.system.job i).todo ≡ r.next ∷ [] = r.todo ∙ ap (λ (x : List AbstractRequest). r.next ∷ x) a.none in
     counted_fails (FailedIn w e i (t.jobs i).device) (core_context w.daemon session) context chances asked later r.next count (sym only ∙ are) (λ fault f well. failed_by t w i p id session e context fault r left f well) (counted r.next only))
 
+-- a reply that could not be said
+cut_there : (t : Ghost) (w : WorldCore) (i : ℕ) (p : Endpoint) (id : SessionId) (session : DeskSession DeviceState) → Ready t w i p id session → IsUnderWay (t.system.job i).client.stage → UnsaidAt t i (core_context w.daemon session) (t.system.job i).todo → CutIn w i (t.jobs i)
+cut_there t w i p id session r on u =
+    let waits = waits_there t w i u.next u.later r.stands on u.todo_is in
+    let one : waits.0 ≡ p = unsome waits.0 p (sym waits.1 ∙ r.at) in
+    record {
+      endpoint = p;
+      is_there = r.at;
+      id = id;
+      linked = r.link;
+      session = session;
+      stands = ap session_in r.seat_is ∙ r.going;
+      request = u.request;
+      known = (t.system.job i).client.known;
+      asked = u.next;
+      is = u.is;
+      waits = subst (λ (x : Endpoint). AwaitsAnswer u.next x.client.progress) one waits.2;
+      said = u.said;
+      then_is = u.then_is;
+      answers = subst (λ (users : List Entry). AnswersRequest users (core_context w.daemon session) u.request u.said u.then_is) r.stands.is_of.users u.answers;
+      front = u.front;
+      reply = u.reply;
+      behind = u.behind;
+      among = u.among;
+      unsaid = u.unsaid;
+    }
+
+broken_fails : (F : Bool → ℕ → Type 0) (i : ℕ) (memory : Bool) (s : SystemState) → (memory ≡ false → IsUnderWay (s.job i).client.stage → F false i) → FailsSo F s (broken i memory)
+broken_fails F i true s f = tt
+broken_fails F i false s f = f refl
+
 -- and of a session that is over behind it
 fails_off : (t : Ghost) (w : WorldCore) (i : ℕ) (p : Endpoint) (id : SessionId) (session : DeskSession DeviceState) (e : Core) (context : RequestContext) (chances : List Chance) (steps : List Transition) (memory : Bool) (asked later : List AbstractRequest) → Ready t w i p id session → length chances ≡ length asked → (t.system.job i).todo ≡ asked ++ later →
-    ((q : AbstractRequest) → (t.system.job i).todo ≡ q ∷ [] → IsCountedAlone (core_context w.daemon session) chances context) → e.registry ≡ daemon.table_let_go context → ((memory ≡ false) × (steps ≡ answers i chances)) ⊎ (IsCutShort memory t.users t.infos (t.jobs i) × (steps ≡ answers i chances ++ broken i memory ∷ [])) → AllAlong (FailsIn t w e) t.system steps
-fails_off t w i p id session e context chances steps memory asked later r count are counted back (inl is) =
-    subst (AllAlong (FailsIn t w e) t.system) (sym is.1) (fails_here t w i p id session e context chances asked later r count are counted (inr back))
-fails_off t w i p id session e context chances steps memory asked later r count are counted back (inr is) =
-    subst (AllAlong (FailsIn t w e) t.system) (sym is.1) (along_then (FailsIn t w e) t.system (answers i chances) (broken i memory ∷ []) (fails_here t w i p id session e context chances asked later r count are counted (inr back)) (tt, tt))
+    ((q : AbstractRequest) → (t.system.job i).todo ≡ q ∷ [] → IsCountedAlone (core_context w.daemon session) chances context) → e.registry ≡ daemon.table_let_go context → ((memory ≡ false) × (steps ≡ answers i chances)) ⊎ (IsCutShort memory t.users t.infos (t.jobs i) × (steps ≡ answers i chances ++ broken i memory ∷ [])) →
+    (memory ≡ false → (steps ≡ answers i chances) ⊎ (IsUnderWay (t.system.job i).client.stage → UnsaidAt t i (core_context w.daemon session) (t.system.job i).todo)) → AllAlong (FailsIn t w e) t.system steps
+fails_off t w i p id session e context chances steps memory asked later r count are counted back is cut = by_steps is
+  where
+    here : AllAlong (FailsIn t w e) t.system (answers i chances)
+    here = fails_here t w i p id session e context chances asked later r count are counted (inr back)
+
+    under_first : IsUnderWay ((after_all t.system (answers i chances)).job i).client.stage → IsUnderWay (t.system.job i).client.stage
+    under_first on = subst (λ (m : ClientView). IsUnderWay m.stage) (stays i t.system chances).own.client on
+
+    broke : (memory : Bool) → (memory ≡ false → IsUnderWay (t.system.job i).client.stage → UnsaidAt t i (core_context w.daemon session) (t.system.job i).todo) → AllAlong (FailsIn t w e) t.system (answers i chances ++ broken i memory ∷ [])
+    broke b f =
+        along_then (FailsIn t w e) t.system (answers i chances) (broken i b ∷ []) here
+        (broken_fails (λ (c : Bool) (j : ℕ). InEvent c w e j (t.jobs j)) i b (after_all t.system (answers i chances)) (λ no on. let first = under_first on in cut_there t w i p id session r first (f no first)), tt)
+
+    by_cut : (b : Bool) → steps ≡ answers i chances ++ broken i b ∷ [] → (b ≡ false → (steps ≡ answers i chances) ⊎ (IsUnderWay (t.system.job i).client.stage → UnsaidAt t i (core_context w.daemon session) (t.system.job i).todo)) → AllAlong (FailsIn t w e) t.system steps
+    by_cut true so c = subst (AllAlong (FailsIn t w e) t.system) (sym so) (broke true (λ no. absurd (let clash : true ≡ false = no in cc)))
+    by_cut false so c = elim (c refl) [
+      | inl plain ↦ subst (AllAlong (FailsIn t w e) t.system) (sym plain) here
+      | inr unsaid ↦ subst (AllAlong (FailsIn t w e) t.system) (sym so) (broke false (λ no. unsaid))
+    ]
+
+    by_steps : ((memory ≡ false) × (steps ≡ answers i chances)) ⊎ (IsCutShort memory t.users t.infos (t.jobs i) × (steps ≡ answers i chances ++ broken i memory ∷ [])) → AllAlong (FailsIn t w e) t.system steps
+    by_steps (inl so) = subst (AllAlong (FailsIn t w e) t.system) (sym so.1) here
+    by_steps (inr so) = by_cut memory so.1 cut
 
 -- ---- the session goes on
 
@@ -402,7 +455,7 @@ goes_off t w i n p id session e context rest text r can f g =
     let silent : IsUnderWay (t.system.job i).client.stage → x.telling ++ down ≡ [] =
     λ under. assoc_down x.telling x.down text (o.silent under (map (λ (y : JoinHistory). y.ended) (t.pages i)) (protocol_of p.client (t.history i)) r.reads (r.stands.endpoints i p r.at).waits (x.telling ++ x.down) (due_is t w i p id session r under)) in
     let completes : Completes t i n a.asked a.rest = record { text = a.text; whole = a.whole; spelled = a.spelled; later = a.later; first = a.are } in
-    let fails = fails_off t w i p id session e context a.chances a.steps false a.asked a.later r a.count a.are a.counted f.registry a.steps_are in
+    let fails = fails_off t w i p id session e context a.chances a.steps false a.asked a.later r a.count a.are a.counted f.registry a.steps_are a.cut in
     done (events.ToDaemon n) (Counting (AnswersSome n) w e) t i _ a.steps u can (by_steps t i n a.asked a.rest a.steps a.chances text completes a.count a.closed.legal r.desked.served a.closed.served a.steps_are, fails)
     (fed_stands t w i p q id e a.steps up [] down (bytes_not_delivered n p.client.out) r.stands r.at r.low r.link (off_so t w i n p q id session e Over context rest text down a.steps false r f endpoint a.closed refl silent))
   where
@@ -422,7 +475,7 @@ goes_without t w i n p id session e context rest text r can f g =
     let u = wired_then t i a.steps (fed_wires up [] [] x) in
     let silent : IsUnderWay (t.system.job i).client.stage → x.telling ++ [] ≡ [] = λ under. append-nil x.telling ∙ front_none x.telling x.down (nothing_waits t w i p id session r under) in
     let completes : Completes t i n a.asked a.rest = record { text = a.text; whole = a.whole; spelled = a.spelled; later = a.later; first = a.are } in
-    let fails = fails_off t w i p id session e context a.chances a.steps true a.asked a.later r a.count a.are a.counted f.registry a.steps_are in
+    let fails = fails_off t w i p id session e context a.chances a.steps true a.asked a.later r a.count a.are a.counted f.registry a.steps_are a.cut in
     done (events.ToDaemon n) (Counting (AnswersSome n) w e) t i _ a.steps u can (by_steps t i n a.asked a.rest a.steps a.chances completes a.count a.closed.legal a.steps_are, fails)
     (fed_stands t w i p q id e a.steps up [] [] (bytes_not_delivered n p.client.out) r.stands r.at r.low r.link (off_so t w i n p q id session e Starved context rest text [] a.steps true r f endpoint a.closed refl silent))
   where

@@ -45,6 +45,8 @@ use Rattle.world_refines.specs.WorldRefinement.{session_by}
 use Rattle.world_refines.proofs.requests.Folding.{AnswersOne, AreCounted, Desked, IsReadAs, OneRequest, Ran, answers_to, due_none, run_all, spells_none}
 use Rattle.world_refines.proofs.requests.AnswersKeep.{stays}
 use Rattle.world_refines.proofs.requests.Spelling.{spell_behind}
+use Rattle.world_refines.proofs.replies.Offered.{is_asking}
+use Rattle.system_model.specs.Invariants.{Invariant}
 use Rattle.world_refines.specs.Speaks.{WaitsQuietly}
 use Rattle.world_refines.specs.Answering.{HasAllowedOptions, HasUnsaidReply, IsCutShort}
 
@@ -130,6 +132,22 @@ none_counted d new todo first later next r (chance ∷ []) are only count =
     let both = length-append first (next ∷ later) in absurd (omega (arith, all, both, count))
 none_counted d new todo first later next r (chance ∷ other ∷ chances) are only count = tt
 
+-- the first of these requests has a reply that could not be said
+pub record UnsaidAt (t : Ghost) (i : ℕ) (d : RequestContext) (todo : List AbstractRequest) : Type 0 where
+  pub next : AbstractRequest
+  pub later : List AbstractRequest
+  pub todo_is : todo ≡ next ∷ later
+  pub request : Asked
+  pub is : IsRequest (target_of (t.jobs i)) 0 (t.system.job i).client.known request next
+  pub said : RequestAnswer
+  pub then_is : RequestContext
+  pub answers : Answers t.users d request said then_is
+  pub front : List Reply
+  pub reply : Reply
+  pub behind : List Reply
+  pub among : daemon.replies_to said ≡ front ++ reply ∷ behind
+  pub unsaid : daemon.IsUnsaid reply
+
 -- the requests that were answered, what is left behind them, and what became of the session
 pub record Parts (t : Ghost) (i : ℕ) (d : RequestContext) (todo : List AbstractRequest) (came : List ℕ) (memory : Bool) (new : RequestContext) : Type 0 where
   pub asked : List AbstractRequest
@@ -144,6 +162,7 @@ pub record Parts (t : Ghost) (i : ℕ) (d : RequestContext) (todo : List Abstrac
   pub steps : List Transition
   pub counted : (r : AbstractRequest) → todo ≡ r ∷ [] → IsCountedAlone d chances new
   pub steps_are : ((memory ≡ false) × (steps ≡ answers i chances)) ⊎ (IsCutShort memory t.users t.infos (t.jobs i) × (steps ≡ answers i chances ++ broken i memory ∷ []))
+  pub cut : memory ≡ false → (steps ≡ answers i chances) ⊎ (IsUnderWay (t.system.job i).client.stage → UnsaidAt t i d todo)
   pub closed : Closed t i t.system d steps memory new
 
 more_count : {X Y : Type 0} (xs : List X) (ys : List Y) (x : X) (y : Y) → length xs ≡ length ys → length (xs ++ x ∷ []) ≡ length (ys ++ y ∷ [])
@@ -203,12 +222,13 @@ by_request t i d mid new todo came q said one o g off =
       steps = answers i (r.chances ++ chance ∷ []);
       counted = λ only todo_is. counted_behind d mid new r.chances chance r.counted a.counted (same_well mid new (answers_end t.users mid q said new g off) (well_of t i far mid r.desked));
       steps_are = inl (refl, refl);
+      cut = λ e. inl refl;
       closed = subst (λ (xs : List Transition). Closed t i t.system d xs false new) (sym (answers_then i r.chances (chance ∷ []))) c;
     }
 
 -- behind it the session breaks off
-by_break : (t : Ghost) (i : ℕ) (d mid new : RequestContext) (todo : List AbstractRequest) (came : List ℕ) (q : Asked) (said : RequestAnswer) (memory : Bool) → OneRequest t i → MayBreak (t.system.job i).client.stage → (o : OneMore t i d mid todo came q) → Answers t.users mid q said new → daemon.session_goes_on said ≡ true → IsCutShort memory t.users t.infos (t.jobs i) → Parts t i d todo came memory new
-by_break t i d mid new todo came q said memory one may o g on cut =
+by_break : (t : Ghost) (i : ℕ) (d mid new : RequestContext) (todo : List AbstractRequest) (came : List ℕ) (q : Asked) (said : RequestAnswer) (memory : Bool) → OneRequest t i → MayBreak (t.system.job i).client.stage → (o : OneMore t i d mid todo came q) → Answers t.users mid q said new → daemon.session_goes_on said ≡ true → IsCutShort memory t.users t.infos (t.jobs i) → (memory ≡ false → IsUnderWay (t.system.job i).client.stage → UnsaidAt t i d todo) → Parts t i d todo came memory new
+by_break t i d mid new todo came q said memory one may o g on cut unsaid =
     let r = o.ran in
     let far = after_all t.system (answers i r.chances) in
     let known = known_far t i d mid o.qs (o.next ∷ o.later) o.told r in
@@ -231,6 +251,7 @@ by_break t i d mid new todo came q said memory one may o g on cut =
       steps = answers i (r.chances ++ chance ∷ []) ++ broken i memory ∷ [];
       counted = λ only todo_is. counted_behind d mid new r.chances chance r.counted a.counted (well_of t i (after_transition far (answers_to i a.challenge a.fault)) new (a.on on));
       steps_are = inr (cut, refl);
+      cut = λ e. inr (unsaid e);
       closed = subst (λ (xs : List Transition). Closed t i t.system d xs memory new) is c;
     }
 
@@ -347,17 +368,51 @@ cut_by t i d mid new todo came q said last o g on (ends.Cut before behind reply 
       unsaid = unsaid;
     }
 
-over_by : (t : Ghost) (i : ℕ) (d mid new : RequestContext) (todo : List AbstractRequest) (came : List ℕ) (q : Asked) (said : RequestAnswer) (last : List Reply) (b : Bool) → daemon.session_goes_on said ≡ b → OneRequest t i → MayBreak (t.system.job i).client.stage → OneMore t i d mid todo came q → Answers t.users mid q said new → daemon.EndsWith said last → Parts t i d todo came false new
-over_by t i d mid new todo came q said last true e one may o g ended = by_break t i d mid new todo came q said false one may o g e (cut_by t i d mid new todo came q said last o g e ended)
-over_by t i d mid new todo came q said last false e one may o g ended = by_request t i d mid new todo came q said one o g e
+-- of a job that is under way that is its only request, in front of which nothing was answered
+only_first : (t : Ghost) (i : ℕ) (first : List AbstractRequest) (next : AbstractRequest) (later : List AbstractRequest) → Invariant t.system → IsUnderWay (t.system.job i).client.stage → (t.system.job i).served ≡ true → (t.system.job i).todo ≡ (first ++ next ∷ []) ++ later → first ≡ []
+only_first t i [] next later sound on served e = refl
+only_first t i (x ∷ first) next later sound on served e = absurd (some_left first next later (is_asking i t.system x ((first ++ next ∷ []) ++ later) sound on served e).none)
+  where
+    some_left : (first : List AbstractRequest) (next : AbstractRequest) (later : List AbstractRequest) → (first ++ next ∷ []) ++ later ≡ [] → ⊥
+    some_left [] next later e = let clash : next ∷ later ≡ [] = e in cc
+    some_left (x ∷ first) next later e = let clash : x ∷ ((first ++ next ∷ []) ++ later) ≡ [] = e in cc
 
-closed_so : (t : Ghost) (i : ℕ) (d mid new : RequestContext) (came rest behind front back : List ℕ) (told last : List Reply) → OneRequest t i → MayBreak (t.system.job i).client.stage → SoFar t i d mid (t.system.job i).todo came rest behind told → daemon.SaysAll told front → daemon.SaysAll last back →
+none_ran : (d mid : RequestContext) (chances : List Chance) → length chances ≡ 0 → AreCounted d chances mid → mid ≡ d
+none_ran d mid [] none c = c
+none_ran d mid (chance ∷ chances) none c = absurd (omega (arith, none))
+
+unsaid_at : (t : Ghost) (i : ℕ) (d mid new : RequestContext) (came : List ℕ) (q : Asked) (said : RequestAnswer) (last : List Reply) → Desked t i t.system d → OneMore t i d mid (t.system.job i).todo came q → Answers t.users mid q said new → daemon.session_goes_on said ≡ true → daemon.EndsWith said last → IsUnderWay (t.system.job i).client.stage → UnsaidAt t i d (t.system.job i).todo
+unsaid_at t i d mid new came q said last h o g on (ends.Done off is) under = absurd (let clash : true ≡ false = sym on ∙ off in cc)
+unsaid_at t i d mid new came q said last h o g on (ends.Cut before behind reply at unsaid is) under =
+    let none = only_first t i o.first o.next o.later h.sound under h.served o.are in
+    let same : mid ≡ d = none_ran d mid o.ran.chances (o.count ∙ ap length none) o.ran.counted in
+    record {
+      next = o.next;
+      later = o.later;
+      todo_is = o.are ∙ ap (λ (xs : List AbstractRequest). (xs ++ o.next ∷ []) ++ o.later) none;
+      request = q;
+      is = o.is;
+      said = said;
+      then_is = new;
+      answers = subst (λ (x : RequestContext). Answers t.users x q said new) same g;
+      front = before;
+      reply = reply;
+      behind = behind;
+      among = at;
+      unsaid = unsaid;
+    }
+
+over_by : (t : Ghost) (i : ℕ) (d mid new : RequestContext) (todo : List AbstractRequest) (came : List ℕ) (q : Asked) (said : RequestAnswer) (last : List Reply) (b : Bool) → daemon.session_goes_on said ≡ b → OneRequest t i → MayBreak (t.system.job i).client.stage → OneMore t i d mid todo came q → Answers t.users mid q said new → daemon.EndsWith said last → (daemon.session_goes_on said ≡ true → IsUnderWay (t.system.job i).client.stage → UnsaidAt t i d todo) → Parts t i d todo came false new
+over_by t i d mid new todo came q said last true e one may o g ended unsaid = by_break t i d mid new todo came q said false one may o g e (cut_by t i d mid new todo came q said last o g e ended) (λ no. unsaid e)
+over_by t i d mid new todo came q said last false e one may o g ended unsaid = by_request t i d mid new todo came q said one o g e
+
+closed_so : (t : Ghost) (i : ℕ) (d mid new : RequestContext) (came rest behind front back : List ℕ) (told last : List Reply) → OneRequest t i → Desked t i t.system d → MayBreak (t.system.job i).client.stage → SoFar t i d mid (t.system.job i).todo came rest behind told → daemon.SaysAll told front → daemon.SaysAll last back →
     daemon.FeedEndsSession t.users mid rest last new → IsOverSo t i d new came (front ++ back)
-closed_so t i d mid new came rest behind front back told last one may f says_front says_back (Garbled nay none is) = absurd (not_garbled f.still.requests rest behind f.still.text nay)
-closed_so t i d mid new came rest behind front back told last one may f says_front says_back (Ended left_over q said k g ended) =
+closed_so t i d mid new came rest behind front back told last one h may f says_front says_back (Garbled nay none is) = absurd (not_garbled f.still.requests rest behind f.still.text nay)
+closed_so t i d mid new came rest behind front back told last one h may f says_front says_back (Ended left_over q said k g ended) =
     let o = one_more t i d mid (t.system.job i).todo came rest behind left_over told q f k in
     record {
-      parts = over_by t i d mid new (t.system.job i).todo came q said last (daemon.session_goes_on said) refl one may o g ended;
+      parts = over_by t i d mid new (t.system.job i).todo came q said last (daemon.session_goes_on said) refl one may o g ended (λ on. unsaid_at t i d mid new came q said last h o g on ended);
       silent = over_silent t i d mid new (t.system.job i).todo came front back q said last one o g ended says_front says_back;
     }
 
@@ -365,7 +420,7 @@ pub is_over : (t : Ghost) (i : ℕ) (d new : RequestContext) (asking up : List �
     daemon.FeedsOver (record { users = t.users; context = d; before = asking; piece = delivered_bytes n up }) new text → IsOverSo t i d new (asking ++ delivered_bytes n up) text
 is_over t i d new asking up n text one h may spells g =
     let f = so_far t i d g.mid asking up n g.rest g.front one h spells g.so_far in
-    subst (IsOverSo t i d new (asking ++ delivered_bytes n up)) (sym g.text_is) (closed_so t i d g.mid new (asking ++ delivered_bytes n up) g.rest (bytes_not_delivered n up) g.front g.back g.so_far.told g.last one may f g.so_far.says g.says g.closes)
+    subst (IsOverSo t i d new (asking ++ delivered_bytes n up)) (sym g.text_is) (closed_so t i d g.mid new (asking ++ delivered_bytes n up) g.rest (bytes_not_delivered n up) g.front g.back g.so_far.told g.last one h may f g.so_far.says g.says g.closes)
 
 -- ---- it runs out of memory
 
@@ -388,6 +443,7 @@ at_once t i d mid new todo came rest behind told may f counted back =
       steps = answers i r.chances ++ broken i true ∷ [];
       counted = counted;
       steps_are = inr (tt, refl);
+      cut = λ e. absurd (let clash : true ≡ false = e in cc);
       closed = closed_behind t i t.system d mid new r.chances (broken i true ∷ []) true r.legal r.others (breaks t i far mid new true r.desked still (λ nay. absurd (let clash : true ≡ false = nay in cc)) back);
     }
 
@@ -404,7 +460,7 @@ starved_by t i d mid new todo came rest behind left_over told q one may f k (inl
 starved_by t i d mid new todo came rest behind left_over told q one may f k (inr g) = by_end (daemon.session_goes_on g.0) refl
   where
     by_end : (b : Bool) → daemon.session_goes_on g.0 ≡ b → Parts t i d todo came true new
-    by_end true e = by_break t i d mid new todo came q g.0 true one may (one_more t i d mid todo came rest behind left_over told q f k) g.1 e tt
+    by_end true e = by_break t i d mid new todo came q g.0 true one may (one_more t i d mid todo came rest behind left_over told q f k) g.1 e tt (λ no. absurd (let clash : true ≡ false = no in cc))
     by_end false e =
         let far = after_all t.system (answers i f.ran.chances) in
         at_once t i d mid new todo came rest behind told may f (none_so_far t i d mid new todo came rest behind left_over told q f k) (back_same i far.make mid far.device (session_by i far.device (far.job i)) new f.ran.desked.shows (answers_end t.users mid q g.0 new g.1 e))

@@ -1,8 +1,8 @@
 -- Sources that fail in the steps of an event.
 use Rattle.std.specs.List.{AllByRecursion}
-use Rattle.std.proofs.Common.{◌⊎◌, inl, inr, ℕ, List, [], ◌∷◌, ◌++◌, Some, sym, subst}
+use Rattle.std.proofs.Common.{◌⊎◌, inl, inr, ℕ, Bool, true, false, List, [], ◌∷◌, ◌++◌, Some, sym, subst}
 use Rattle.saned_core.specs.DaemonStates.{Core}
-use Rattle.system_model.specs.Actions.{Answers, TurnsFault}
+use Rattle.system_model.specs.Actions.{Answers, Breaks, TurnsFault}
 use Rattle.system_model.specs.SystemStates.{SystemState}
 use Rattle.system_model.specs.Transitions.{By, Transition, after_all, after_transition}
 use Rattle.scan_world.specs.declared.event.JobEvent.{JobEvent as Event}
@@ -22,9 +22,10 @@ pub along_each : (P Q : SystemState → Transition → Type 0) → ((s : SystemS
 along_each P Q all s [] a = tt
 along_each P Q all s (x ∷ xs) a = (all s x a.0, along_each P Q all (after_transition s x) xs a.1)
 
-pub fails_more : (F G : ℕ → Type 0) → ((i : ℕ) → F i → G i) → (s : SystemState) (x : Transition) → FailsSo F s x → FailsSo G s x
-fails_more F G more s (By i (Answers challenge (Some fault))) h = λ under. more i (h under)
-fails_more F G more s (By i (TurnsFault fault)) h = more i h
+pub fails_more : (F G : Bool → ℕ → Type 0) → ((b : Bool) (i : ℕ) → F b i → G b i) → (s : SystemState) (x : Transition) → FailsSo F s x → FailsSo G s x
+fails_more F G more s (By i (Answers challenge (Some fault))) h = λ under. more true i (h under)
+fails_more F G more s (By i (TurnsFault fault)) h = more true i h
+fails_more F G more s (By i (Breaks false)) h = λ under. more false i (h under)
 fails_more F G more s x h = tt
 
 -- ---- in which none fails
@@ -32,14 +33,16 @@ fails_more F G more s x h = tt
 abbrev pub IsQuiet : Transition → Type 0
 IsQuiet (By i (Answers challenge fault)) = ⊥
 IsQuiet (By i (TurnsFault fault)) = ⊥
+IsQuiet (By i (Breaks memory)) = ⊥
 IsQuiet x = Unit {0}
 
-quiet_fails : (F : ℕ → Type 0) (s : SystemState) (x : Transition) → IsQuiet x → FailsSo F s x
+quiet_fails : (F : Bool → ℕ → Type 0) (s : SystemState) (x : Transition) → IsQuiet x → FailsSo F s x
 quiet_fails F s (By i (Answers challenge fault)) q = absurd q
 quiet_fails F s (By i (TurnsFault fault)) q = absurd q
+quiet_fails F s (By i (Breaks memory)) q = absurd q
 quiet_fails F s x q = tt
 
-pub quiet_all : (F : ℕ → Type 0) (s : SystemState) (xs : List Transition) → AllByRecursion IsQuiet xs → AllAlong (FailsSo F) s xs
+pub quiet_all : (F : Bool → ℕ → Type 0) (s : SystemState) (xs : List Transition) → AllByRecursion IsQuiet xs → AllAlong (FailsSo F) s xs
 quiet_all F s [] q = tt
 quiet_all F s (x ∷ xs) q = (quiet_fails F s x q.0, quiet_all F (after_transition s x) xs q.1)
 

@@ -2,7 +2,7 @@
 use Rattle.std.proofs.Common.{◌≡◌, ◌≢◌, ◌⊎◌, inl, inr, ◌∙◌, ℕ, List, [], ◌∷◌, ◌++◌, Option, Bool, true, false, cond, eqb, eqb-true, refl, sym, ap, subst}
 use Rattle.std.proofs.lemmas.Bool.{eqb-false}
 use Rattle.option_desc.specs.declared.descriptor.Descriptor.{Descriptor}
-use Rattle.system_model.specs.AbstractMessages.{Challenge, AbstractReply, AbstractRequest, Set}
+use Rattle.system_model.specs.AbstractMessages.{Challenge, AbstractReply, AbstractRequest, Set, Start}
 use Rattle.system_model.specs.Devices.{Make, descriptors_in_force}
 use Rattle.system_model.specs.Client.{AbstractJob, Idle, Running, Done, Ended, JobStage, Task, List_, Show, SetOnly, Scan, Batch, AbstractProgress, Greeting, Listing, Opening, Allowing, Describing, Putting, Getting, Starting, Shaping, Imaging, request_awaited, requests_sent, abstract_goodbye, abstract_farewell}
 use Rattle.system_model.specs.AbstractDevices.{AbstractDevice, put_down, is_held_by, without_first}
@@ -25,15 +25,17 @@ use Rattle.world_refines.specs.Speaks.{AsksAsHeld, SetsAsHeld, SetsNothing}
 nothing_held : (i : ℕ) (k : Make) (known : List Descriptor) (dev : AbstractDevice) (todo : List AbstractRequest) → SetsNothing todo → SetsAsHeld i k known dev todo
 nothing_held i k known dev [] h = tt
 nothing_held i k known dev (Set n value ∷ todo) h = absurd h
+nothing_held i k known dev (Start ∷ todo) h = absurd h
 nothing_held i k known dev (q ∷ todo) h = h
 
-behind : (i : ℕ) (k : Make) (known : List Descriptor) (dev : AbstractDevice) (q : AbstractRequest) (todo : List AbstractRequest) → SetsAsHeld i k known dev (q ∷ todo) → SetsNothing todo
+pub behind : (i : ℕ) (k : Make) (known : List Descriptor) (dev : AbstractDevice) (q : AbstractRequest) (todo : List AbstractRequest) → SetsAsHeld i k known dev (q ∷ todo) → SetsNothing todo
 behind i k known dev (Set n value) todo h = h.2
 behind i k known dev q todo h = h
 
 nothing_more : (todo more : List AbstractRequest) → SetsNothing todo → SetsNothing more → SetsNothing (todo ++ more)
 nothing_more [] more h m = m
 nothing_more (Set n value ∷ todo) more h m = absurd h
+nothing_more (Start ∷ todo) more h m = absurd h
 nothing_more (q ∷ todo) more h m = nothing_more todo more h m
 
 held_more : (i : ℕ) (k : Make) (known : List Descriptor) (dev : AbstractDevice) (todo more : List AbstractRequest) → SetsAsHeld i k known dev todo → SetsNothing more → SetsAsHeld i k known dev (todo ++ more)

@@ -1,0 +1,103 @@
+-- A JOB IN WHOSE WAY NOTHING STANDS, and what it comes to.
+use Rattle.std.specs.Prelude.{ℕ, ◌≡◌, ◌≢◌, ◌⊎◌, true, false, Some, None, List, [], ◌∷◌, Contains, slice_get}
+use Rattle.md5_auth.specs.declared.users.Entry.{Entry}
+use Rattle.md5_auth.specs.ChallengeReading.{challenge_of}
+use Rattle.page_picture.specs.Meaning.{meaning_of}
+use Rattle.page_picture.specs.Source.{SourceState}
+use Rattle.page_picture.specs.declared.scene.DeviceKind.TheVariants.{Flatbed}
+use Rattle.device_api.specs.State.{DeviceState, HeldPage, feeds}
+use Rattle.device_api.specs.Values.{defaults}
+use Rattle.virtual_scanner.specs.New.{new_scanner}
+use Rattle.sane_fixed.specs.declared.byte_order.ByteOrder.TheVariants.{Little}
+use Rattle.sane_fixed.specs.declared.status.Status.{Status}
+use Rattle.sane_fixed.specs.declared.status.Status.TheVariants as statuses
+use Rattle.scan_job.specs.declared.job.Job.{Job}
+use Rattle.scan_job.specs.declared.outcome.Outcome.{Outcome}
+use Rattle.scan_job.specs.declared.outcome.Outcome.TheVariants.{Done, Ended}
+use Rattle.scan_job.specs.declared.outcome.Why.{Why}
+use Rattle.scan_job.specs.declared.outcome.Why.TheVariants as whys
+use Rattle.scan_job.specs.declared.report.Reports.{Reports}
+use Rattle.scan_world.specs.declared.event.Event.{Event}
+use Rattle.scan_world.specs.declared.event.Event.TheVariants.{Cancel, LoseControl, LoseImage, Unplug}
+use Rattle.scan_world.specs.Worlds.{WorldCore}
+use Rattle.world_refines.specs.GhostStates.{backend_of, is_allowed_for, is_guarded}
+use Rattle.world_contract.specs.Calls.{HadUnsaidReply, RunsOut, outcome_at, starved_at}
+use Rattle.world_contract.specs.Endings.{IsUnforced}
+use Rattle.world_contract.specs.Histories.{History, LedTo, Moment, and_then, begun, history_up_to}
+use Rattle.world_contract.specs.Lies.{NamesNothing}
+use Rattle.world_contract.specs.Page.{CameFor, Settled}
+
+-- it does not give the job up, does not take a connection of it, and does not take its device out
+abbrev pub LeavesAlone : ℕ → Job → Event → Type 0
+LeavesAlone i job (Cancel j) = j ≢ i
+LeavesAlone i job (LoseControl j) = j ≢ i
+LeavesAlone i job (LoseImage j) = j ≢ i
+LeavesAlone i job (Unplug name) = name ≢ job.device
+LeavesAlone i job event = Unit {0}
+
+-- each challenge allows the job, where a line of these users names its backend
+abbrev pub IsAllowedAlways : List Entry → Job → Type 0
+IsAllowedAlways users job =
+    (sent : List ℕ) → is_guarded users (backend_of job.device) ≡ true
+    → is_allowed_for users job.user job.password (backend_of job.device) (challenge_of sent) ≡ true
+
+-- **clear (`IsClear`, `LeavesAlone`, `IsAllowedAlways`)**: nothing stands in the way of a job: its device is there, no
+-- feeder, and named by no other job; its settings can be in force, name no status, and mean a picture on each page that
+-- came for it, of sources that cannot fail; no line of the users names its backend, or its password is right
+-- for each challenge; and no event gave it up, took a connection of it, or took its device out.
+pub record IsClear (h : History) (i : ℕ) (job : Job) : Type 0 where
+  pub device : DeviceState
+  pub is_there : Contains h.devices device
+  pub named : device.info.name ≡ job.device
+  pub plain : feeds device ≡ false
+  pub alone : (j : ℕ) (other : Job) → slice_get h.jobs j ≡ Some other → other.device ≡ job.device → j ≡ i
+  pub forced : IsUnforced h job → ⊥
+  pub unnamed : NamesNothing h job
+  pub meant : (s : Settled h job) (held : HeldPage) → CameFor h job.device held
+      → meaning_of held.page s.setup.scene ≢ None
+  pub firm : (held : HeldPage) → CameFor h job.device held → held.infallible ≡ true
+  pub allowed : IsAllowedAlways h.users job
+  pub left : (event : Event) → Contains h.events event → LeavesAlone i job event
+
+-- **plain (`PlainIsClear`)**: of a new world, a job without settings is clear that is alone on a flatbed
+-- whose page means a picture at its defaults, where its source cannot fail and its password is right.
+abbrev pub PlainIsClear : Type 0
+PlainIsClear =
+    (name : List ℕ) (source : SourceState) (users : List Entry) (job : Job) → job.device ≡ name
+    → job.settings.items ≡ [] → source.infallible ≡ true
+    → meaning_of source.page (defaults Flatbed Little).scene ≢ None → IsAllowedAlways users job
+    → IsClear (begun (new_scanner Flatbed name source Little ∷ []) users (job ∷ [])) 0 job
+
+-- its next move was the loss of its control connection: in front of that it was told as out of memory, or in a delivery
+-- of its request its session had answered with a reply that cannot be said
+abbrev pub BrokeOff : History → WorldCore → ℕ → Job → Type 0
+BrokeOff h w i job =
+    (at : Moment h w (LoseControl i))
+    × ((starved_at at.before i ≡ true) ⊎ HadUnsaidReply (history_up_to h at.front) at.before i job)
+
+-- **comes to (`ComesTo`, `BrokeOff`, `ComesClear`, `ClearsUp`)**: a job that is done, or is told as out of memory, or
+-- whose next move was the loss of its connection, for want of memory or at a reply that cannot be said; that `run_all`
+-- brings each clear job there.
+abbrev pub ComesTo : History → WorldCore → ℕ → Job → Outcome → Type 0
+ComesTo h w i job outcome =
+    ((reports : Reports) × (outcome ≡ Done reports))
+    ⊎ (((starved_at w i ≡ true) ⊎ (outcome ≡ Ended statuses.NoMem whys.Memory)) ⊎ BrokeOff h w i job)
+
+-- `run_all`: a job that was clear in front of its moves
+pub record ComesClear (h : History) (old new : WorldCore) (i : ℕ) (job : Job) : Type 0 where
+  pub out : RunsOut h old new
+  pub outcome : Outcome
+  pub is : outcome_at new i ≡ Some outcome
+  pub comes : ComesTo (and_then h out.moves) new i job outcome
+
+abbrev pub ClearsUp : WorldCore → WorldCore → Type 0
+ClearsUp old new =
+    (h : History) → LedTo h old → (i : ℕ) (job : Job) → slice_get h.jobs i ≡ Some job → IsClear h i job
+    → ComesClear h old new i job
+
+-- **no lie (`StoppedIsNoLie`)**: no clear job ends that is not told as out of memory and whose session did not break
+-- off.
+abbrev pub StoppedIsNoLie : Type 0
+StoppedIsNoLie =
+    (h : History) (w : WorldCore) (i : ℕ) (job : Job) (status : Status) (why : Why) → starved_at w i ≡ false
+    → status ≢ statuses.NoMem → (BrokeOff h w i job → ⊥) → ComesTo h w i job (Ended status why) → ⊥
