@@ -1,4 +1,5 @@
 mod command_lines;
+mod dialling;
 mod failing;
 mod printed;
 

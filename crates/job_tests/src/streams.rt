@@ -13,6 +13,8 @@ struct PeerText {
     output: Vec<u8>,
     /// How many bytes it takes before it fails.
     most: usize,
+    /// How many bytes it says at once.
+    at_once: usize,
     calls: u64,
 }
 
@@ -28,7 +30,8 @@ impl Read for PeerText {
         if self.is_interrupted() {
             return Err(io::Error::from(ErrorKind::Interrupted));
         }
-        self.input.read(buf)
+        let n = buf.len().min(self.at_once);
+        self.input.read(&mut buf[..n])
     }
 }
 
@@ -53,12 +56,20 @@ impl Write for PeerText {
 #[derive(Drop)]
 struct Frames {
     frames: VecDeque<VecDeque<u8>>,
+    /// The ports that it was told to prepare, and those that it was asked for.
+    prepared: Vec<u16>,
+    asked: Vec<u16>,
 }
 
 impl Dial for Frames {
     type Conn = VecDeque<u8>;
 
-    fn dial(&mut self, _port: u16) -> Result<VecDeque<u8>, DialFault> {
+    fn prepare(&mut self, port: u16) {
+        let _ = self.prepared.push(port);
+    }
+
+    fn dial(&mut self, port: u16) -> Result<VecDeque<u8>, DialFault> {
+        let _ = self.asked.push(port);
         self.frames.pop_front().ok_or(DialFault)
     }
 }
@@ -157,6 +168,7 @@ fn peer(rt: &impl Abort, alloc: Global, parts: &[&[u8]], most: usize) -> PeerTex
         input: VecDeque::from(input),
         output: Vec::new(alloc),
         most,
+        at_once: usize::MAX,
         calls: 0,
     }
 }
@@ -172,7 +184,11 @@ fn streams(rt: &impl Abort, alloc: Global, data: &[&[u8]]) -> Frames {
         let pushed = frames.push_back(stream(rt, alloc, bytes));
         pushed.expect(rt, "memory");
     }
-    Frames { frames }
+    Frames {
+        frames,
+        prepared: Vec::new(alloc),
+        asked: Vec::new(alloc),
+    }
 }
 
 fn is_done(outcome: &Outcome) -> bool {
@@ -329,6 +345,28 @@ const PAGES: &[&[u8]] = &[
     b"P5\n# SANE data follows\n1 1\n255\n\x07",
     b"P5\n# SANE data follows\n1 1\n255\n\x09",
 ];
+
+/// The ports of the frames of a feeder of two pages.
+const PORTS: &[u16] = &[40001, 40001];
+
+/// Where each reply comes only after its request, a frame's port is told once before its connection is asked for; where no
+/// frame begins none is.
+#[test]
+fn ports_that_are_told(rt: HostRuntime) {
+    let alloc = rt.alloc();
+    let mut control = peer(&rt, alloc, FED, usize::MAX);
+    control.at_once = 1;
+    let mut dial = streams(&rt, alloc, FED_DATA);
+    let mut rack = outputs(alloc, usize::MAX, 0, 0);
+    let batch = job(&rt, alloc, Task::Batch(16));
+    let outcome = run_batch(alloc, batch, &mut control, &mut dial, &mut rack);
+    assert!(&rt; is_done(&outcome) && rack.files.len() == 2);
+    assert!(&rt; dial.prepared.as_slice() == PORTS && dial.asked.as_slice() == PORTS);
+    drop(outcome);
+    drop(rack);
+    drop(dial);
+    drop(control);
+}
 
 /// A batch whose first output takes so many bytes and then fails: no other is asked for.
 fn expect_no_page(rt: &impl Abort, alloc: Global, most: usize) {
