@@ -30,7 +30,7 @@ use Rattle.interleaving.specs.Interleavings.{bytes_heard, bytes_sent, connection
 use Rattle.interleaving.specs.Interleavings.JointAction.{OfJob}
 use Rattle.interleaving.specs.HandingOn.{HandsOn, HaveOneSession}
 use Rattle.programs_refine.specs.Programs.{JobsLead, OwnersAreJobs, RunOverConnections}
-use Rattle.programs_refine.specs.WorkedRuns.{LostAtOnceIsARun, StarvedIsARun, StarvedIsKept, loses, lost_client, new_core, owned_by_first, owned_by_none, starved_acts, writes}
+use Rattle.programs_refine.specs.WorkedRuns.{LostAtOnceIsARun, NewIsFit, StarvedIsARun, StarvedIsKept, loses, lost_client, new_core, owned_by_first, owned_by_none, starved_acts, writes}
 
 -- of one job
 pub one_job : (job other : Job) (i : ℕ) (P : ℕ → Job → Type 0) → slice_get (job ∷ []) i ≡ Some other → P 0 job → P i other
@@ -163,8 +163,10 @@ starved_at_once job c registry users strings stream port byte rest new count is 
 
 -- ---- the theorem, of that run
 
+pub new_is_fit : NewIsFit
+new_is_fit devices job users strings stream names limits fit = record { daemon = record { registry = refl; slots = refl; opened = refl }; names = names; limits = limits; fit = All-from_recursion (λ (j : Job). IsFitJob j) (job ∷ []) (fit, tt) }
+
 pub kept : ProgramsKeepAll → StarvedIsKept
 kept all devices job c users strings stream port byte rest names limits fit new is =
-    all devices (job ∷ []) owned_by_first (new_core (fresh_table devices) users strings stream) (starved_acts port c byte) _
-    (record { daemon = record { registry = refl; slots = refl; opened = refl }; names = names; limits = limits; fit = All-from_recursion (λ (j : Job). IsFitJob j) (job ∷ []) (fit, tt) })
+    all devices (job ∷ []) owned_by_first (new_core (fresh_table devices) users strings stream) (starved_acts port c byte) _ (new_is_fit devices job users strings stream names limits fit)
     (starved_at_once job c (fresh_table devices) users strings stream port byte rest new fit.1 is)

@@ -24,7 +24,7 @@ use Rattle.saned_serve.specs.Journal.LoopAction.{Of}
 use Rattle.interleaving.specs.Interleavings.JointAction.{OfJob, OfServer}
 use Rattle.interleaving.specs.HandingOn.{Owner}
 use Rattle.scan_world.specs.Worlds.{IsFitJob}
-use Rattle.programs_refine.specs.Keeping.{AllLoopsAreKept}
+use Rattle.programs_refine.specs.Keeping.{AllLoopsAreKept, AreFit}
 use Rattle.programs_refine.specs.Programs.{Acts, RunOverConnections}
 
 -- ---- what they begin with
@@ -61,7 +61,7 @@ writes bytes = record { move = Writes bytes; gives = []; turned = false }
 abbrev pub lost_client : ClientState → ClientState
 lost_client c = after_client_end statuses.IoError whys.Lost c
 
--- **small runs (`LostAtOnceIsARun`, `StarvedIsARun`, `starved_acts`, `StarvedIsKept`)**: of any one job that its loop takes,
+-- **small runs (`LostAtOnceIsARun`, `StarvedIsARun`, `starved_acts`, `NewIsFit`, `StarvedIsKept`)**: of any one job that its loop takes,
 -- beside any new daemon: its connection is lost before it wrote anything; or it writes its first request, the daemon opens
 -- its session, is fed the first byte and runs out of memory, and the job finds its connection lost. Both are runs over
 -- connections; and of the second, where a world takes devices and job, the loop is kept.
@@ -83,6 +83,11 @@ StarvedIsARun =
     (port byte : ℕ) (rest : List ℕ) → IsNewClient job c → HasCount job.task → c.out ≡ byte ∷ rest
     → RunOverConnections (job ∷ []) owned_by_first (new_core registry users strings stream) (starved_acts port c byte)
     (λ i. lost_client (record c { out = [] }))
+
+abbrev pub NewIsFit : Type 0
+NewIsFit =
+    (devices : List DeviceState) (job : Job) (users : List Entry) (strings : StringSize) (stream : ChaCha) → HaveOwnNames devices
+    → All HasLimits devices → IsFitJob job → AreFit devices (job ∷ []) (new_core (fresh_table devices) users strings stream)
 
 abbrev pub StarvedIsKept : Type 0
 StarvedIsKept =

@@ -1,6 +1,6 @@
 //! That runs meet the premises of the laws: one premise more that nothing meets is refused here.
 
-ghost use Rattle.programs_refine.specs.WorkedRuns.{LostAtOnceIsARun, StarvedIsARun, StarvedIsKept};
+ghost use Rattle.programs_refine.specs.WorkedRuns.{LostAtOnceIsARun, NewIsFit, StarvedIsARun, StarvedIsKept};
 
 use crate::programs_keep_all;
 
@@ -10,6 +10,8 @@ pub fn there_are_runs()
     /// that writes its first request to a daemon which opens its session, is fed a byte and runs out of memory.
     ensures lost { LostAtOnceIsARun }
     ensures starved { StarvedIsARun }
+    /// Such a daemon over any devices of which a world is made, and such a job, are fit.
+    ensures fit { NewIsFit }
 {}
 
 #[tactic(none)]
