@@ -7,7 +7,7 @@ use Rattle.netpbm.specs.Pnm.{IsWhole}
 use Rattle.scan_job.specs.declared.job.Job.{Job}
 use Rattle.net_client.specs.ClientStates.{ClientState}
 use Rattle.net_jobs.specs.JobJournal.{JobMove}
-use Rattle.net_jobs.specs.JobJournal.JobMove.{Writes, Fails, Hears, Resumes, Dials, Takes, Gives, Loses}
+use Rattle.net_jobs.specs.JobJournal.JobMove.{Writes, Fails, Hears, Resumes, Prepares, Dials, Takes, Gives, Loses}
 use Rattle.net_jobs.specs.JobSteps.{IsDelivery, JobStep, StepsLead, files_by_steps, given_by_steps}
 use Rattle.saned_serve.specs.SessionActions.{SessionAction}
 use Rattle.saned_serve.specs.SessionActions.SessionAction.{Opens, Hears as HearsOfServer, Feed, Forgets, Take, Says, Looks, Misses, Connect, Turn, Shows, Lose, HangsUp, Leaves}
@@ -111,6 +111,7 @@ came_sends (Takes piece) sent is = refl
 came_sends Resumes sent is = refl
 came_sends (Writes bytes) sent is = absurd is
 came_sends (Fails bytes) sent is = absurd is
+came_sends (Prepares port) sent is = absurd is
 came_sends (Dials port made) sent is = absurd is
 came_sends (Gives bytes) sent is = absurd is
 came_sends (Loses link reason) sent is = absurd is
@@ -121,6 +122,7 @@ came_makes (Takes piece) count is = refl
 came_makes Resumes count is = refl
 came_makes (Writes bytes) count is = absurd is
 came_makes (Fails bytes) count is = absurd is
+came_makes (Prepares port) count is = absurd is
 came_makes (Dials port made) count is = absurd is
 came_makes (Gives bytes) count is = absurd is
 came_makes (Loses link reason) count is = absurd is
