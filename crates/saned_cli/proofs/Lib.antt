@@ -1,4 +1,3 @@
-pub mod LimitedReads
 pub mod PlainNumbers
 pub mod PortRanges
 pub mod SocketLines

@@ -10,7 +10,7 @@ use Rattle.scanimage_cli.specs.WordCut.{long_word, program_word, is_option, cut,
 use Rattle.scanimage_cli.specs.ScanimageOptions.{after_equals, value_after, program_option_value, has_flag}
 use Rattle.scanimage_cli.specs.CutOptions.{item_value_of, is_flag_in, value_given, is_flag_given, GivesTheSame, IsOfTheCut}
 use Rattle.scanimage_cli.specs.declared.program_option.ProgramOption.{ProgramOption}
-use Rattle.scanimage_cli.specs.declared.program_option.ProgramOption.TheVariants.{ListDevices, AllOptions, DontScan, DeviceName, OutputFile, Config, Net, Port, User, PasswordFile, Batch, BatchCount}
+use Rattle.scanimage_cli.specs.declared.program_option.ProgramOption.TheVariants.{ListDevices, AllOptions, DontScan, DeviceName, OutputFile, Config, Net, Port, DialFirst, User, PasswordFile, Batch, BatchCount}
 use Rattle.scanimage_cli.specs.declared.word_cut.Item.{Item}
 use Rattle.scanimage_cli.specs.declared.word_cut.Item.TheVariants.{Flag, Valued, Measured, Setting}
 use Rattle.std.specs.Option.{option_or}
@@ -29,6 +29,7 @@ long_words_are_bare OutputFile = refl
 long_words_are_bare Config = refl
 long_words_are_bare Net = refl
 long_words_are_bare Port = refl
+long_words_are_bare DialFirst = refl
 long_words_are_bare User = refl
 long_words_are_bare PasswordFile = refl
 long_words_are_bare Batch = refl

@@ -1,6 +1,5 @@
 pub mod CutLemmas
 pub mod OutputLines
-pub mod Reading
 pub mod Finds
 pub mod CutLaw
 pub mod JoinLemmas

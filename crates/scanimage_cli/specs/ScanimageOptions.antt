@@ -4,7 +4,7 @@ use Rattle.std.specs.Str.{bytes_eq}
 use Rattle.scanimage_cli.specs.WordCut.{long_word}
 use Rattle.scanimage_cli.specs.declared.options.Options.{Options}
 use Rattle.scanimage_cli.specs.declared.program_option.ProgramOption.{ProgramOption}
-use Rattle.scanimage_cli.specs.declared.program_option.ProgramOption.TheVariants.{ListDevices, AllOptions, DontScan, DeviceName, OutputFile, Config, Net, Port, User, PasswordFile, Batch, BatchCount}
+use Rattle.scanimage_cli.specs.declared.program_option.ProgramOption.TheVariants.{ListDevices, AllOptions, DontScan, DeviceName, OutputFile, Config, Net, Port, DialFirst, User, PasswordFile, Batch, BatchCount}
 use Rattle.std.specs.Option.{option_or}
 
 -- what follows `=`, where the bytes begin with it
@@ -48,6 +48,7 @@ pub record AreScanimageOptions (words : List (List ℕ)) (options : Options) : T
   pub config : options.config ≡ program_option_value Config words
   pub net : options.net ≡ program_option_value Net words
   pub port : program_option_value Port words ≡ option_map decimal options.port
+  pub dial_first : options.dial_first ≡ has_flag DialFirst words
   pub user : options.user ≡ program_option_value User words
   pub password_file : options.password_file ≡ program_option_value PasswordFile words
   pub batch : options.batch ≡ has_flag Batch words

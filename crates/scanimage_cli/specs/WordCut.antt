@@ -7,7 +7,7 @@ use Rattle.std.specs.Str.{bytes_eq}
 use Rattle.sane_fixed.specs.DecimalReading.{fixed_of, ◌>>=◌}
 use Rattle.sane_fixed.specs.ExactDecimal.{exact_decimal}
 use Rattle.scanimage_cli.specs.declared.program_option.ProgramOption.{ProgramOption}
-use Rattle.scanimage_cli.specs.declared.program_option.ProgramOption.TheVariants.{ListDevices, AllOptions, DontScan, DeviceName, OutputFile, Config, Net, Port, User, PasswordFile, Batch, BatchCount}
+use Rattle.scanimage_cli.specs.declared.program_option.ProgramOption.TheVariants.{ListDevices, AllOptions, DontScan, DeviceName, OutputFile, Config, Net, Port, DialFirst, User, PasswordFile, Batch, BatchCount}
 use Rattle.scanimage_cli.specs.declared.geometry.Geometry.{Geometry}
 use Rattle.scanimage_cli.specs.declared.geometry.Geometry.TheVariants.{Left, Top, Width, Height}
 use Rattle.scanimage_cli.specs.declared.split.Measures.{Measures}
@@ -30,6 +30,7 @@ long_word OutputFile = codes "--output-file"
 long_word Config = codes "--config"
 long_word Net = codes "--net"
 long_word Port = codes "--port"
+long_word DialFirst = codes "--dial-first"
 long_word User = codes "--user"
 long_word PasswordFile = codes "--password-file"
 long_word Batch = codes "--batch"
@@ -44,6 +45,7 @@ short_word OutputFile = Some (codes "-o")
 short_word Config = None
 short_word Net = None
 short_word Port = None
+short_word DialFirst = None
 short_word User = None
 short_word PasswordFile = None
 short_word Batch = Some (codes "-b")
@@ -59,13 +61,14 @@ is_flag OutputFile = false
 is_flag Config = false
 is_flag Net = false
 is_flag Port = false
+is_flag DialFirst = true
 is_flag User = false
 is_flag PasswordFile = false
 is_flag Batch = true
 is_flag BatchCount = false
 
 abbrev pub all_options : List ProgramOption
-all_options = ListDevices ∷ AllOptions ∷ DontScan ∷ DeviceName ∷ OutputFile ∷ Config ∷ Net ∷ Port ∷ User ∷ PasswordFile ∷ Batch ∷ BatchCount ∷ []
+all_options = ListDevices ∷ AllOptions ∷ DontScan ∷ DeviceName ∷ OutputFile ∷ Config ∷ Net ∷ Port ∷ DialFirst ∷ User ∷ PasswordFile ∷ Batch ∷ BatchCount ∷ []
 
 abbrev pub is_name_of : ProgramOption → List ℕ → Bool
 is_name_of option word = bytes_eq word (long_word option) || option_map_or (bytes_eq word) (short_word option) false

@@ -21,6 +21,7 @@ pub struct Options {
     pub net: Option<Text>,
     /// 1 to 65,535.
     pub port: Option<u16>,
+    pub dial_first: bool,
     pub user: Option<Text>,
     pub password_file: Option<Text>,
     pub batch: bool,
@@ -118,6 +119,7 @@ fn command<'a>(alloc: Global) -> Result<Command<'a>, AllocError> {
         .arg(value(alloc, "config"))?
         .arg(value(alloc, "net"))?
         .arg(value(alloc, "port").value_parser(clap::value_parser!(u16).range(1..)))?
+        .arg(flag(alloc, "dial-first"))?
         .arg(value(alloc, "user"))?
         .arg(value(alloc, "password-file"))?
         .arg(flag(alloc, "batch"))?
@@ -258,6 +260,11 @@ fn options_found(alloc: Global, found: &ArgMatches, words: &[Text]) -> Result<Op
     let config = agreed_value(alloc, found.get_str("config"), ProgramOption::Config, words)?;
     let net = agreed_value(alloc, found.get_str("net"), ProgramOption::Net, words)?;
     let port = agreed_port(alloc, found.get_one::<u16>("port"), words)?;
+    let dial_first = agreed_flag(
+        found.get_flag("dial-first"),
+        ProgramOption::DialFirst,
+        words,
+    )?;
     let user = agreed_value(alloc, found.get_str("user"), ProgramOption::User, words)?;
     let password_file = agreed_value(
         alloc,
@@ -276,6 +283,7 @@ fn options_found(alloc: Global, found: &ArgMatches, words: &[Text]) -> Result<Op
         config,
         net,
         port,
+        dial_first,
         user,
         password_file,
         batch,

@@ -12,6 +12,7 @@ pub enum ProgramOption {
     Config,
     Net,
     Port,
+    DialFirst,
     User,
     PasswordFile,
     Batch,
@@ -19,7 +20,7 @@ pub enum ProgramOption {
 }
 
 /// All of them.
-const OPTIONS: [ProgramOption; 12] = [
+const OPTIONS: [ProgramOption; 13] = [
     ProgramOption::ListDevices,
     ProgramOption::AllOptions,
     ProgramOption::DontScan,
@@ -28,6 +29,7 @@ const OPTIONS: [ProgramOption; 12] = [
     ProgramOption::Config,
     ProgramOption::Net,
     ProgramOption::Port,
+    ProgramOption::DialFirst,
     ProgramOption::User,
     ProgramOption::PasswordFile,
     ProgramOption::Batch,
@@ -51,6 +53,7 @@ impl ProgramOption {
             ProgramOption::Config => "--config",
             ProgramOption::Net => "--net",
             ProgramOption::Port => "--port",
+            ProgramOption::DialFirst => "--dial-first",
             ProgramOption::User => "--user",
             ProgramOption::PasswordFile => "--password-file",
             ProgramOption::Batch => "--batch",
@@ -72,6 +75,7 @@ impl ProgramOption {
             ProgramOption::Config
             | ProgramOption::Net
             | ProgramOption::Port
+            | ProgramOption::DialFirst
             | ProgramOption::User
             | ProgramOption::PasswordFile
             | ProgramOption::BatchCount => None,
@@ -87,6 +91,7 @@ impl ProgramOption {
             ProgramOption::ListDevices
                 | ProgramOption::AllOptions
                 | ProgramOption::DontScan
+                | ProgramOption::DialFirst
                 | ProgramOption::Batch
         )
     }

@@ -1,0 +1,52 @@
+-- What the program saned does, from the words of its command line to the calls of its daemon.
+use Rattle.std.specs.Prelude.{ℕ, ◌≡◌, ◌≢◌, None, Option, List, [], ◌∷◌}
+use Rattle.std.specs.List.{AllZip}
+use Rattle.device_api.specs.State.{DeviceState}
+use Rattle.dispatch.specs.Table.{fresh_table}
+use Rattle.dispatch.specs.declared.config_line.ConfigLine.{ConfigLine}
+use Rattle.md5_auth.specs.Challenges.{HasGiven}
+use Rattle.md5_auth.specs.UserLines.{Entry}
+use Rattle.config_pages.specs.Devices.{IsDeviceOfLine}
+use Rattle.saned_core.specs.DaemonStates.{Core}
+use Rattle.saned_serve.specs.Journal.{ListenerTrace}
+use Rattle.saned_serve.specs.Serving.{HasServed}
+use Rattle.saned_serve.specs.declared.serving.ServeEnd.{ServeEnd}
+use Rattle.saned_cli.specs.DaemonEndings.{daemon_exit_status}
+use Rattle.saned_cli.specs.DaemonPlans.{IsDaemonPlanOf}
+use Rattle.saned_cli.specs.declared.daemon_ending.DaemonEnding.{DaemonEnding}
+use Rattle.saned_cli.specs.declared.daemon_plan.DaemonPlan.{DaemonPlan}
+
+-- an ending whose exit status is not 0
+abbrev pub IsDaemonFailure : DaemonEnding → Type 0
+IsDaemonFailure ending = daemon_exit_status ending ≢ 0
+
+-- a daemon before its first session: of these devices and users, with the plan's seed and size of strings
+pub record IsDaemonOf (plan : DaemonPlan) (devices : List DeviceState) (users : List Entry) (daemon : Core) : Type 0 where
+  pub registry : daemon.registry ≡ fresh_table devices
+  pub users_are : daemon.users ≡ users
+  pub strings : daemon.strings ≡ plan.options.strings
+  pub seed : HasGiven plan.seed 0 daemon.stream
+  pub none : daemon.slots ≡ None ∷ None ∷ None ∷ None ∷ None ∷ None ∷ None ∷ None ∷ []
+
+-- a daemon has served as many sessions, or as long, as the plan says
+pub record IsServedBy (plan : DaemonPlan) (daemon : Core) : Type 0 where
+  pub last : Core
+  pub began : Option ListenerTrace
+  pub listened : Option ListenerTrace
+  pub end : ServeEnd
+  pub served : HasServed (record { sessions = plan.options.sessions; idle_turns = plan.options.idle_turns }) (record { daemon = daemon; listeners = began }) (record { daemon = last; listeners = listened }) end
+
+-- **has served for its words (`HasServedFor`, `IsDaemonOf`, `IsServedBy`)**: the words have a plan, and the daemon of it, with a device for each
+-- line of the config, in their order, and with these users, has served to the plan's end of sessions or idle turns; where the
+-- plan names no users, there are none.
+pub record HasServedFor (words : List (List ℕ)) : Type 0 where
+  pub plan : DaemonPlan
+  pub is_plan : IsDaemonPlanOf words plan
+  pub lines : List ConfigLine
+  pub devices : List DeviceState
+  pub made : AllZip (IsDeviceOfLine plan.options.byte_order) lines devices
+  pub users : List Entry
+  pub no_users : plan.options.users ≡ None → users ≡ []
+  pub first : Core
+  pub begun : IsDaemonOf plan devices users first
+  pub serves : IsServedBy plan first
