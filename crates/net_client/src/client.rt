@@ -77,6 +77,7 @@ impl Client {
     ghost use Rattle.client_replies.specs.ProtocolStates.{is_running, reports_of, options_shown, IsWait, heard_at, is_lost_by, wanted_port, progress_connected};
     ghost use Rattle.net_client.specs.Inside.{HearsReply, RepresentsOrOutOfMemory, StopsReading, GivesPicture, IsBehindFrame, GoesOnBy, after_out_of_memory};
     ghost use Rattle.net_client.specs.ClientStates.{HasEarlyReply, after_client_end, IsNewClient, ClientRepresents, phase_connected};
+    ghost use Rattle.net_client.specs.ToldPorts.{port_told};
     ghost use Rattle.std.specs.Prelude.{IsTrue, ◌↔◌};
     ghost use Rattle.scan_job.specs.JobSize.{HasJobFault};
 
@@ -595,6 +596,16 @@ impl Client {
                 port,
                 opened: false,
             } => Some(port),
+            _ => None,
+        }
+    }
+
+    /// The port that START's reply has named, while the frame's parameters are awaited.
+    pub fn port_told(&self) -> Option<u16>
+        ensures { result ≡ port_told self.now.progress }
+    {
+        match self.progress {
+            Progress::Shaping { port, .. } => Some(port),
             _ => None,
         }
     }

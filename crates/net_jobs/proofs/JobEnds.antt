@@ -261,11 +261,11 @@ pub data Leaves {L : Type 0} (views : LinkViews L) (was : L) (before : CallNotes
   PartsWhole : before.write_failed ≡ false → Called views was (Writes out) now → behind ≡ before → Leaves views was before out now behind
   PartsShort : before.write_failed ≡ false → (n : ℕ) → n < length out → Called views was (Fails (take n out)) now → behind ≡ record before { write_failed = true } → Leaves views was before out now behind
 
-pub leaves_links : {C D : Type 0} (remaining contents : C → Option (List ℕ)) (ports : D → Option (List ℕ)) (was now : C) (dial : D) (before behind : CallNotes) (out : List ℕ) → TakesLeave contents was before out now behind
-    → Leaves (views_of remaining contents ports) (record { control = was; dial = dial }) before out (record { control = now; dial = dial }) behind
-leaves_links {C} {D} remaining contents ports was now dial before behind out (Silent failed same notes) = PartedBefore failed (ap (λ (c : C). let l : JobLinks C D = record { control = c; dial = dial } in l) same) notes
-leaves_links remaining contents ports was now dial before behind out (Whole up took notes) = PartsWhole up (took, refl) notes
-leaves_links remaining contents ports was now dial before behind out (Short up n short took notes) = PartsShort up n short (took, refl) notes
+pub leaves_links : {C D : Type 0} (remaining contents : C → Option (List ℕ)) (ports prepared : D → Option (List ℕ)) (was now : C) (dial : D) (before behind : CallNotes) (out : List ℕ) → TakesLeave contents was before out now behind
+    → Leaves (views_of remaining contents ports prepared) (record { control = was; dial = dial }) before out (record { control = now; dial = dial }) behind
+leaves_links {C} {D} remaining contents ports prepared was now dial before behind out (Silent failed same notes) = PartedBefore failed (ap (λ (c : C). let l : JobLinks C D = record { control = c; dial = dial } in l) same) notes
+leaves_links remaining contents ports prepared was now dial before behind out (Whole up took notes) = PartsWhole up (took, refl) notes
+leaves_links remaining contents ports prepared was now dial before behind out (Short up n short took notes) = PartsShort up n short (took, refl) notes
 
 -- a write that fails changes nothing of how a job that is over has ended
 pub falls_short : (c : ClientState) (n : ℕ) → is_running c.outcome ≡ false → n < length c.out → WritesShort c (take n c.out) (record c { out = drop n c.out })

@@ -15,7 +15,7 @@ use Rattle.client_replies.specs.declared.progress.Link.TheVariants as links
 use Rattle.client_replies.specs.ProtocolStates.{is_running, is_receiving, is_imaging, is_lost_by}
 use Rattle.net_client.specs.ClientStates.{ClientState, after_client_end, IsNewClient}
 use Rattle.net_jobs.specs.declared.calls.Loss.TheVariants.{DialFailed}
-use Rattle.net_jobs.specs.JobJournal.{AreGives, JobMove, Writes, Fails, Hears, Resumes, Dials, Takes, Gives, Loses, given_by, HearsPiece, TakesPiece, LosesLink, after_loss, dialled_by, heard_by, bytes_written_by, HasLoss}
+use Rattle.net_jobs.specs.JobJournal.{AreGives, JobMove, Writes, Fails, Hears, Resumes, Prepares, Dials, Takes, Gives, Loses, given_by, HearsPiece, TakesPiece, LosesLink, after_loss, dialled_by, heard_by, bytes_written_by, HasLoss}
 use Rattle.net_jobs.specs.JobSteps.{IsDelivery}
 use Rattle.net_jobs.specs.Inside.{AreOfTurn, AreQuiet, Quiet, Delivered, GivesAll, CallNotes, NotesMatch, no_notes, LoopState, Moves, MovesAll}
 use Rattle.net_jobs.specs.JobTraces.{JobTrace}
@@ -237,6 +237,22 @@ going_moved views left_of job first coming0 given was now Resumes m g =
       leads = (was.client, g.leads, m.client);
       gave = g.gave;
     }
+going_moved views left_of job first coming0 given was now (Prepares port) m g =
+    let moves : List JobMove = g.moves in
+    let from = subst (λ (v : ClientState). RunInvariant left_of job moves (heard_by moves) (bytes_written_by moves) v.out coming0 was.coming given was.stream v) (sym m.client.same) (here views left_of job first coming0 given was m.up g) in
+    let on = stage_on left_of job moves (Prepares port ∷ moves) (heard_by moves) (bytes_written_by moves) now.client.out coming0 was.coming given was.stream now.client refl (λ l. l) from in
+    record {
+      moves = Prepares port ∷ moves;
+      left = now.client.out;
+      calls = (was.links, g.calls, m.links);
+      stage = relinked left_of job (Prepares port ∷ moves) (heard_by moves) (bytes_written_by moves) now.client.out coming0 was.coming now.coming given was.stream now.stream now.client m.data_is.0 m.data_is.1 on.0;
+      left_is = λ e. refl;
+      notes_are = noted (Prepares port ∷ moves) was.notes now.notes m.notes (record { loss = g.notes_are.loss; write_failed = g.notes_are.write_failed });
+      fresh = g.fresh;
+      is_fresh = g.is_fresh;
+      leads = (was.client, g.leads, m.client);
+      gave = g.gave;
+    }
 going_moved {L} {R} views left_of job first coming0 given was now (Dials port true) m g =
     let moves : List JobMove = g.moves in
     let opened = stage_opened left_of job moves (heard_by moves) (bytes_written_by moves) coming0 was.coming now.coming given was.stream m.data_is.0 was.client now.client port m.client.running m.client.wanted m.data_is.2 m.client.new_is m.client.serves
@@ -356,6 +372,7 @@ moved_adds views left_of job first coming0 given was now (Writes bytes) m g = (r
 moved_adds views left_of job first coming0 given was now (Fails bytes) m g = (refl, refl)
 moved_adds views left_of job first coming0 given was now (Hears piece) m g = (refl, refl)
 moved_adds views left_of job first coming0 given was now Resumes m g = (refl, refl)
+moved_adds views left_of job first coming0 given was now (Prepares port) m g = (refl, refl)
 moved_adds views left_of job first coming0 given was now (Dials port true) m g = (refl, refl)
 moved_adds views left_of job first coming0 given was now (Dials port false) m g = (refl, refl)
 moved_adds views left_of job first coming0 given was now (Takes piece) m g = (refl, refl)

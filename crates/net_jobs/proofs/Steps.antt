@@ -14,7 +14,7 @@ use Rattle.client_replies.specs.ProtocolStates.{is_batch, is_ended, is_lost_by, 
 use Rattle.net_client.specs.ClientStates.{ClientState, after_client_end}
 use Rattle.frame_join.specs.FrameHistory.{JoinHistory}
 use Rattle.net_jobs.specs.JobJournal.{AreGives, JobMove, MoveLeads, MovesLead, after_loss, given_by, has_write_failed}
-use Rattle.net_jobs.specs.JobJournal.JobMove.{Writes, Fails, Hears, Resumes, Dials, Takes, Gives, Loses}
+use Rattle.net_jobs.specs.JobJournal.JobMove.{Writes, Fails, Hears, Resumes, Prepares, Dials, Takes, Gives, Loses}
 use Rattle.net_jobs.specs.JobSteps.{IsDelivery, MoveAndGives, MovesAreSteps, MovesStopWithin, GivesOut, JobStep, StepLeads, StepsGive, StepsLead, files_by_steps, given_by_steps, has_failed, is_failed_write, moves_of}
 use Rattle.net_jobs.specs.Outputs.{texts_of}
 use Rattle.net_jobs.specs.Inside.{IsQuiet}
@@ -36,6 +36,7 @@ gives_are old Resumes step new s = gives_of (scans old.target.task) step.turned 
 gives_are old (Gives bytes) step new s = absurd s
 gives_are old (Writes bytes) step new s = subst AreGives (sym s.0) tt
 gives_are old (Fails bytes) step new s = subst AreGives (sym s.0) tt
+gives_are old (Prepares port) step new s = subst AreGives (sym s.0) tt
 gives_are old (Dials port made) step new s = subst AreGives (sym s.0) tt
 gives_are old (Loses link reason) step new s = subst AreGives (sym s.0) tt
 
@@ -44,6 +45,7 @@ failed_with (Writes bytes) moves = refl
 failed_with (Fails bytes) moves = refl
 failed_with (Hears piece) moves = refl
 failed_with Resumes moves = refl
+failed_with (Prepares port) moves = refl
 failed_with (Dials port made) moves = refl
 failed_with (Takes piece) moves = refl
 failed_with (Gives bytes) moves = refl
@@ -74,6 +76,7 @@ alone move = record { move = move; gives = []; turned = false }
 quiet_leads : (old : ClientState) (move : JobMove) (new : ClientState) → IsQuiet move → MoveLeads old move new → StepLeads old (alone move) new
 quiet_leads old (Writes bytes) new is m = (refl, refl, m)
 quiet_leads old (Fails bytes) new is m = (refl, refl, m)
+quiet_leads old (Prepares port) new is m = (refl, refl, m)
 quiet_leads old (Dials port true) new is m = (refl, refl, m)
 quiet_leads old (Dials port false) new is m = (refl, refl, m)
 quiet_leads old (Loses link reason) new is m = (refl, refl, m)
@@ -113,6 +116,7 @@ delivery_leads old (Takes piece) mid gives turned new b e batch is m out = recor
 delivery_leads old Resumes mid gives turned new b e batch is m out = record { early = m.1; heard = mid; hears = m.0; gives_out = subst (λ (x : Bool). GivesOut x turned mid gives new) (sym e) out; batch = batch }
 delivery_leads old (Writes bytes) mid gives turned new b e batch is m out = absurd is
 delivery_leads old (Fails bytes) mid gives turned new b e batch is m out = absurd is
+delivery_leads old (Prepares port) mid gives turned new b e batch is m out = absurd is
 delivery_leads old (Dials port made) mid gives turned new b e batch is m out = absurd is
 delivery_leads old (Gives bytes) mid gives turned new b e batch is m out = absurd is
 delivery_leads old (Loses link reason) mid gives turned new b e batch is m out = absurd is
@@ -192,6 +196,7 @@ lost_not_done link c new e n = subst (λ (v : ClientState). NotDone v.outcome) (
 pub quiet_not_done : (old : ClientState) (move : JobMove) (new : ClientState) → IsQuiet move → MoveLeads old move new → NotDone old.outcome → NotDone new.outcome
 quiet_not_done old (Writes bytes) new is m n = subst (λ (v : ClientState). NotDone v.outcome) (sym m.new_is) n
 quiet_not_done old (Fails bytes) new is m n = lost_not_done links.Control (record old { out = new.out }) new m.new_is n
+quiet_not_done old (Prepares port) new is m n = subst (λ (v : ClientState). NotDone v.outcome) (sym m.same) n
 quiet_not_done old (Dials port true) new is m n = subst (λ (v : ClientState). NotDone v.outcome) (sym m.new_is) n
 quiet_not_done old (Dials port false) new is m n = lost_not_done links.Image old new m.new_is n
 quiet_not_done old (Loses link reason) new is m n = subst (λ (v : ClientState). NotDone v.outcome) (sym m.new_is) tt

@@ -10,8 +10,9 @@ use Rattle.client_replies.specs.ProtocolStates.{is_running}
 use Rattle.net_client.specs.ClientStates.{ClientState, HasEarlyReply, after_client_end}
 use Rattle.net_jobs.specs.declared.calls.Loss.{Loss}
 use Rattle.net_jobs.specs.declared.calls.Loss.TheVariants.{UsedUp, DialFailed}
-use Rattle.net_jobs.specs.JobJournal.{JobMove, Writes, Fails, Hears, Resumes, Dials, Takes, Loses, HearsPiece, after_loss}
-use Rattle.net_jobs.specs.Links.{JobLinks, LinkViews, views_of, with_port}
+use Rattle.net_jobs.specs.JobJournal.{JobMove, Writes, Fails, Hears, Resumes, Prepares, Dials, Takes, Loses, HearsPiece, after_loss}
+use Rattle.net_client.specs.ToldPorts.{port_told}
+use Rattle.net_jobs.specs.Links.{IsTold, JobLinks, LinkViews, PortsTold, views_of, with_port}
 use Rattle.net_jobs.specs.Inside.{Heard, Lost, Took, Missed, Made, Refused, Whole, Short, CallNotes, LoopState, MovesAll, AreOfTurn, AreQuiet, Quiet, Delivered, HearsOrLoses, TakesOrLoses, DialsOrLoses, TakesLeave}
 use Rattle.net_jobs.proofs.DataLoop.{lost_wanted}
 use Rattle.net_jobs.proofs.RunInvariants.{out_lost}
@@ -21,6 +22,12 @@ noted_as loss failed = record { loss = loss; write_failed = failed }
 
 abbrev pub loop_at : {L R : Type 0} → ClientState → L → Option (List (List ℕ)) → Option R → Option Loss → Bool → LoopState L R
 loop_at c links coming stream loss failed = record { client = c; links = links; coming = coming; stream = stream; notes = noted_as loss failed }
+
+abbrev ports_told : Option (List ℕ) → Option (List ℕ) → PortsTold
+ports_told asked prepared = record { asked = asked; prepared = prepared }
+
+pub same_ports : (a b p q : Option (List ℕ)) → a ≡ b → p ≡ q → ports_told a p ≡ ports_told b q
+same_ports a b p q asked prepared = ap (λ (x : Option (List ℕ)). ports_told x p) asked ∙ ap (λ (x : Option (List ℕ)). ports_told b x) prepared
 
 pub same_notes : (a b : Option Loss) (f g : Bool) → a ≡ b → f ≡ g → noted_as a f ≡ noted_as b g
 same_notes a b f g loss failed = ap (λ (l : Option Loss). noted_as l f) loss ∙ ap (λ (x : Bool). noted_as b x) failed
@@ -66,11 +73,11 @@ turn_idles views left_of old s = ([], Quiet tt never_came, refl)
 lost_over : (old new : ClientState) → new ≡ after_client_end statuses.IoError whys.Lost old → is_running new.outcome ≡ false
 lost_over old new e = ap (λ (v : ClientState). is_running v.outcome) e
 
-pub turn_writes : {C D R : Type 0} (remaining contents : C → Option (List ℕ)) (ports : D → Option (List ℕ)) (left_of : R → Option (List ℕ)) (first : LoopState (JobLinks C D) R) (moves : List JobMove) (old new : ClientState) (control now : C) (dial : D) (coming : Option (List (List ℕ))) (stream : Option R) (loss lost : Option Loss) (failed fails : Bool)
+pub turn_writes : {C D R : Type 0} (remaining contents : C → Option (List ℕ)) (ports prepared : D → Option (List ℕ)) (left_of : R → Option (List ℕ)) (first : LoopState (JobLinks C D) R) (moves : List JobMove) (old new : ClientState) (control now : C) (dial : D) (coming : Option (List (List ℕ))) (stream : Option R) (loss lost : Option Loss) (failed fails : Bool)
     → failed ≡ false → lost ≡ loss → fails ≡ false → Appends (contents control) (contents now) old.out → new.out ≡ [] → new ≡ record old { out = new.out }
-    → MovesAll (views_of remaining contents ports) left_of first moves (loop_at old (record { control = control; dial = dial }) coming stream loss failed)
-    → MovesAll (views_of remaining contents ports) left_of first (Writes old.out ∷ moves) (loop_at new (record { control = now; dial = dial }) coming stream lost fails)
-turn_writes remaining contents ports left_of first moves old new control now dial coming stream loss lost failed fails up kept still took none new_is m = (
+    → MovesAll (views_of remaining contents ports prepared) left_of first moves (loop_at old (record { control = control; dial = dial }) coming stream loss failed)
+    → MovesAll (views_of remaining contents ports prepared) left_of first (Writes old.out ∷ moves) (loop_at new (record { control = now; dial = dial }) coming stream lost fails)
+turn_writes remaining contents ports prepared left_of first moves old new control now dial coming stream loss lost failed fails up kept still took none new_is m = (
   loop_at old (record { control = control; dial = dial }) coming stream loss failed,
   m,
   record {
@@ -83,11 +90,11 @@ turn_writes remaining contents ports left_of first moves old new control now dia
   },
 )
 
-pub turn_fails : {C D R : Type 0} (remaining contents : C → Option (List ℕ)) (ports : D → Option (List ℕ)) (left_of : R → Option (List ℕ)) (first : LoopState (JobLinks C D) R) (moves : List JobMove) (old short new : ClientState) (control now : C) (dial : D) (coming : Option (List (List ℕ))) (stream : Option R) (loss lost : Option Loss) (failed fails : Bool) (n : ℕ)
+pub turn_fails : {C D R : Type 0} (remaining contents : C → Option (List ℕ)) (ports prepared : D → Option (List ℕ)) (left_of : R → Option (List ℕ)) (first : LoopState (JobLinks C D) R) (moves : List JobMove) (old short new : ClientState) (control now : C) (dial : D) (coming : Option (List (List ℕ))) (stream : Option R) (loss lost : Option Loss) (failed fails : Bool) (n : ℕ)
     → failed ≡ false → lost ≡ loss → fails ≡ true → n < length old.out → Appends (contents control) (contents now) (take n old.out) → short ≡ record old { out = short.out } → new ≡ after_loss links.Control short
-    → MovesAll (views_of remaining contents ports) left_of first moves (loop_at old (record { control = control; dial = dial }) coming stream loss failed)
-    → MovesAll (views_of remaining contents ports) left_of first (Fails (take n old.out) ∷ moves) (loop_at new (record { control = now; dial = dial }) coming stream lost fails)
-turn_fails remaining contents ports left_of first moves old short new control now dial coming stream loss lost failed fails n up kept fell few took short_is new_is m =
+    → MovesAll (views_of remaining contents ports prepared) left_of first moves (loop_at old (record { control = control; dial = dial }) coming stream loss failed)
+    → MovesAll (views_of remaining contents ports prepared) left_of first (Fails (take n old.out) ∷ moves) (loop_at new (record { control = now; dial = dial }) coming stream lost fails)
+turn_fails remaining contents ports prepared left_of first moves old short new control now dial coming stream loss lost failed fails n up kept fell few took short_is new_is m =
     let same : short ≡ record old { out = new.out } = short_is ∙ ap (λ (o : List ℕ). record old { out = o }) (sym (out_lost links.Control short new new_is)) in (
       loop_at old (record { control = control; dial = dial }) coming stream loss failed,
       m,
@@ -101,49 +108,94 @@ turn_fails remaining contents ports left_of first moves old short new control no
       },
     )
 
-pub turn_dials : {C D R : Type 0} (remaining contents : C → Option (List ℕ)) (ports : D → Option (List ℕ)) (left_of : R → Option (List ℕ)) (first : LoopState (JobLinks C D) R) (moves : List JobMove) (old new : ClientState) (control : C) (dial then_ : D) (was now : Option (List (List ℕ))) (stream made : Option R) (lost : Option Loss) (failed fails : Bool) (port : ℕ)
-    → failed ≡ false → fails ≡ failed → ports then_ ≡ with_port port (ports dial) → DialsOrLoses left_of old was port new now made lost
-    → MovesAll (views_of remaining contents ports) left_of first moves (loop_at old (record { control = control; dial = dial }) was stream None failed)
-    → AreQuiet moves → (more : List JobMove) × AreOfTurn false new more × MovesAll (views_of remaining contents ports) left_of first more (loop_at new (record { control = control; dial = then_ }) now made lost fails)
-turn_dials remaining contents ports left_of first moves old new control dial then_ was now stream made lost failed fails port up still asked (Made conn made_is brings dials none) m quiet = (
+pub turn_dials : {C D R : Type 0} (remaining contents : C → Option (List ℕ)) (ports prepared : D → Option (List ℕ)) (left_of : R → Option (List ℕ)) (first : LoopState (JobLinks C D) R) (moves : List JobMove) (old new : ClientState) (control : C) (dial then_ : D) (was now : Option (List (List ℕ))) (stream made : Option R) (lost : Option Loss) (failed fails : Bool) (port : ℕ)
+    → failed ≡ false → fails ≡ failed → ports then_ ≡ with_port port (ports dial) → prepared then_ ≡ prepared dial → DialsOrLoses left_of old was port new now made lost
+    → MovesAll (views_of remaining contents ports prepared) left_of first moves (loop_at old (record { control = control; dial = dial }) was stream None failed)
+    → AreQuiet moves → (more : List JobMove) × AreOfTurn false new more × MovesAll (views_of remaining contents ports prepared) left_of first more (loop_at new (record { control = control; dial = then_ }) now made lost fails)
+turn_dials remaining contents ports prepared left_of first moves old new control dial then_ was now stream made lost failed fails port up still asked kept (Made conn made_is brings dials none) m quiet = (
   Dials port true ∷ moves,
   Quiet (tt, quiet) never_came,
   (
     loop_at old (record { control = control; dial = dial }) was stream None failed,
     m,
-    record { of_links = tt; up = up; client = dials; links = (refl, refl, asked); data_is = (conn, made_is, brings); notes = same_notes lost None fails failed none still },
+    record { of_links = tt; up = up; client = dials; links = (refl, refl, same_ports (ports then_) _ (prepared then_) _ asked kept); data_is = (conn, made_is, brings); notes = same_notes lost None fails failed none still },
   ),
 )
-turn_dials remaining contents ports left_of first moves old new control dial then_ was now stream made lost failed fails port up still asked (Refused same misses is) m quiet = (
+turn_dials remaining contents ports prepared left_of first moves old new control dial then_ was now stream made lost failed fails port up still asked kept (Refused same misses is) m quiet = (
   Dials port false ∷ moves,
   Quiet (tt, quiet) never_came,
   (
     loop_at old (record { control = control; dial = dial }) was stream None failed,
     m,
-    record { of_links = tt; up = up; client = misses; links = (refl, refl, asked); data_is = same; notes = same_notes lost (Some DialFailed) fails failed is still },
+    record { of_links = tt; up = up; client = misses; links = (refl, refl, same_ports (ports then_) _ (prepared then_) _ asked kept); data_is = same; notes = same_notes lost (Some DialFailed) fails failed is still },
   ),
 )
 
-pub turn_hears : {C D R : Type 0} (remaining contents : C → Option (List ℕ)) (ports : D → Option (List ℕ)) (left_of : R → Option (List ℕ)) (first : LoopState (JobLinks C D) R) (moves : List JobMove) (old new : ClientState) (control now : C) (dial : D) (coming : Option (List (List ℕ))) (stream : Option R) (lost : Option Loss) (failed fails : Bool)
-    → failed ≡ false → fails ≡ failed → HearsOrLoses old (remaining control) new (remaining now) lost
-    → MovesAll (views_of remaining contents ports) left_of first moves (loop_at old (record { control = control; dial = dial }) coming stream None failed)
-    → AreQuiet moves → (more : List JobMove) × AreOfTurn true new more × MovesAll (views_of remaining contents ports) left_of first more (loop_at new (record { control = now; dial = dial }) coming stream lost fails)
-turn_hears remaining contents ports left_of first moves old new control now dial coming stream lost failed fails up still (Heard piece some consumed hears none) m quiet = (
+-- ---- a port is told before it is wanted
+
+-- Behind moves of a turn it is told of the port that the client was told, if there is one: so many moves more lead to where its views
+-- are as they are then.
+pub record HasPrepared {C D R : Type 0} (remaining contents : C → Option (List ℕ)) (ports prepared : D → Option (List ℕ)) (left_of : R → Option (List ℕ)) (first : LoopState (JobLinks C D) R) (c : ClientState) (control : C) (then_ : D) (later : Option (List (List ℕ))) (stream : Option R) (failed : Bool) : Type 0 where
+  pub moves : List JobMove
+  pub quiet : AreQuiet moves
+  pub dial : D
+  pub coming : Option (List (List ℕ))
+  pub leads : MovesAll (views_of remaining contents ports prepared) left_of first moves (loop_at c (record { control = control; dial = dial }) coming stream None failed)
+  pub ports_are : (ports then_ ≡ ports dial) × (prepared then_ ≡ prepared dial)
+  pub coming_is : later ≡ coming
+
+pub asks_told : (b : Bool) (o : Option ℕ) (port : ℕ) → (if b then o else None) ≡ Some port → o ≡ Some port
+asks_told true o port e = e
+asks_told false o port e = absurd (let clash : None ≡ Some port = e in cc)
+
+pub turn_prepares : {C D R : Type 0} (remaining contents : C → Option (List ℕ)) (ports prepared : D → Option (List ℕ)) (left_of : R → Option (List ℕ)) (first : LoopState (JobLinks C D) R) (moves : List JobMove) (c : ClientState) (control : C) (dial then_ : D) (coming later : Option (List (List ℕ))) (stream : Option R) (failed : Bool) (asks : Option ℕ)
+    → failed ≡ false → is_running c.outcome ≡ true → c.out ≡ [] → ((port : ℕ) → asks ≡ Some port → port_told c.progress ≡ Some port) → IsTold asks (prepared dial) (prepared then_) → ports then_ ≡ ports dial → later ≡ coming
+    → MovesAll (views_of remaining contents ports prepared) left_of first moves (loop_at c (record { control = control; dial = dial }) coming stream None failed)
+    → AreQuiet moves → HasPrepared remaining contents ports prepared left_of first c control then_ later stream failed
+turn_prepares remaining contents ports prepared left_of first moves c control dial then_ coming later stream failed None up running none tells told same none_come m quiet = record {
+  moves = moves;
+  quiet = quiet;
+  dial = dial;
+  coming = coming;
+  leads = m;
+  ports_are = (same, told);
+  coming_is = none_come;
+}
+turn_prepares remaining contents ports prepared left_of first moves c control dial then_ coming later stream failed (Some port) up running none tells told same none_come m quiet = record {
+  moves = Prepares port ∷ moves;
+  quiet = (tt, quiet);
+  dial = then_;
+  coming = later;
+  leads = (
+    loop_at c (record { control = control; dial = dial }) coming stream None failed,
+    m,
+    record { of_links = tt; up = up; client = record { running = running; told = tells port refl; asked = none; same = refl }; links = (refl, refl, same, told); data_is = (none_come, refl); notes = refl },
+  );
+  ports_are = (refl, refl);
+  coming_is = refl;
+}
+
+-- what makes the data connections may be told of one that is to come
+pub turn_hears : {C D R : Type 0} (remaining contents : C → Option (List ℕ)) (ports prepared : D → Option (List ℕ)) (left_of : R → Option (List ℕ)) (first : LoopState (JobLinks C D) R) (moves : List JobMove) (old new : ClientState) (control now : C) (dial then_ : D) (coming later : Option (List (List ℕ))) (stream : Option R) (lost : Option Loss) (failed fails : Bool)
+    → failed ≡ false → fails ≡ failed → (ports then_ ≡ ports dial) × (prepared then_ ≡ prepared dial) → later ≡ coming → HearsOrLoses old (remaining control) new (remaining now) lost
+    → MovesAll (views_of remaining contents ports prepared) left_of first moves (loop_at old (record { control = control; dial = dial }) coming stream None failed)
+    → AreQuiet moves → (more : List JobMove) × AreOfTurn true new more × MovesAll (views_of remaining contents ports prepared) left_of first more (loop_at new (record { control = now; dial = then_ }) later stream lost fails)
+turn_hears remaining contents ports prepared left_of first moves old new control now dial then_ coming later stream lost failed fails up still told none_come (Heard piece some consumed hears none) m quiet = (
   Hears piece ∷ moves,
   Delivered (Hears piece) moves refl tt quiet refl,
   (
     loop_at old (record { control = control; dial = dial }) coming stream None failed,
     m,
-    record { of_links = tt; up = up; client = (hears, some); links = (consumed, refl); data_is = (refl, refl); notes = same_notes lost None fails failed none still },
+    record { of_links = tt; up = up; client = (hears, some); links = (consumed, same_ports (ports then_) _ (prepared then_) _ told.0 told.1); data_is = (none_come, refl); notes = same_notes lost None fails failed none still },
   ),
 )
-turn_hears remaining contents ports left_of first moves old new control now dial coming stream lost failed fails up still (Lost reason consumed loses is) m quiet = (
+turn_hears remaining contents ports prepared left_of first moves old new control now dial then_ coming later stream lost failed fails up still told none_come (Lost reason consumed loses is) m quiet = (
   Loses links.Control reason ∷ moves,
   Quiet (tt, quiet) (λ _. lost_over old new loses.new_is),
   (
     loop_at old (record { control = control; dial = dial }) coming stream None failed,
     m,
-    record { of_links = tt; up = up; client = loses; links = (consumed, refl); data_is = refl; notes = same_notes lost (Some reason) fails failed is still },
+    record { of_links = tt; up = up; client = loses; links = (consumed, same_ports (ports then_) _ (prepared then_) _ told.0 told.1); data_is = none_come; notes = same_notes lost (Some reason) fails failed is still },
   ),
 )
 

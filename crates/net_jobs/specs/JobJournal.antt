@@ -8,6 +8,7 @@ use Rattle.client_replies.specs.declared.progress.Link.TheVariants as links
 use Rattle.client_replies.specs.ProtocolStates.{is_ended, is_lost_by, is_receiving, is_running, progress_connected, turns, wanted_port}
 use Rattle.net_client.specs.ClientStates.{ClientState, ClientRepresents, HasEarlyReply, after_client_end, phase_connected}
 use Rattle.net_client.specs.FramePieces.{Receives}
+use Rattle.net_client.specs.ToldPorts.{port_told}
 use Rattle.net_client.specs.ReplyPieces.{Heeds}
 use Rattle.net_client.specs.Taking.{TakesFile}
 use Rattle.net_jobs.specs.declared.calls.Loss.{Loss}
@@ -25,6 +26,8 @@ pub data JobMove : Type 0 where
   Hears : (piece : List ℕ) → JobMove
   -- what came of it before it was asked for is looked at again
   Resumes : JobMove
+  -- it is told that a data connection at that port will be asked for, so that it may be made from now on
+  Prepares : (port : ℕ) → JobMove
   -- a data connection at that port is asked for, and made; or it is not, and is lost
   Dials : (port : ℕ) (made : Bool) → JobMove
   -- a piece of it is taken
@@ -55,6 +58,13 @@ pub record HearsPiece (old : ClientState) (piece : List ℕ) (new : ClientState)
   pub running : is_running old.outcome ≡ true
   pub quiet : is_receiving old.outcome old.progress ≡ false
   pub heeds : (past : JoinHistory) → ClientRepresents past old → Heeds old past piece new
+
+-- the parameters of the frame with that port are asked for, and not told yet
+pub record PreparesPort (old : ClientState) (port : ℕ) (new : ClientState) : Type 0 where
+  pub running : is_running old.outcome ≡ true
+  pub told : port_told old.progress ≡ Some port
+  pub asked : old.out ≡ []
+  pub same : new ≡ old
 
 pub record DialsPort (old : ClientState) (port : ℕ) (new : ClientState) : Type 0 where
   pub running : is_running old.outcome ≡ true
@@ -93,6 +103,7 @@ MoveLeads c (Writes bytes) e = WritesAll c bytes e
 MoveLeads c (Fails bytes) e = WritesShort c bytes e
 MoveLeads c (Hears piece) e = HearsPiece c piece e × IsPiece piece
 MoveLeads c Resumes e = HearsPiece c [] e × HasEarlyReply c
+MoveLeads c (Prepares port) e = PreparesPort c port e
 MoveLeads c (Dials port true) e = DialsPort c port e
 MoveLeads c (Dials port false) e = MissesPort c port e
 MoveLeads c (Takes piece) e = TakesPiece c piece e × IsPiece piece

@@ -1,7 +1,7 @@
 -- What a job's streams gave and took, as far as their traits tell it.
-use Rattle.std.specs.Prelude.{ℕ, ◌≡◌, Option, Some, None, List, [], ◌∷◌, ◌++◌, option_map}
+use Rattle.std.specs.Prelude.{ℕ, ◌≡◌, ◌⊎◌, Option, Some, None, List, [], ◌∷◌, ◌++◌, option_map}
 use Rattle.std.specs.Io.KnownBytes.{Appends, Consumes}
-use Rattle.net_jobs.specs.JobJournal.{JobMove, Writes, Fails, Hears, Dials, Loses}
+use Rattle.net_jobs.specs.JobJournal.{JobMove, Writes, Fails, Hears, Prepares, Dials, Loses}
 
 -- ---- the control connection, and the ports of the data connections
 
@@ -14,19 +14,36 @@ pub record JobLinks (C D : Type 0) : Type 0 where
   pub control : C
   pub dial : D
 
--- what such links tell: what reads of the control connection will give, what was written to it, and the ports that were asked
--- for, the newest first
+-- the ports that were asked for, and those that it was told of before, the newest first
+pub record PortsTold : Type 0 where
+  pub asked : Option (List ℕ)
+  pub prepared : Option (List ℕ)
+
+-- what such links tell: what reads of the control connection will give, what was written to it, and the ports
 pub record LinkViews (L : Type 0) : Type 0 where
   pub remaining : L → Option (List ℕ)
   pub contents : L → Option (List ℕ)
-  pub ports : L → Option (List ℕ)
+  pub ports : L → PortsTold
 
-abbrev pub views_of : {C D : Type 0} → (C → Option (List ℕ)) → (C → Option (List ℕ)) → (D → Option (List ℕ)) → LinkViews (JobLinks C D)
-views_of remaining contents ports = record { remaining = λ l. remaining l.control; contents = λ l. contents l.control; ports = λ l. ports l.dial }
+abbrev pub views_of : {C D : Type 0} → (C → Option (List ℕ)) → (C → Option (List ℕ)) → (D → Option (List ℕ)) → (D → Option (List ℕ)) → LinkViews (JobLinks C D)
+views_of remaining contents ports prepared = record {
+  remaining = λ l. remaining l.control;
+  contents = λ l. contents l.control;
+  ports = λ l. record { asked = ports l.dial; prepared = prepared l.dial };
+}
 
 -- a data connection at that port was asked for
 abbrev pub with_port : ℕ → Option (List ℕ) → Option (List ℕ)
 with_port port asked = option_map (λ ports. port ∷ ports) asked
+
+-- what makes data connections was told of one at that port that is to come, or makes none before it is asked for
+abbrev pub IsPrepared : ℕ → Option (List ℕ) → Option (List ℕ) → Type 0
+IsPrepared port was now = (now ≡ was) ⊎ (now ≡ with_port port was)
+
+-- it was told of that port, if there is one
+abbrev pub IsTold : Option ℕ → Option (List ℕ) → Option (List ℕ) → Type 0
+IsTold None was now = now ≡ was
+IsTold (Some port) was now = IsPrepared port was now
 
 -- What a move makes of the links. (That a read leaves what was written, or a write what is to be read, is in no clause of a
 -- stream's traits, so this goes call by call.)
@@ -35,8 +52,10 @@ Called views was (Writes bytes) now = Appends (views.contents was) (views.conten
 Called views was (Fails bytes) now = Appends (views.contents was) (views.contents now) bytes × (views.ports now ≡ views.ports was)
 Called views was (Hears piece) now = Consumes (views.remaining was) (views.remaining now) piece × (views.ports now ≡ views.ports was)
 Called views was (Loses link reason) now = Consumes (views.remaining was) (views.remaining now) [] × (views.ports now ≡ views.ports was)
+Called views was (Prepares port) now =
+    (views.remaining now ≡ views.remaining was) × (views.contents now ≡ views.contents was) × ((views.ports now).asked ≡ (views.ports was).asked) × IsPrepared port (views.ports was).prepared (views.ports now).prepared
 Called views was (Dials port made) now =
-    (views.remaining now ≡ views.remaining was) × (views.contents now ≡ views.contents was) × (views.ports now ≡ with_port port (views.ports was))
+    (views.remaining now ≡ views.remaining was) × (views.contents now ≡ views.contents was) × (views.ports now ≡ record (views.ports was) { asked = with_port port (views.ports was).asked })
 Called views was move now = now ≡ was
 
 -- what a journal makes of them

@@ -163,6 +163,7 @@ impl CallTally {
         ensures brings { IfOk result
             (λ conn. DialBrings (D.coming dial.old) (D.coming dial.new) (D.Conn.remaining conn)) }
         ensures none { OnErr result (D.coming dial.new ≡ D.coming dial.old) }
+        ensures kept { D.prepared dial.new ≡ D.prepared dial.old }
         ensures told { self.new ≡ record self.old { loss = loss_by_dial result } }
     {
         let made = dial.dial(port);

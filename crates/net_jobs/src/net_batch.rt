@@ -189,7 +189,7 @@ where
     requires tell { F.IsAlwaysCallable tell }
     ensures came { (job : JobValue) → IsNewClient job client → HasCount job.task
         → is_scanning ≡ scans job.task → option_map S.Out.contents under.old ≡ None
-        → BatchHasCome (views_of C.remaining C.contents D.ports) job
+        → BatchHasCome (views_of C.remaining C.contents D.ports D.prepared) job
         (seen D.coming S.stock (streams control.old dial.old shelf.old))
         (seen D.coming S.stock (streams control.new dial.new shelf.new))
         (option_map S.Out.contents under.new) (over_as result) (notes_of tally.new) }
@@ -260,13 +260,14 @@ where
     T: Drop,
     F: FnOnce(&Reports) -> Result<T, NoMem> + Drop,
     requires { F.IsAlwaysCallable tell }
-    ensures done { IfOk result (λ done. BatchDone (views_of C.remaining C.contents D.ports) job
+    ensures done { IfOk result (λ done. BatchDone
+        (views_of C.remaining C.contents D.ports D.prepared) job
         (seen D.coming S.stock (streams control.old dial.old shelf.old))
         (seen D.coming S.stock (streams control.new dial.new shelf.new)) done.0) }
     // A job that is refused, or finds no memory for its buffers, touches no stream and no shelf.
     ensures ended { IfErr result (λ stop. RefusesBatch job (Ended stop.status stop.why)
         (streams control.old dial.old shelf.old) (streams control.new dial.new shelf.new)
-        ⊎ BatchEnded (views_of C.remaining C.contents D.ports) job
+        ⊎ BatchEnded (views_of C.remaining C.contents D.ports D.prepared) job
         (seen D.coming S.stock (streams control.old dial.old shelf.old))
         (seen D.coming S.stock (streams control.new dial.new shelf.new)) stop) }
     ensures told { IfOk result (λ done. FnOnceReturnsAt F.FnOnce tell done.0 (Ok done.1)) }
@@ -318,8 +319,9 @@ pub fn run_batch<C: Read + Write, D: Dial, S: Shelf>(
     /// Carried by: `done` of `run_batch`: `outputs` of `BatchDone`
     ///
     /// They are at most as many as the batch may scan, one of a scan, and none of any other job.
-    ensures done { IfDone result (λ reports. BatchDone (views_of C.remaining C.contents D.ports)
-        job (seen D.coming S.stock (streams control.old dial.old shelf.old))
+    ensures done { IfDone result (λ reports. BatchDone
+        (views_of C.remaining C.contents D.ports D.prepared) job
+        (seen D.coming S.stock (streams control.old dial.old shelf.old))
         (seen D.coming S.stock (streams control.new dial.new shelf.new)) reports) }
     // A job that is refused, or finds no memory for its buffers, touches no stream and no shelf.
     /// Where it ends otherwise the pages before have whole files, and at most one more output stands, which took no
@@ -330,7 +332,7 @@ pub fn run_batch<C: Read + Write, D: Dial, S: Shelf>(
     /// Carried by: `ended` of `run_batch`: `shelf` of `BatchEnded`
     ensures ended { IfEnded result (λ status why. RefusesBatch job (Ended status why)
         (streams control.old dial.old shelf.old) (streams control.new dial.new shelf.new)
-        ⊎ BatchEnded (views_of C.remaining C.contents D.ports) job
+        ⊎ BatchEnded (views_of C.remaining C.contents D.ports D.prepared) job
         (seen D.coming S.stock (streams control.old dial.old shelf.old))
         (seen D.coming S.stock (streams control.new dial.new shelf.new))
         (record { status = status; why = why })) }

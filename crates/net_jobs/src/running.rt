@@ -1,4 +1,4 @@
-ghost use Rattle.std.specs.Prelude.{◌≡◌, ◌<◌, ◌≤◌, ◌↔◌, ◌⊎◌, ℕ, [], true, false, not, Some, None, Ok, List, Option, IsTrue, IfOk, IfErr, take, length};
+ghost use Rattle.std.specs.Prelude.{◌≡◌, ◌<◌, ◌≤◌, ◌↔◌, ◌⊎◌, if◌then◌else◌, ℕ, [], true, false, not, Some, None, Ok, List, Option, IsTrue, IfOk, IfErr, take, length};
 ghost use Rattle.std.specs.Fn.{FnOnceReturnsAt};
 ghost use Rattle.std.specs.Io.KnownBytes.{Appends, Consumes};
 ghost use Rattle.scan_job.specs.declared.job.Job.{Job as JobValue};
@@ -9,10 +9,11 @@ ghost use Rattle.scan_job.specs.Outcomes.{IfDone, IfEnded, IsOver, over_as};
 ghost use Rattle.frame_join.specs.FrameHistory.{JoinHistory};
 ghost use Rattle.client_replies.specs.ProtocolStates.{is_running, is_receiving, is_batch, wanted_port};
 ghost use Rattle.net_client.specs.ClientStates.{HasEarlyReply, IsNewClient};
+ghost use Rattle.net_client.specs.ToldPorts.{port_told};
 ghost use Rattle.net_jobs.specs.JobJournal.{JobMove, given_by};
 ghost use Rattle.net_jobs.specs.JobSteps.{FileRunsOut};
 ghost use Rattle.net_jobs.specs.Inside.{AreOfTurn, HoldsGiven, IfOpenLiesWithin, LiesWithin, ahead_of, left_ahead, read_ahead, IsDrainedTo, StopsBehind, StopsAs, DialsOrLoses, HasRunNoted, HearsOrLoses, IsLost, KeepsNotes, KeepsReads, KeepsWrites, MovesAll, TakesLeave, TakesOrLoses, loop_state, no_notes, notes_of, turns_to_go};
-ghost use Rattle.net_jobs.specs.Links.{views_of, with_port};
+ghost use Rattle.net_jobs.specs.Links.{IsTold, views_of, with_port};
 ghost use Rattle.net_jobs.specs.RunPromises.{RanDone, RanEnded, RefusesJob, refused_as, seen, streams};
 
 use crate::calls::CallTally;
@@ -234,6 +235,7 @@ fn connect<D: Dial>(
     requires wanted { wanted_port client.old.progress ≡ Some port }
     requires held { tally.old.loss ≡ None }
     ensures asked { D.ports dial.new ≡ with_port port (D.ports dial.old) }
+    ensures kept { D.prepared dial.new ≡ D.prepared dial.old }
     ensures dialled { (room : List ℕ)
         → DialsOrLoses (left_ahead D.Conn.remaining) client.old (D.coming dial.old) port
         client.new (D.coming dial.new) (ahead_of result room) tally.new.loss }
@@ -253,6 +255,22 @@ fn connect<D: Dial>(
             client.link_lost(Link::Image);
             None
         }
+    }
+}
+
+/// Where requests were just written, and the parameters of a frame are awaited, tells what makes the data connections of
+/// that frame's port: the connection may be made behind the request for the parameters, and before their reply.
+fn prepare<D: Dial>(client: &Client, dial: &mut D, has_asked: bool)
+    ensures told { IsTold (if has_asked then port_told client.now.progress else None)
+        (D.prepared dial.old) (D.prepared dial.new) }
+    ensures ports { D.ports dial.new ≡ D.ports dial.old }
+    ensures coming { D.coming dial.new ≡ D.coming dial.old }
+{
+    if !has_asked {
+        return;
+    }
+    if let Some(port) = client.port_told() {
+        dial.prepare(port);
     }
 }
 
@@ -276,14 +294,16 @@ fn talk<C: Read + Write, D: Dial>(
     ensures room { length room.new ≡ length room.old }
     ensures within { IfOpenLiesWithin stream.new ahead.now }
     ensures moved { (moves : List JobMove) × AreOfTurn result client.new moves × MovesAll
-        (views_of C.remaining C.contents D.ports) (left_ahead D.Conn.remaining) (loop_state D.coming
-        client.old control.old dial.old (ahead_of stream.old ahead.now) tally.old) moves
+        (views_of C.remaining C.contents D.ports D.prepared) (left_ahead D.Conn.remaining)
+        (loop_state D.coming client.old control.old dial.old
+        (ahead_of stream.old ahead.now) tally.old) moves
         (loop_state D.coming
         client.new control.new dial.new (ahead_of stream.new ahead.now) tally.new) }
     ensures held { is_running client.new.outcome ≡ true → tally.new.loss ≡ None }
     ensures up { is_running client.new.outcome ≡ true → tally.new.write_failed ≡ false }
     ensures turns { tally.new.turns ≡ tally.old.turns }
 {
+    let has_asked = client.has_out();
     if !write_out(client, control, room, tally) {
         client.link_lost(Link::Control);
         return false;
@@ -292,6 +312,7 @@ fn talk<C: Read + Write, D: Dial>(
         *stream = connect(client, dial, port, tally);
         return false;
     }
+    prepare(client, dial, has_asked);
     hear(client, control, &mut room[..MOST_GIVEN], tally);
     true
 }
@@ -327,8 +348,9 @@ pub(crate) fn go_on<C: Read + Write, D: Dial>(
     ensures room { length room.new ≡ length room.old }
     ensures within { IfOpenLiesWithin stream.new ahead.new }
     ensures moved { (moves : List JobMove) × AreOfTurn result client.new moves × MovesAll
-        (views_of C.remaining C.contents D.ports) (left_ahead D.Conn.remaining) (loop_state D.coming
-        client.old control.old dial.old (ahead_of stream.old ahead.old) tally.old) moves
+        (views_of C.remaining C.contents D.ports D.prepared) (left_ahead D.Conn.remaining)
+        (loop_state D.coming client.old control.old dial.old
+        (ahead_of stream.old ahead.old) tally.old) moves
         (loop_state D.coming
         client.new control.new dial.new (ahead_of stream.new ahead.new) tally.new) }
     ensures held { is_running client.new.outcome ≡ true → tally.new.loss ≡ None }
@@ -481,7 +503,7 @@ where
     requires tell { F.IsAlwaysCallable tell }
     ensures ran { (job : JobValue) → IsNewClient job client → is_batch job.task ≡ false
         → (is_scan ≡ true ↔ job.task ≡ tasks.Scan)
-        → HasRunNoted (views_of C.remaining C.contents D.ports) job
+        → HasRunNoted (views_of C.remaining C.contents D.ports D.prepared) job
         (seen D.coming W.contents (streams control.old dial.old out.old))
         (seen D.coming W.contents (streams control.new dial.new out.new))
         (over_as result) (notes_of tally.new) }
@@ -535,14 +557,15 @@ where
     T: Drop,
     F: FnOnce(&Reports) -> Result<T, NoMem> + Drop,
     requires tell { F.IsAlwaysCallable tell }
-    ensures done { IfOk result (λ done. RanDone (views_of C.remaining C.contents D.ports) job
+    ensures done { IfOk result (λ done. RanDone
+        (views_of C.remaining C.contents D.ports D.prepared) job
         (seen D.coming W.contents (streams control.old dial.old out.old))
         (seen D.coming W.contents (streams control.new dial.new out.new)) done.0) }
     // A job that is refused, or finds no memory for its buffers, touches no stream.
     ensures ended { IfErr result (λ stop.
         RefusesJob job (Ended stop.status stop.why)
         (streams control.old dial.old out.old) (streams control.new dial.new out.new)
-        ⊎ RanEnded (views_of C.remaining C.contents D.ports) job
+        ⊎ RanEnded (views_of C.remaining C.contents D.ports D.prepared) job
         (seen D.coming W.contents (streams control.old dial.old out.old))
         (seen D.coming W.contents (streams control.new dial.new out.new)) stop) }
     ensures told { IfOk result (λ done. FnOnceReturnsAt F.FnOnce tell done.0 (Ok done.1)) }
@@ -607,6 +630,10 @@ pub fn run_job<C: Read + Write, D: Dial, W: Write>(
     /// job ended before.
     /// Carried by: `done`, `ended` of `run_job`
     ///
+    /// What makes the data connections is told beforehand of no port but that which START's reply named, once the
+    /// frame's parameters are asked for and before they are told.
+    /// Carried by: `done`, `ended` of `run_job`: `PreparesPort` of its moves
+    ///
     /// Each data connection began with the records of a frame that ended, but for at most one that was let go within
     /// its frame.
     /// Carried by: `done`, `ended` of `run_job`
@@ -615,7 +642,8 @@ pub fn run_job<C: Read + Write, D: Dial, W: Write>(
     ///
     /// The output of a scan that is Done took the file of the picture that the frames show; that of any other job
     /// nothing.
-    ensures done { IfDone result (λ reports. RanDone (views_of C.remaining C.contents D.ports) job
+    ensures done { IfDone result (λ reports. RanDone
+        (views_of C.remaining C.contents D.ports D.prepared) job
         (seen D.coming W.contents (streams control.old dial.old out.old))
         (seen D.coming W.contents (streams control.new dial.new out.new)) reports) }
     /// Where an output failed they are steps up to the last piece that came: of its file not all went out that was
@@ -645,7 +673,7 @@ pub fn run_job<C: Read + Write, D: Dial, W: Write>(
     /// Carried by: `over` of `run_job`, `run_batch`
     ensures ended { IfEnded result (λ status why. RefusesJob job (Ended status why)
         (streams control.old dial.old out.old) (streams control.new dial.new out.new)
-        ⊎ RanEnded (views_of C.remaining C.contents D.ports) job
+        ⊎ RanEnded (views_of C.remaining C.contents D.ports D.prepared) job
         (seen D.coming W.contents (streams control.old dial.old out.old))
         (seen D.coming W.contents (streams control.new dial.new out.new))
         (record { status = status; why = why })) }

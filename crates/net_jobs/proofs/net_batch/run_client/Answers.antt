@@ -86,7 +86,7 @@ returns-in_err-told-clause-came g c = λ job fresh count scanning none.
       | else-is_ok-via-then-is_ok+else-not-fill-2 w ↦ absurd (let clash : true ≡ false = sym w.if-is_ok.true ∙ c.is_ok.ensures.value ∙ ap is_ok c.in_err-told.was in cc)
       | else-is_ok-via-else-is_ok w ↦
           rw (w.shelf-is, w.under-is) (came_stopped _ (left_ahead g.D.Conn.Read.remaining) job _ _ _ _ _ _ _ _ (ahead_of c.loop-client.stream c.loop-client.ahead) c.loop-client.client _ _ c.in_err-told.field-0.0 c.not_whole_before.ensures ends
-          (leaves_links g.C.Read.remaining g.C.Write.contents g.D.Dial.ports c.loop-client.control c.part-outcome.new.control c.loop-client.dial _ _ _ (rw (w.client-is, w.tally-is) at c.part-outcome.ensures.left)) p)
+          (leaves_links g.C.Read.remaining g.C.Write.contents g.D.Dial.ports g.D.Dial.prepared c.loop-client.control c.part-outcome.new.control c.loop-client.dial _ _ _ (rw (w.client-is, w.tally-is) at c.part-outcome.ensures.left)) p)
     ])
 
 pub returns-clause-came : goal.returns-clause-came
@@ -98,7 +98,7 @@ returns-clause-came g c = λ job fresh count scanning none.
           let last = to_be_given job.task p.laid.going.fresh p.laid.going.moves c.loop-client.client p.laid.given c.in-Done.reports (sym w.fill-then-is_ok.ensures.outcome ∙ done) p.laid.steps in
           rw (w.shelf-is, w.under-is) (came_done _ (left_ahead g.D.Conn.Read.remaining) job _ _ _ _ _ _ (ahead_of c.loop-client.stream c.loop-client.ahead) w.fill-then-is_ok.new.client _ _ c.in-Done.reports count c.whole_shows.ensures (sym (rw w.client-is at c.part-outcome.ensures.outcome) ∙ c.in-Done.is)
           (shut_parted _ (left_ahead g.D.Conn.Read.remaining) job _ _ _ _ _ _ _ _ (ahead_of c.loop-client.stream c.loop-client.ahead) w.fill-then-is_ok.new.client _ _ (ap is_running (sym (rw w.client-is at c.part-outcome.ensures.outcome) ∙ c.in-Done.is))
-          (leaves_links g.C.Read.remaining g.C.Write.contents g.D.Dial.ports c.loop-client.control c.part-outcome.new.control c.loop-client.dial _ _ _ (rw (w.client-is, w.tally-is, w.fill-then-is_ok.ensures.calls.0) at c.part-outcome.ensures.left))
+          (leaves_links g.C.Read.remaining g.C.Write.contents g.D.Dial.ports g.D.Dial.prepared c.loop-client.control c.part-outcome.new.control c.loop-client.dial _ _ _ (rw (w.client-is, w.tally-is, w.fill-then-is_ok.ensures.calls.0) at c.part-outcome.ensures.left))
           (laid_then _ (left_ahead g.D.Conn.Read.remaining) job _ _ _ _ _ _ _ (ahead_of c.loop-client.stream c.loop-client.ahead) c.loop-client.client c.loop-client.client w.fill-then-is_ok.new.client _ _ _ p.laid.given p.laid.going.stage.history c.args.is_scanning scanning count c.whole_shows.ensures p.laid.shelf p.laid.going last
           (λ e. ((w.fill-then-is_ok.ensures.none e).1, ap (λ (x : g.row.S.Denot). g.S.Shelf.stock x) (w.fill-then-is_ok.ensures.none e).2, ap (λ (o : Option g.row.S-Out.Denot). option_map g.S.Out.Write.contents o) (w.fill-then-is_ok.ensures.none e).3))
           (λ is. w.fill-then-is_ok.ensures.drained is w.if-not-fill-2.false))).0))

@@ -16,7 +16,7 @@ invariant-loop-client g l = record {
   held : is_running l.client.outcome ≡ true → l.tally.loss ≡ None;
   up : is_running l.client.outcome ≡ true → l.tally.write_failed ≡ false;
   lying : (job : Job) → IsNewClient job l.fn.client → HasCount job.task → l.fn.is_scanning ≡ scans job.task → option_map g.S.Out.Write.contents l.initial.under ≡ None
-      → Lying (views_of g.C.Read.remaining g.C.Write.contents g.D.Dial.ports) (left_ahead g.D.Conn.Read.remaining) job (record { control = l.initial.control; dial = l.initial.dial }) (g.D.Dial.coming l.initial.dial) (g.S.Shelf.stock l.initial.shelf)
+      → Lying (views_of g.C.Read.remaining g.C.Write.contents g.D.Dial.ports g.D.Dial.prepared) (left_ahead g.D.Conn.Read.remaining) job (record { control = l.initial.control; dial = l.initial.dial }) (g.D.Dial.coming l.initial.dial) (g.S.Shelf.stock l.initial.shelf)
       (notes_of l.tally) (record { control = l.control; dial = l.dial }) (g.D.Dial.coming l.dial) (ahead_of l.stream l.ahead) l.client (g.S.Shelf.stock l.shelf) (option_map g.S.Out.Write.contents l.under);
 }
 

@@ -82,7 +82,7 @@ returns-in_err-told-clause-ran g c = λ job fresh single scan.
       | else-is_ok-via-then-is_ok+else-not-give-2 w ↦ absurd (let clash : true ≡ false = sym w.if-is_ok.true ∙ c.is_ok.ensures.value ∙ ap is_ok c.in_err-told.was in cc)
       | else-is_ok-via-else-is_ok w ↦
           rw w.out-is (run_stopped _ (left_ahead g.D.Conn.Read.remaining) job _ _ _ _ _ _ _ _ (ahead_of c.loop-client.stream c.loop-client.ahead) c.loop-client.client _ c.in_err-told.field-0.0 single c.not_whole_before.ensures ends
-          (leaves_links g.C.Read.remaining g.C.Write.contents g.D.Dial.ports c.loop-client.control c.part-outcome.new.control c.loop-client.dial _ _ _ (rw (w.client-is, w.tally-is) at c.part-outcome.ensures.left)) p)
+          (leaves_links g.C.Read.remaining g.C.Write.contents g.D.Dial.ports g.D.Dial.prepared c.loop-client.control c.part-outcome.new.control c.loop-client.dial _ _ _ (rw (w.client-is, w.tally-is) at c.part-outcome.ensures.left)) p)
     ])
 
 pub returns-clause-ran : goal.returns-clause-ran
@@ -94,7 +94,7 @@ returns-clause-ran g c = λ job fresh single scan.
           let last = to_be_given job.task p.drained.going.fresh p.drained.going.moves c.loop-client.client p.drained.given c.in-Done.reports (sym w.give-then-is_ok.ensures.outcome ∙ done) p.drained.steps in
           rw w.out-is (run_done _ (left_ahead g.D.Conn.Read.remaining) job _ _ _ _ _ _ (ahead_of c.loop-client.stream c.loop-client.ahead) w.give-then-is_ok.new.client _ c.in-Done.reports single c.whole_shows.ensures done
           (closed_parted _ (left_ahead g.D.Conn.Read.remaining) job _ _ _ _ _ _ _ _ (ahead_of c.loop-client.stream c.loop-client.ahead) w.give-then-is_ok.new.client _ (ap is_running done)
-          (leaves_links g.C.Read.remaining g.C.Write.contents g.D.Dial.ports c.loop-client.control c.part-outcome.new.control c.loop-client.dial _ _ _ (rw (w.client-is, w.tally-is, w.give-then-is_ok.ensures.calls.0) at c.part-outcome.ensures.left))
+          (leaves_links g.C.Read.remaining g.C.Write.contents g.D.Dial.ports g.D.Dial.prepared c.loop-client.control c.part-outcome.new.control c.loop-client.dial _ _ _ (rw (w.client-is, w.tally-is, w.give-then-is_ok.ensures.calls.0) at c.part-outcome.ensures.left))
           (given_more _ (left_ahead g.D.Conn.Read.remaining) job _ _ _ _ _ _ (ahead_of c.loop-client.stream c.loop-client.ahead) c.loop-client.client w.give-then-is_ok.new.client _ _ p.drained.given c.args.is_scan single scan p.drained.taken p.drained.none p.drained.going last
           (λ e. ((w.give-then-is_ok.ensures.none e).1, (w.give-then-is_ok.ensures.none e).2)) (λ is_scan. w.give-then-is_ok.ensures.drained is_scan w.if-not-give-2.false))).0))
       | else-is_ok-via-else-is_ok w ↦ absurd (let clash : true ≡ false = sym (c.is_ok.ensures.value ∙ ap is_ok c.in_ok-told.was) ∙ w.if-is_ok.false in cc)

@@ -15,7 +15,7 @@ invariant-loop-client g l = record {
   held : is_running l.client.outcome ≡ true → l.tally.loss ≡ None;
   up : is_running l.client.outcome ≡ true → l.tally.write_failed ≡ false;
   pending : (job : Job) → IsNewClient job l.fn.client → is_batch job.task ≡ false → l.fn.is_scan ≡ true ↔ job.task ≡ tasks.Scan
-      → Pending (views_of g.C.Read.remaining g.C.Write.contents g.D.Dial.ports) (left_ahead g.D.Conn.Read.remaining) job (record { control = l.initial.control; dial = l.initial.dial }) (g.D.Dial.coming l.initial.dial) (g.W.Write.contents l.initial.out)
+      → Pending (views_of g.C.Read.remaining g.C.Write.contents g.D.Dial.ports g.D.Dial.prepared) (left_ahead g.D.Conn.Read.remaining) job (record { control = l.initial.control; dial = l.initial.dial }) (g.D.Dial.coming l.initial.dial) (g.W.Write.contents l.initial.out)
       (notes_of l.tally) (record { control = l.control; dial = l.dial }) (g.D.Dial.coming l.dial) (ahead_of l.stream l.ahead) l.client (g.W.Write.contents l.out);
 }
 
