@@ -1,3 +1,4 @@
 pub mod PlainNumbers
 pub mod PortRanges
 pub mod SocketLines
+pub mod Seeds

@@ -5,10 +5,10 @@ use Rattle.device_api.specs.State.{DeviceState}
 use Rattle.dispatch.specs.Table.{fresh_table}
 use Rattle.dispatch.specs.declared.config_line.ConfigLine.{ConfigLine}
 use Rattle.md5_auth.specs.Challenges.{HasGiven}
-use Rattle.md5_auth.specs.UserLines.{Entry}
+use Rattle.md5_auth.specs.declared.users.Entry.{Entry}
 use Rattle.config_pages.specs.Devices.{IsDeviceOfLine}
 use Rattle.saned_core.specs.DaemonStates.{Core}
-use Rattle.saned_serve.specs.Journal.{ListenerTrace}
+use Rattle.saned_serve.specs.ListenerTraces.{ListenerTrace}
 use Rattle.saned_serve.specs.Serving.{HasServed}
 use Rattle.saned_serve.specs.declared.serving.ServeEnd.{ServeEnd}
 use Rattle.saned_cli.specs.DaemonEndings.{daemon_exit_status}

@@ -24,6 +24,17 @@ fn cannot_read(alloc: Global, name: &str) -> DaemonEnding
     }
 }
 
+/// How it ends where this was what came of opening or reading it.
+fn unread(alloc: Global, name: &str, e: &io::Error) -> DaemonEnding
+    ensures { IsUnreadFile name.now result }
+{
+    if e.kind() == ErrorKind::OutOfMemory {
+        DaemonEnding::NoMemory
+    } else {
+        cannot_read(alloc, name)
+    }
+}
+
 /// The lines of the config of that name, which was opened, or could not be. `CannotRead` with the name where it cannot be
 /// opened or read.
 pub fn config_from<R: Read + Drop>(
@@ -63,13 +74,16 @@ pub fn users_from<R: Read + Drop>(
         (λ all. TellsUsers (take 66049 all) users)) }
     ensures refused { IfErr result (RefusesUsers name.now (given_by R.remaining opened)) }
 {
-    let text = match opened {
-        Ok(reader) => text_of(alloc, reader, MOST_OF_USERS),
-        Err(e) => Err(e),
+    let reader = match opened {
+        Ok(reader) => reader,
+        Err(e) => return Err(unread(alloc, name, &e)),
     };
-    match text {
-        Ok(text) => Users::parse(alloc, text.as_slice()).map_err(DaemonEnding::Users),
-        Err(e) if e.kind() == ErrorKind::OutOfMemory => Err(DaemonEnding::NoMemory),
-        Err(_) => Err(cannot_read(alloc, name)),
+    let text = match text_of(alloc, reader, MOST_OF_USERS) {
+        Ok(text) => text,
+        Err(e) => return Err(unread(alloc, name, &e)),
+    };
+    match Users::parse(alloc, text.as_slice()) {
+        Ok(users) => Ok(users),
+        Err(fault) => Err(DaemonEnding::Users(fault)),
     }
 }

@@ -1,5 +1,5 @@
 //! What the words of a command line have the daemon do, as a plain value.
-ghost use Rattle.std.specs.Prelude.{IfErr, IfNone, IfOk, IfSome, map, string_bytes};
+ghost use Rattle.std.specs.Prelude.{IfErr, IfNone, IfOk, IfSome, map, option_map, string_bytes};
 ghost use Rattle.saned_cli.specs.DaemonPlans.{HasBadSeed, IsDaemonPlanOf, IsDaemonPlanRefusal, IsSeedOf};
 
 use crate::daemon_ending::DaemonEnding;
@@ -16,8 +16,8 @@ pub struct DaemonPlan {
 
 /// The seed of the options; 32 bytes 0 where there is none.
 fn seed_of(options: &DaemonOptions) -> Option<[u8; 32]>
-    ensures some { IfSome result (IsSeedOf options.now.seed) }
-    ensures none { IfNone result (HasBadSeed options.now.seed) }
+    ensures some { IfSome result (IsSeedOf (option_map string_bytes options.now.seed)) }
+    ensures none { IfNone result (HasBadSeed (option_map string_bytes options.now.seed)) }
 {
     match &options.seed {
         None => Some([0; 32]),
@@ -34,7 +34,10 @@ pub fn plan_of(alloc: Global, words: &[String]) -> Result<DaemonPlan, DaemonEndi
     ensures planned { IfOk result (IsDaemonPlanOf (map string_bytes words.now)) }
     ensures refused { IfErr result (IsDaemonPlanRefusal (map string_bytes words.now)) }
 {
-    let options = read_options(alloc, words).map_err(DaemonEnding::of_options)?;
+    let options = match read_options(alloc, words) {
+        Ok(options) => options,
+        Err(fault) => return Err(DaemonEnding::of_options(fault)),
+    };
     match seed_of(&options) {
         Some(seed) => Ok(DaemonPlan { options, seed }),
         None => Err(DaemonEnding::BadSeed),

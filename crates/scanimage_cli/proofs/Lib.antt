@@ -4,3 +4,4 @@ pub mod Finds
 pub mod CutLaw
 pub mod JoinLemmas
 pub mod NetDone
+pub mod Carried

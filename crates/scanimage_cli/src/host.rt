@@ -36,7 +36,7 @@ pub struct HostDial<'a> {
 }
 
 impl<'a> HostDial<'a> {
-    ghost use Rattle.std.specs.Prelude.{◌≡◌, None, IfSome, true, false};
+    ghost use Rattle.std.specs.Prelude.{◌≡◌, None, IfOk, IfSome, true, false};
     ghost use Rattle.std.specs.declared.net.ipv4_addr.Ipv4Addr.{Ipv4Addr as Address};
     ghost use Rattle.scanimage_cli.specs.Host.{IsAddressOf, held_at};
 

@@ -22,6 +22,17 @@ fn cannot_read(alloc: Global, name: &[u8]) -> Ending
     }
 }
 
+/// How it ends where this was what came of opening or reading it.
+fn unread(alloc: Global, name: &[u8], e: &io::Error) -> Ending
+    ensures { IsUnread name.now result }
+{
+    if e.kind() == ErrorKind::OutOfMemory {
+        Ending::no_memory()
+    } else {
+        cannot_read(alloc, name)
+    }
+}
+
 /// The lines of the config of that name, which was opened, or could not be. `CannotRead` with the name where it cannot be
 /// opened or read.
 pub fn config_from<R: Read + Drop>(
@@ -59,13 +70,16 @@ pub fn password_from<R: Read + Drop>(
         (λ all. password ≡ first_line_of (take 1026 all))) }
     ensures refused { IfErr result (IsUnread name.now) }
 {
-    let line = match opened {
-        Ok(reader) => password_line(alloc, reader),
-        Err(e) => Err(e),
+    let reader = match opened {
+        Ok(reader) => reader,
+        Err(e) => return Err(unread(alloc, name, &e)),
     };
-    match line {
-        Ok(line) => Text::from_vec(line).map_err(|_| cannot_read(alloc, name)),
-        Err(e) if e.kind() == ErrorKind::OutOfMemory => Err(Ending::no_memory()),
+    let line = match password_line(alloc, reader) {
+        Ok(line) => line,
+        Err(e) => return Err(unread(alloc, name, &e)),
+    };
+    match Text::from_vec(line) {
+        Ok(password) => Ok(password),
         Err(_) => Err(cannot_read(alloc, name)),
     }
 }

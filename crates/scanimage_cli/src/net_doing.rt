@@ -38,7 +38,7 @@ pub fn do_net_job<C: Read + Write, D: Dial, W: Write>(
     /// that it read and the frames that came: an output that tells its bytes then took the whole file of the picture
     /// that these frames show.
     /// Carried by: `done` of `do_net_job`: `DoesNetJob`
-    ensures done { IfOk result (DoesNetJob (views_of C.remaining C.contents D.ports)
+    ensures done { IfOk result (DoesNetJob (views_of C.remaining C.contents D.ports D.prepared)
         (record { host = host.now; job = job })
         (seen D.coming W.contents (streams control.old dial.old output.old))
         (seen D.coming W.contents (streams control.new dial.new output.new))) }
@@ -47,7 +47,7 @@ pub fn do_net_job<C: Read + Write, D: Dial, W: Write>(
     /// Carried by: `no_file`, `ended` of `do_net_job`
     ensures no_file { OnErr result (StopsShort (W.contents output.old) (W.contents output.new)) }
     ensures ended { IfErr result (EndsNetJob
-        (stream_views (views_of C.remaining C.contents D.ports) D.coming W.contents) job
+        (stream_views (views_of C.remaining C.contents D.ports D.prepared) D.coming W.contents) job
         (streams control.old dial.old output.old) (streams control.new dial.new output.new)) }
     // Its exit status is not 0.
     ensures failed { IfErr result IsFailure }
@@ -77,12 +77,12 @@ pub fn do_net_batch<C: Read + Write, D: Dial, S: Shelf>(
 ) -> Result<Printout, Ending>
     /// `do_net_batch` keeps the same of a batch and its shelf, which kept every page.
     /// Carried by: `done`, `ended` of `do_net_batch`
-    ensures done { IfOk result (DoesNetBatch (views_of C.remaining C.contents D.ports)
+    ensures done { IfOk result (DoesNetBatch (views_of C.remaining C.contents D.ports D.prepared)
         (record { host = host.now; job = job })
         (seen D.coming S.stock (streams control.old dial.old shelf.old))
         (seen D.coming S.stock (streams control.new dial.new shelf.new))) }
     ensures ended { IfErr result (EndsNetBatch
-        (stream_views (views_of C.remaining C.contents D.ports) D.coming S.stock) job
+        (stream_views (views_of C.remaining C.contents D.ports D.prepared) D.coming S.stock) job
         (streams control.old dial.old shelf.old) (streams control.new dial.new shelf.new)) }
     // Its exit status is not 0.
     ensures failed { IfErr result IsFailure }

@@ -223,7 +223,13 @@ pub fn plan_of(alloc: Global, words: &[Text]) -> Result<Plan, Ending>
     /// There is no plan for want of memory alone, or the command line is refused as such.
     ensures refused { IfErr result IsPlanRefusal }
 {
-    let Split { program, settings } = split_words(alloc, words).map_err(Ending::of_split)?;
-    let options = read_options(alloc, program.as_slice()).map_err(Ending::of_options)?;
+    let Split { program, settings } = match split_words(alloc, words) {
+        Ok(split) => split,
+        Err(fault) => return Err(Ending::of_split(fault)),
+    };
+    let options = match read_options(alloc, program.as_slice()) {
+        Ok(options) => options,
+        Err(fault) => return Err(Ending::of_options(fault)),
+    };
     plan_by_options(alloc, options, settings)
 }

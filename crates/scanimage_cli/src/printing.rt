@@ -1,4 +1,4 @@
-ghost use Rattle.std.specs.Prelude.{◌≡◌, OnOk, IfErr};
+ghost use Rattle.std.specs.Prelude.{◌≡◌, [], OnOk, IfErr, IsOk};
 ghost use Rattle.std.specs.Io.KnownBytes.{Appends};
 
 use crate::ending::Ending;
@@ -14,6 +14,8 @@ pub fn print<W: Write>(to: &mut W, lines: &[u8]) -> Result<(), Ending>
     /// Carried by: `whole`, `failed` of `print`
     ensures whole { OnOk result (Appends (W.contents to.old) (W.contents to.new) lines.now) }
     ensures failed { IfErr result (λ ending. ending ≡ Ending.Ended Status.IoError Why.Sink) }
+    // No output fails for nothing.
+    ensures nothing { lines.now ≡ [] → IsOk result }
 {
     let mut again = MOST_AGAIN;
     if put(to, lines, &mut again) {
@@ -34,6 +36,8 @@ pub fn print_all<O: Write, E: Write>(
     ensures table { OnOk result
         (Appends (O.contents out.old) (O.contents out.new) printed.now.table.items) }
     ensures failed { IfErr result (λ ending. ending ≡ Ending.Ended Status.IoError Why.Sink) }
+    // No output fails where there is no table.
+    ensures nothing { printed.now.table.items ≡ [] → IsOk result }
 {
     print(out, &printed.table)?;
     let _ = err.write_all(&printed.rounded);

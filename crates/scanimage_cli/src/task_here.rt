@@ -53,7 +53,9 @@ fn device_name(
     if let Some(name) = named {
         return Ok(name);
     }
-    let devices = registry.list(rt.alloc()).map_err(|_| Ending::no_memory())?;
+    let Ok(devices) = registry.list(rt.alloc()) else {
+        return Err(Ending::no_memory());
+    };
     match devices.into_iter().next() {
         Some(first) => Ok(first.name),
         None => Err(Ending::Ended(Status::Inval, Why::Setting)),
@@ -85,8 +87,12 @@ pub fn run_task<O: Write, E: Write>(
     ensures failed { IfErr result IsFailure }
 {
     if plan.task == Task::List {
-        let devices = registry.list(rt.alloc()).map_err(|_| Ending::no_memory())?;
-        let lines = device_list(rt.alloc(), &[], &devices).map_err(|_| Ending::no_memory())?;
+        let Ok(devices) = registry.list(rt.alloc()) else {
+            return Err(Ending::no_memory());
+        };
+        let Ok(lines) = device_list(rt.alloc(), &[], &devices) else {
+            return Err(Ending::no_memory());
+        };
         return print(out, &lines);
     }
     let device = device_name(rt, registry, device)?;

@@ -1,10 +1,9 @@
 ghost use Rattle.std.specs.Prelude.{◌≡◌, IfOk, IfErr, OnOk};
 ghost use Rattle.scanimage_cli.specs.Programs.{IsConnectedTo, IsDoneThere, IsFailure, RanThere};
-ghost use Rattle.scanimage_cli.specs.declared.host.ControlConnection.{ControlConnection as Control};
 
 use crate::ending::Ending;
 use crate::folder::Folder;
-use crate::host::HostDial;
+use crate::host::{ControlConnection, HostDial};
 use crate::net_doing::{do_net_batch, do_net_job};
 use crate::planning::{Destination, JobPlan, Remote};
 use crate::printed::Printout;
@@ -14,29 +13,40 @@ use sane_fixed::Text;
 use scan_job::Job;
 use std::io::Write;
 
-/// Does a job at its host, over a connection to the port that is asked, its file where it is to go.
-fn run_job<O: Write>(
-    rt: &HostRuntime,
+/// What makes the connections to a host, and the control connection to the port that is asked.
+fn connections<'a>(
+    rt: &'a HostRuntime,
     remote: &Remote,
-    job: Job,
-    destination: Destination,
-    out: &mut O,
-) -> Result<Printout, Ending>
-    ensures connected { OnOk result ((control : Control) × IsConnectedTo remote.now control) }
-    ensures ran { IfOk result (RanThere job remote.now.host destination
-        (O.contents out.old) (O.contents out.new)) }
+) -> Result<(HostDial<'a>, ControlConnection), Ending>
+    ensures connected { IfOk result (λ made. IsConnectedTo remote.now made.1) }
     ensures failed { IfErr result IsFailure }
 {
-    let host = remote.host.as_bytes();
-    let mut dial = HostDial::new(rt, host, remote.dial_first).ok_or(Ending::ending_of_loss())?;
-    let mut control = dial
-        .control(remote.port)
-        .map_err(|_| Ending::ending_of_loss())?;
+    let Some(dial) = HostDial::new(rt, remote.host.as_bytes(), remote.dial_first) else {
+        return Err(Ending::ending_of_loss());
+    };
+    match dial.control(remote.port) {
+        Ok(control) => Ok((dial, control)),
+        Err(_) => Err(Ending::ending_of_loss()),
+    }
+}
+
+/// Does a job over connections to its host, its file where it is to go.
+fn run_job<O: Write>(
+    rt: &HostRuntime,
+    host: &[u8],
+    job: Job,
+    destination: Destination,
+    made: (HostDial<'_>, ControlConnection),
+    out: &mut O,
+) -> Result<Printout, Ending>
+    ensures ran { IfOk result
+        (RanThere job host.now destination (O.contents out.old) (O.contents out.new)) }
+    ensures failed { IfErr result IsFailure }
+{
+    let (mut dial, mut control) = made;
     let stream = &mut control.stream;
     match destination {
-        Destination::StandardOutput => {
-            do_net_job(rt.alloc(), host, job, stream, &mut dial, out)
-        }
+        Destination::StandardOutput => do_net_job(rt.alloc(), host, job, stream, &mut dial, out),
         Destination::Path(path) => {
             let mut file = OutputFile::Unmade(rt, path);
             do_net_job(rt.alloc(), host, job, stream, &mut dial, &mut file)
@@ -72,9 +82,8 @@ pub fn run_net_task<O: Write, E: Write>(
         task,
         destination,
     } = plan;
-    let device = match remote.device.try_clone(rt.alloc()) {
-        Ok(device) => device,
-        Err(_) => return Err(Ending::no_memory()),
+    let Ok(device) = remote.device.try_clone(rt.alloc()) else {
+        return Err(Ending::no_memory());
     };
     let job = Job {
         user,
@@ -87,6 +96,7 @@ pub fn run_net_task<O: Write, E: Write>(
     if let Some(ending) = Ending::of_refused(&job) {
         return Err(ending);
     }
-    let printed = run_job(rt, &remote, job, destination, out)?;
+    let made = connections(rt, &remote)?;
+    let printed = run_job(rt, remote.host.as_bytes(), job, destination, made, out)?;
     print_all(out, err, &printed)
 }
