@@ -1,5 +1,6 @@
 -- What is carried out of a plan, whatever its streams and outputs tell.
-use Rattle.std.proofs.Common.{ℕ, ◌≡◌, ◌≢◌, ap, subst, IsOk, Option, List, [], ◌∷◌, Result, Ok, Err, IfOk, OnOk, OnErr, Some, None, refl, sym, ◌∙◌}
+use Rattle.std.proofs.Common.{ℕ, ◌≡◌, ◌≢◌, ap, subst, IsOk, slice_get, Bool, true, false, Option, List, [], ◌∷◌, Result, Ok, Err, IfOk, OnOk, OnErr, Some, None, refl, sym, ◌∙◌}
+use Rattle.std.specs.Prelude.{⊤}
 use Rattle.std.specs.Io.KnownBytes.{Appends}
 use Rattle.sane_fixed.specs.declared.device_info.DeviceInfo.{DeviceInfo}
 use Rattle.scan_job.specs.FileOutputs.{StopsShort}
@@ -21,6 +22,7 @@ use Rattle.local_job.specs.LocalRun.{LeavesNoFile}
 use Rattle.net_jobs.specs.Links.{LinkViews}
 use Rattle.net_jobs.specs.RunPromises.{SeenStreams}
 use Rattle.scanimage_cli.specs.NetDoing.{DoesNetJob, DoesNetBatch}
+use Rattle.scanimage_cli.specs.Programs.DoesPlanned.{ToOutput, ToPath, ToFolder}
 use Rattle.scanimage_cli.specs.Programs.{AskedHere, DoesPlanned, IsDeviceNamed, IsDoneHere, RanThere, StandardStreams}
 use Rattle.scanimage_cli.specs.declared.ending.Ending.{Ending}
 use Rattle.scanimage_cli.specs.declared.planning.Destination.TheVariants.{StandardOutput, Path, Folder}
@@ -47,8 +49,8 @@ pub nothing_leaves_no_file : (held : Option (List ℕ)) → LeavesNoFile held he
 nothing_leaves_no_file held = λ first taken. record { text = []; taken = taken; not_whole = nothing_is_not_whole }
 
 -- where no name is said it is the first device's
-pub named_first : (named : Option (List ℕ)) (infos items more : List DeviceInfo) (first : DeviceInfo) → named ≡ None → items ≡ infos → items ≡ first ∷ more → IsDeviceNamed named infos first.name
-named_first named infos items more first none is head = subst (λ n. IsDeviceNamed n infos first.name) (sym none) (first, more, sym is ∙ head, refl)
+pub named_first : (named : Option (List ℕ)) (infos items : List DeviceInfo) (first : DeviceInfo) (device : List ℕ) → named ≡ None → items ≡ infos → slice_get items 0 ≡ Some first → device ≡ first.name → IsDeviceNamed named infos device
+named_first named infos items first device none is head same = subst (λ n. IsDeviceNamed n infos device) (sym none) (first, ap (λ l. slice_get l 0) (sym is) ∙ head, same)
 
 -- what a job over the net did with its file at standard output
 pub ran_to_output : {L : Type 0} (views : LinkViews L) (job : Job) (host : List ℕ) (was now : SeenStreams L (Option (List ℕ))) (result : Result Printout Ending)
@@ -98,14 +100,22 @@ listed table asked was now lines task is whole = record { list = λ _. subst (Ap
 
 -- a scan prints no table
 pub scan_prints_none : (destination : Destination) (job : Job) (was now : DeviceAndOutput) (printed : Printout) → job.task ≡ Scan → DoesPlanned destination job was now printed → printed.table.items ≡ []
-scan_prints_none StandardOutput job was now printed is x = x.prints.table ∙ ap (λ t. printed_table t [] job.device x.reports) is
-scan_prints_none (Path path) job was now printed is x = x.0.prints.table ∙ ap (λ t. printed_table t [] job.device x.0.reports) is
-scan_prints_none Folder job was now printed is x = x.0.prints.table ∙ ap (λ t. printed_table t [] job.device x.0.reports) is
+scan_prints_none destination job was now printed is (ToOutput there x) = x.prints.table ∙ ap (λ t. printed_table t [] job.device x.reports) is
+scan_prints_none destination job was now printed is (ToPath path there x kept) = x.prints.table ∙ ap (λ t. printed_table t [] job.device x.reports) is
+scan_prints_none destination job was now printed is (ToFolder there x kept) = x.prints.table ∙ ap (λ t. printed_table t [] job.device x.reports) is
+
+abbrev IsNot : Bool → Type 0
+IsNot false = ⊤
+IsNot true = ⊥
 
 -- what is well has no ending
-pub well_is_no_end : {A E P : Type 0} (result : Result A E) → IsOk result → OnErr result P
-well_is_no_end (Ok value) is = tt
-well_is_no_end (Err fault) is = absurd is
+pub well_is_no_end : {A E : Type 0} (P : Type 0) (result : Result A E) → IsOk result → OnErr result P
+well_is_no_end P (Ok value) is = tt
+well_is_no_end P (Err fault) is = absurd (subst IsNot is tt)
+
+pub if_ok_of : {A E : Type 0} {P Q : A → Type 0} (result : Result A E) → ((value : A) → P value → Q value) → IfOk result P → IfOk result Q
+if_ok_of (Ok value) so is = so value is
+if_ok_of (Err fault) so is = tt
 
 -- options that are complete make the plan of the words
 pub plan_is : (words program : List (List ℕ)) (settings : List (List ℕ × List ℕ)) (options : Options) (result : Result Plan Ending) → split_of words ≡ Some (program, settings) → AreScanimageOptions program options

@@ -1,5 +1,5 @@
 -- What the program scanimage has done where it ends well.
-use Rattle.std.specs.Prelude.{ℕ, ◌≡◌, ◌≢◌, Option, Some, None, Ok, List, ◌∷◌, [], length, All}
+use Rattle.std.specs.Prelude.{ℕ, ◌≡◌, ◌≢◌, Option, Some, None, Ok, List, [], length, slice_get, All}
 use Rattle.std.specs.Io.KnownBytes.{Appends}
 use Rattle.netpbm.specs.Picture.{Picture}
 use Rattle.netpbm.specs.Pnm.{Denotes}
@@ -52,15 +52,15 @@ pub record AskedHere : Type 0 where
 
 -- the device is the named one, or the first that is listed
 abbrev pub IsDeviceNamed : Option (List ℕ) → List DeviceInfo → List ℕ → Type 0
-IsDeviceNamed None infos device = (first : DeviceInfo) × (more : List DeviceInfo) × (infos ≡ first ∷ more) × (device ≡ first.name)
+IsDeviceNamed None infos device = (first : DeviceInfo) × (slice_get infos 0 ≡ Some first) × (device ≡ first.name)
 IsDeviceNamed (Some name) infos device = device ≡ name
 
--- a job on a device, done with its file where it is to go: standard output holds what it held, and the file if it goes there;
--- of the system's files nothing is known
-abbrev pub DoesPlanned : Destination → Job → DeviceAndOutput → DeviceAndOutput → Printout → Type 0
-DoesPlanned StandardOutput job was now printed = DoesJob job was now printed
-DoesPlanned (Path path) job was now printed = DoesJob job (record was { output = None }) (record now { output = None }) printed × (now.output ≡ was.output)
-DoesPlanned Folder job was now printed = DoesBatch job (record { device = was.device; stock = None }) (record { device = now.device; stock = None }) printed × (now.output ≡ was.output)
+-- A job on a device, done with its file where it is to go: standard output holds what it held, and the file if it goes there; of
+-- the system's files nothing is known.
+pub data DoesPlanned (destination : Destination) (job : Job) (was now : DeviceAndOutput) (printed : Printout) : Type 0 where
+  ToOutput : destination ≡ StandardOutput → DoesJob job was now printed → DoesPlanned destination job was now printed
+  ToPath : (path : List ℕ) → destination ≡ Path path → DoesJob job (record was { output = None }) (record now { output = None }) printed → now.output ≡ was.output → DoesPlanned destination job was now printed
+  ToFolder : destination ≡ Folder → DoesBatch job (record { device = was.device; stock = None }) (record { device = now.device; stock = None }) printed → now.output ≡ was.output → DoesPlanned destination job was now printed
 
 -- the job that was asked for is done on the device of the table that it names, and its table is printed behind its file
 pub record HasDoneHere (table : Table) (asked : AskedHere) (was now : StandardStreams) : Type 0 where

@@ -56,8 +56,11 @@ fn device_name(
     let Ok(devices) = registry.list(rt.alloc()) else {
         return Err(Ending::no_memory());
     };
-    match devices.into_iter().next() {
-        Some(first) => Ok(first.name),
+    match devices.first() {
+        Some(first) => match first.name.try_clone(rt.alloc()) {
+            Ok(name) => Ok(name),
+            Err(_) => Err(Ending::no_memory()),
+        },
         None => Err(Ending::Ended(Status::Inval, Why::Setting)),
     }
 }
