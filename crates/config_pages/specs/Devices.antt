@@ -39,13 +39,3 @@ pub record IsFeederOfLine (line : ConfigLine) (order : ByteOrder) (device : Devi
   pub sources : List SourceState
   pub pages : HasPageSources line sources
   pub is_new : device ≡ new_device kinds.Feeder (device_name line.kind line.index) sources order
-
--- the device of a line of any kind
-abbrev pub IsDeviceOfKind : DeviceKind → ByteOrder → ConfigLine → DeviceState → Type 0
-IsDeviceOfKind kinds.Flatbed order line device = IsScannerOfLine kinds.Flatbed line order device
-IsDeviceOfKind kinds.Hand order line device = IsScannerOfLine kinds.Hand line order device
-IsDeviceOfKind kinds.ThreePass order line device = IsScannerOfLine kinds.ThreePass line order device
-IsDeviceOfKind kinds.Feeder order line device = IsFeederOfLine line order device
-
-abbrev pub IsDeviceOfLine : ByteOrder → ConfigLine → DeviceState → Type 0
-IsDeviceOfLine order line device = IsDeviceOfKind line.kind order line device

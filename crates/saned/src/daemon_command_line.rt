@@ -1,4 +1,5 @@
 ghost use Rattle.std.specs.Prelude.{◌≡◌, [], None, IfOk, IfErr};
+ghost use Rattle.md5_auth.specs.UserLines.{TellsUsers};
 ghost use Rattle.saned_cli.specs.WholeDaemon.{IsDaemonFailure};
 
 use dispatch::ConfigLine;
@@ -41,11 +42,14 @@ pub fn config_lines(
 
 /// The users of the users file; none where there is no such file.
 pub fn users(rt: &HostRuntime, options: &DaemonOptions) -> Result<Users, DaemonEnding>
-    ensures none { options.now.users ≡ None → IfOk result (λ users. users ≡ []) }
+    ensures none { options.now.users ≡ None → IfOk result (TellsUsers []) }
     ensures failed { IfErr result IsDaemonFailure }
 {
     match &options.users {
-        None => Users::parse(rt.alloc(), b"").map_err(DaemonEnding::Users),
+        None => match Users::parse(rt.alloc(), b"") {
+            Ok(users) => Ok(users),
+            Err(fault) => Err(DaemonEnding::Users(fault)),
+        },
         Some(path) => users_from(rt.alloc(), path.as_str(), File::open(rt, path.as_str())),
     }
 }

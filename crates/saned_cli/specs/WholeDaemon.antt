@@ -1,12 +1,10 @@
 -- What the program saned does, from the words of its command line to the calls of its daemon.
 use Rattle.std.specs.Prelude.{ℕ, ◌≡◌, ◌≢◌, None, Option, List, [], ◌∷◌}
-use Rattle.std.specs.List.{AllZip}
 use Rattle.device_api.specs.State.{DeviceState}
 use Rattle.dispatch.specs.Table.{fresh_table}
-use Rattle.dispatch.specs.declared.config_line.ConfigLine.{ConfigLine}
 use Rattle.md5_auth.specs.Challenges.{HasGiven}
+use Rattle.md5_auth.specs.UserLines.{TellsUsers}
 use Rattle.md5_auth.specs.declared.users.Entry.{Entry}
-use Rattle.config_pages.specs.Devices.{IsDeviceOfLine}
 use Rattle.saned_core.specs.DaemonStates.{Core}
 use Rattle.saned_serve.specs.ListenerTraces.{ListenerTrace}
 use Rattle.saned_serve.specs.Serving.{HasServed}
@@ -36,17 +34,15 @@ pub record IsServedBy (plan : DaemonPlan) (daemon : Core) : Type 0 where
   pub end : ServeEnd
   pub served : HasServed (record { sessions = plan.options.sessions; idle_turns = plan.options.idle_turns }) (record { daemon = daemon; listeners = began }) (record { daemon = last; listeners = listened }) end
 
--- **has served for its words (`HasServedFor`, `IsDaemonOf`, `IsServedBy`)**: the words have a plan, and the daemon of it, with a device for each
--- line of the config, in their order, and with these users, has served to the plan's end of sessions or idle turns; where the
--- plan names no users, there are none.
+-- **has served for its words (`HasServedFor`, `IsDaemonOf`, `IsServedBy`)**: the words have a plan, and the daemon of it, of some
+-- devices and users, has served to the plan's end of sessions or idle turns; where the plan names no users, they are those of an
+-- empty text.
 pub record HasServedFor (words : List (List ℕ)) : Type 0 where
   pub plan : DaemonPlan
   pub is_plan : IsDaemonPlanOf words plan
-  pub lines : List ConfigLine
   pub devices : List DeviceState
-  pub made : AllZip (IsDeviceOfLine plan.options.byte_order) lines devices
   pub users : List Entry
-  pub no_users : plan.options.users ≡ None → users ≡ []
+  pub no_users : plan.options.users ≡ None → TellsUsers [] users
   pub first : Core
   pub begun : IsDaemonOf plan devices users first
   pub serves : IsServedBy plan first

@@ -1,12 +1,7 @@
 -- What the program scanimage does, from the words of its command line to what its standard streams hold.
 use Rattle.std.specs.Prelude.{ℕ, ◌≡◌, None, List, []}
-use Rattle.std.specs.List.{AllZip}
-use Rattle.sane_fixed.specs.declared.byte_order.ByteOrder.{ByteOrder}
-use Rattle.sane_fixed.specs.declared.byte_order.ByteOrder.TheVariants.{Big}
 use Rattle.device_api.specs.State.{DeviceState}
 use Rattle.dispatch.specs.Table.{fresh_table}
-use Rattle.dispatch.specs.declared.config_line.ConfigLine.{ConfigLine}
-use Rattle.config_pages.specs.Devices.{IsDeviceOfLine}
 use Rattle.scanimage_cli.specs.Plans.{IsPlanOf}
 use Rattle.scanimage_cli.specs.Programs.{StandardStreams, IsDoneHere, IsDoneThere}
 use Rattle.scanimage_cli.specs.declared.planning.JobPlan.{JobPlan}
@@ -19,15 +14,12 @@ abbrev pub IsDoneAt : Location → List DeviceState → JobPlan → List ℕ →
 IsDoneAt (Here device) devices plan password was now = IsDoneHere (fresh_table devices) (record { device = device; plan = plan; password = password }) was now
 IsDoneAt (There remote) devices plan password was now = IsDoneThere (record { remote = remote; plan = plan; password = password }) was now
 
--- **has run (`HasRun`, `IsDoneAt`)**: the words have a plan, and it is carried out: on the devices of the config's lines, each of
--- its line and in their order, or at the host; without a config there is no device, without a password file an empty password.
+-- **has run (`HasRun`, `IsDoneAt`)**: the words have a plan, and it is carried out: on one of some devices here, or at the host;
+-- without a password file the password is empty.
 pub record HasRun (words : List (List ℕ)) (was now : StandardStreams) : Type 0 where
   pub plan : Plan
   pub is_plan : IsPlanOf words plan
-  pub lines : List ConfigLine
-  pub no_config : plan.config ≡ None → lines ≡ []
   pub devices : List DeviceState
-  pub made : AllZip (IsDeviceOfLine Big) lines devices
   pub password : List ℕ
   pub no_password : plan.password_file ≡ None → password ≡ []
   pub does : IsDoneAt plan.location devices plan.job password was now
