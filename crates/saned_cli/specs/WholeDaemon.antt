@@ -44,5 +44,5 @@ pub record HasServedFor (words : List (List ℕ)) : Type 0 where
   pub users : List Entry
   pub no_users : plan.options.users ≡ None → TellsUsers [] users
   pub first : Core
-  pub begun : IsDaemonOf plan devices users first
   pub serves : IsServedBy plan first
+  pub begun : IsDaemonOf plan devices users first
