@@ -1,1 +1,2 @@
-mod PageLists
+pub mod PageLists
+mod LimitedReads

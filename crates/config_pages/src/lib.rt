@@ -1,11 +1,15 @@
-//! The pages that the lines of a config name, and the scanners on them.
+//! The text of a config, the pages that its lines name, and the scanners on them.
 #![tactic(auto)]
 
+mod config_reading;
 mod devices;
+mod limited_reading;
 mod no_page;
 mod opening;
 mod spelled;
 
+pub use config_reading::{ConfigFailure, read_config};
 pub use devices::{DeviceFault, feeder, flatbed, hand_scanner, three_pass};
+pub use limited_reading::text_of;
 pub use no_page::{NoPage, PageSourceFault};
 pub use opening::page_source;

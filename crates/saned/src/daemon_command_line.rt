@@ -1,22 +1,18 @@
-use dispatch::{ConfigLine, parse_config};
+ghost use Rattle.std.specs.Prelude.{◌≡◌, [], None, IfOk, IfErr};
+ghost use Rattle.md5_auth.specs.UserLines.{TellsUsers};
+ghost use Rattle.saned_cli.specs.WholeDaemon.{IsDaemonFailure};
+
+use dispatch::ConfigLine;
 use md5_auth::Users;
-use saned_cli::{
-    DaemonEnding, DaemonOptions, DaemonOptionsFault, MOST_OF_CONFIG, MOST_OF_USERS, read_options,
-    read_seed, text_of,
-};
+use saned_cli::{DaemonEnding, DaemonOptions, config_from, users_from};
 use std::env;
 use std::fs::File;
-use std::io::{self, ErrorKind};
-
-fn options_ending(fault: DaemonOptionsFault) -> DaemonEnding {
-    match fault {
-        DaemonOptionsFault::Bad => DaemonEnding::BadCommandLine,
-        DaemonOptionsFault::NoMem => DaemonEnding::NoMemory,
-    }
-}
+use std::io::ErrorKind;
 
 /// The words of the command line, the program's name first; none where one is not UTF-8.
-fn words(rt: &HostRuntime) -> Result<Vec<String>, DaemonEnding> {
+pub fn words(rt: &HostRuntime) -> Result<Vec<String>, DaemonEnding>
+    ensures failed { IfErr result IsDaemonFailure }
+{
     let words = match env::args(rt) {
         Ok(words) => words,
         Err(e) if e.kind() == ErrorKind::OutOfMemory => return Err(DaemonEnding::NoMemory),
@@ -29,61 +25,31 @@ fn words(rt: &HostRuntime) -> Result<Vec<String>, DaemonEnding> {
     Ok(all)
 }
 
-/// The options of the command line.
-pub fn command_line(rt: &HostRuntime) -> Result<DaemonOptions, DaemonEnding> {
-    let words = words(rt)?;
-    read_options(rt.alloc(), words.as_slice()).map_err(options_ending)
-}
-
-/// The seed of the options; 32 bytes 0 where there is none.
-pub fn seed(options: &DaemonOptions) -> Result<[u8; 32], DaemonEnding> {
-    match &options.seed {
-        None => Ok([0; 32]),
-        Some(text) => read_seed(text.as_str().as_bytes()).ok_or(DaemonEnding::BadSeed),
-    }
-}
-
-/// How the program ends where the text of a path is not there.
-fn unread(rt: &HostRuntime, path: &str, e: &io::Error) -> DaemonEnding {
-    if e.kind() == ErrorKind::OutOfMemory {
-        return DaemonEnding::NoMemory;
-    }
-    match String::from_str(rt.alloc(), path) {
-        Ok(path) => DaemonEnding::CannotRead(path),
-        Err(_) => DaemonEnding::NoMemory,
-    }
-}
-
-/// The first bytes of a file.
-fn file_text(rt: &HostRuntime, path: &str, most: u64) -> io::Result<Vec<u8>> {
-    text_of(rt.alloc(), File::open(rt, path)?, most)
-}
-
 /// The lines of the config, which `-` says is standard input.
 pub fn config_lines(
     rt: &HostRuntime,
     options: &DaemonOptions,
-) -> Result<Vec<ConfigLine>, DaemonEnding> {
+) -> Result<Vec<ConfigLine>, DaemonEnding>
+    ensures failed { IfErr result IsDaemonFailure }
+{
     let path = options.config.as_str();
-    let text = if path == "-" {
-        text_of(rt.alloc(), rt.stdin(), MOST_OF_CONFIG)
+    if path == "-" {
+        config_from(rt.alloc(), path, Ok(rt.stdin()))
     } else {
-        file_text(rt, path, MOST_OF_CONFIG)
-    };
-    match text {
-        Ok(text) => parse_config(rt.alloc(), text.as_slice()).map_err(DaemonEnding::Config),
-        Err(e) => Err(unread(rt, path, &e)),
+        config_from(rt.alloc(), path, File::open(rt, path))
     }
 }
 
 /// The users of the users file; none where there is no such file.
-pub fn users(rt: &HostRuntime, options: &DaemonOptions) -> Result<Users, DaemonEnding> {
-    let text = match &options.users {
-        None => Ok(Vec::new(rt.alloc())),
-        Some(path) => file_text(rt, path.as_str(), MOST_OF_USERS).map_err(|e| {
-            unread(rt, path.as_str(), &e)
-        }),
-    };
-    let text = text?;
-    Users::parse(rt.alloc(), text.as_slice()).map_err(DaemonEnding::Users)
+pub fn users(rt: &HostRuntime, options: &DaemonOptions) -> Result<Users, DaemonEnding>
+    ensures none { options.now.users ≡ None → IfOk result (TellsUsers []) }
+    ensures failed { IfErr result IsDaemonFailure }
+{
+    match &options.users {
+        None => match Users::parse(rt.alloc(), b"") {
+            Ok(users) => Ok(users),
+            Err(fault) => Err(DaemonEnding::Users(fault)),
+        },
+        Some(path) => users_from(rt.alloc(), path.as_str(), File::open(rt, path.as_str())),
+    }
 }

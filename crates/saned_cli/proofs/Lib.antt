@@ -1,4 +1,4 @@
-pub mod LimitedReads
 pub mod PlainNumbers
 pub mod PortRanges
 pub mod SocketLines
+pub mod Seeds

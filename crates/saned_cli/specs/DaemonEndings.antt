@@ -1,5 +1,7 @@
 -- The exit statuses of saned.
 use Rattle.std.specs.Prelude.{ℕ}
+use Rattle.config_pages.specs.declared.devices.DeviceFault.{DeviceFault}
+use Rattle.config_pages.specs.declared.devices.DeviceFault.TheVariants.{NoPage, NoMem}
 use Rattle.saned_cli.specs.declared.daemon_ending.DaemonEnding.{DaemonEnding}
 use Rattle.saned_cli.specs.declared.daemon_ending.DaemonEnding.TheVariants.{BadCommandLine, BadSeed, CannotRead, Config, Page, Users, CannotListen, NoMemory}
 
@@ -13,3 +15,8 @@ daemon_exit_status (Page line why) = 65
 daemon_exit_status (Users fault) = 65
 daemon_exit_status CannotListen = 9
 daemon_exit_status NoMemory = 10
+
+-- a line of the config has no scanner: its page is not there, or there is no memory
+abbrev pub ended_by_device : ℕ → DeviceFault → DaemonEnding
+ended_by_device line (NoPage why) = Page line why
+ended_by_device line NoMem = NoMemory

@@ -1,4 +1,5 @@
-use config_pages::NoPage;
+use crate::daemon_options::DaemonOptionsFault;
+use config_pages::{DeviceFault, NoPage};
 use dispatch::ConfigFault;
 use md5_auth::LineFault;
 use std::io;
@@ -24,8 +25,31 @@ pub enum DaemonEnding {
 }
 
 impl DaemonEnding {
-    ghost use Rattle.std.specs.Prelude.{◌≡◌};
-    ghost use Rattle.saned_cli.specs.DaemonEndings.{daemon_exit_status};
+    ghost use Rattle.std.specs.Prelude.{◌≡◌, ◌⊎◌};
+    ghost use Rattle.saned_cli.specs.DaemonEndings.{daemon_exit_status, ended_by_device};
+    ghost use Rattle.saned_cli.specs.declared.daemon_ending.DaemonEnding.TheVariants.{BadCommandLine, NoMemory};
+
+    /// The words of the command line are no options.
+    pub fn of_options(fault: DaemonOptionsFault) -> DaemonEnding
+        /// Words that are no options end the program as a bad command line, or there is no memory.
+        ensures { (result ≡ BadCommandLine) ⊎ (result ≡ NoMemory) }
+    {
+        match fault {
+            DaemonOptionsFault::Bad => DaemonEnding::BadCommandLine,
+            DaemonOptionsFault::NoMem => DaemonEnding::NoMemory,
+        }
+    }
+
+    /// The config's line of that number has no scanner.
+    pub fn of_device(line: u32, fault: DeviceFault) -> DaemonEnding
+        /// A line of the config without a scanner is told by its number and why its page is not there, or as out of memory.
+        ensures { result ≡ ended_by_device line fault }
+    {
+        match fault {
+            DeviceFault::NoPage(why) => DaemonEnding::Page(line, why),
+            DeviceFault::NoMem => DaemonEnding::NoMemory,
+        }
+    }
 
     /// The exit status of the program.
     pub fn daemon_exit_status(&self) -> u8

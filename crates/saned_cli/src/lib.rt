@@ -3,11 +3,12 @@
 #![tactic(auto)]
 
 mod daemon_ending;
+mod daemon_inputs;
 mod daemon_options;
+mod daemon_plan;
 mod daemon_words;
 mod data_port;
 mod data_ports;
-mod limited_reading;
 mod local;
 mod pace;
 mod seed;
@@ -16,9 +17,10 @@ mod socket_table;
 mod table_fields;
 
 pub use daemon_ending::DaemonEnding;
+pub use daemon_inputs::{config_from, users_from};
 pub use daemon_options::{DaemonOptions, DaemonOptionsFault, read_options};
+pub use daemon_plan::{DaemonPlan, plan_of};
 pub use data_ports::{PortRange, port_range};
-pub use limited_reading::{MOST_OF_CONFIG, MOST_OF_USERS, text_of};
 pub use local::{LocalNet, LocalSocket};
 pub use saned_serve::{Got, Listeners, ServeEnd, Socket, serve};
 pub use seed::read_seed;

@@ -1,7 +1,7 @@
 pub mod CutLemmas
 pub mod OutputLines
-pub mod Reading
 pub mod Finds
 pub mod CutLaw
 pub mod JoinLemmas
 pub mod NetDone
+pub mod Carried

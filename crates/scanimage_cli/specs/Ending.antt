@@ -1,15 +1,18 @@
 -- The exit statuses of scanimage, and the lines that tell its endings.
-use Rattle.std.specs.Prelude.{ℕ, ◌≡◌, ◌∷◌, [], List, Option, Some, None, codes, decimal}
+use Rattle.std.specs.Prelude.{ℕ, ◌≡◌, ◌⊎◌, ◌∷◌, [], List, Option, Some, None, codes, decimal}
 use Rattle.std.specs.List.{concat}
 use Rattle.sane_fixed.specs.Status.{status_code, status_name}
-use Rattle.sane_fixed.specs.declared.status.Status.TheVariants.{Inval}
+use Rattle.sane_fixed.specs.declared.status.Status.TheVariants.{Inval, NoMem}
 use Rattle.scan_job.specs.declared.job.Job.{Job}
-use Rattle.scan_job.specs.declared.outcome.Why.TheVariants.{Setting}
+use Rattle.scan_job.specs.declared.outcome.Why.TheVariants.{Memory, Setting}
 use Rattle.scan_job.specs.declared.stop.Stop.{Stop}
 use Rattle.scan_job.specs.JobSize.{HasJobFault}
 use Rattle.scan_job.specs.Why.{why_word}
 use Rattle.dispatch.specs.ConfigReasons.{config_reason_text}
 use Rattle.config_pages.specs.Texts.{no_page_text}
+use Rattle.config_pages.specs.declared.devices.DeviceFault.{DeviceFault}
+use Rattle.config_pages.specs.declared.devices.DeviceFault.TheVariants as faults
+use Rattle.config_pages.specs.declared.devices.DeviceFault.TheVariants.{NoPage}
 use Rattle.scanimage_cli.specs.declared.ending.Ending.{Ending}
 use Rattle.scanimage_cli.specs.declared.ending.Ending.TheVariants.{BadCommandLine, CannotRead, Config, Page, Ended}
 
@@ -21,6 +24,15 @@ exit_status (CannotRead path) = 65
 exit_status (Config fault) = 65
 exit_status (Page line why) = 65
 exit_status (Ended status why) = status_code status
+
+-- a line of the config has no scanner: its page is not there, or there is no memory
+abbrev pub ended_by_device : ℕ → DeviceFault → Ending
+ended_by_device line (NoPage why) = Page line why
+ended_by_device line faults.NoMem = Ended NoMem Memory
+
+-- there is no memory for a plan, or the command line is refused
+abbrev pub IsPlanRefusal : Ending → Type 0
+IsPlanRefusal ending = (ending ≡ Ended NoMem Memory) ⊎ (ending ≡ BadCommandLine)
 
 -- a job that stopped is told by its status and why
 abbrev pub ended_by : Stop → Ending

@@ -13,4 +13,7 @@ pub mod NetDoing
 pub mod Printing
 pub mod Programs
 pub mod Host
+pub mod Plans
+pub mod Inputs
+pub mod Whole
 pub mod Inside

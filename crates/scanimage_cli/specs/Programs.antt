@@ -1,69 +1,133 @@
 -- What the program scanimage has done where it ends well.
-use Rattle.std.specs.Prelude.{ℕ, ◌≡◌, ◌≢◌, ◌⊎◌, Option, Some, None, List, [], IfSome, true, if◌then◌else◌, Bool, codes}
+use Rattle.std.specs.Prelude.{ℕ, ◌≡◌, ◌≢◌, Option, Some, None, Ok, List, [], length, slice_get, All}
+use Rattle.std.specs.Io.KnownBytes.{Appends}
+use Rattle.netpbm.specs.Picture.{Picture}
+use Rattle.netpbm.specs.Pnm.{Denotes}
+use Rattle.page_picture.specs.Shows.{ShowsFrames}
+use Rattle.sane_fixed.specs.declared.device_info.DeviceInfo.{DeviceInfo}
 use Rattle.device_api.specs.State.{DeviceState}
+use Rattle.dispatch.specs.Table.{Table, listed_infos, unplug_answer}
 use Rattle.scan_job.specs.declared.job.Job.{Job}
+use Rattle.scan_job.specs.declared.job.Task.TheVariants.{List as ListTask, Scan}
 use Rattle.scan_job.specs.declared.outcome.Outcome.TheVariants.{Done}
 use Rattle.scan_job.specs.declared.report.Reports.{Reports}
 use Rattle.client_replies.specs.ProtocolStates.{target_of}
+use Rattle.net_jobs.specs.Batches.{MayScan, pages_of, IsPageFile}
 use Rattle.net_jobs.specs.JobTraces.{JobTrace, TraceEvent, EventsLead, initial_trace}
-use Rattle.scanimage_cli.specs.Asked.{task_asked}
-use Rattle.scanimage_cli.specs.DeviceList.{net_prefix}
+use Rattle.local_job.specs.LocalRun.{DeviceAndOutput}
+use Rattle.scanimage_cli.specs.DeviceList.{device_lines, net_prefix}
 use Rattle.scanimage_cli.specs.Doing.{DoesJob, DoesBatch}
 use Rattle.scanimage_cli.specs.Ending.{exit_status}
+use Rattle.scanimage_cli.specs.Host.{IsAddressOf}
 use Rattle.scanimage_cli.specs.Printing.{Prints}
 use Rattle.scanimage_cli.specs.declared.ending.Ending.{Ending}
-use Rattle.scanimage_cli.specs.declared.options.Options.{Options}
+use Rattle.scanimage_cli.specs.declared.host.ControlConnection.{ControlConnection}
+use Rattle.scanimage_cli.specs.declared.planning.Destination.{Destination}
+use Rattle.scanimage_cli.specs.declared.planning.Destination.TheVariants.{StandardOutput, Path, Folder}
+use Rattle.scanimage_cli.specs.declared.planning.JobPlan.{JobPlan}
+use Rattle.scanimage_cli.specs.declared.planning.Remote.{Remote}
 use Rattle.scanimage_cli.specs.declared.printed.Printout.{Printout}
 
 -- an ending whose exit status is not 0
 abbrev pub IsFailure : Ending → Type 0
 IsFailure ending = exit_status ending ≢ 0
 
-abbrev pub user_or_anybody : Option (List ℕ) → List ℕ
-user_or_anybody None = codes "user"
-user_or_anybody (Some user) = user
+-- what standard output and standard error hold, where they tell
+pub record StandardStreams : Type 0 where
+  pub out : Option (List ℕ)
+  pub err : Option (List ℕ)
 
--- the job that the options ask for, with these settings and this password, on the device of that name
-pub record IsJobAsked (options : Options) (settings : List (List ℕ × List ℕ)) (password device : List ℕ) (job : Job) : Type 0 where
-  pub user : job.user ≡ user_or_anybody options.user
+-- the job of a plan, with this password
+pub record IsJobOf (plan : JobPlan) (password : List ℕ) (job : Job) : Type 0 where
+  pub user : job.user ≡ plan.user
   pub password_is : job.password ≡ password
-  pub device_is : job.device ≡ device
-  pub settings_are : job.settings.items ≡ settings
-  pub task : job.task ≡ task_asked options
+  pub settings_are : job.settings ≡ plan.settings
+  pub task : job.task ≡ plan.task
 
--- the job, or the batch, is done on a scanner, and what its reports come to is to be printed; of the system's files nothing is known
-pub record RanHere (job : Job) (printed : Printout) : Type 0 where
+-- a job that is asked for here: its device, where one is named, the rest of its plan, and the password
+pub record AskedHere : Type 0 where
+  pub device : Option (List ℕ)
+  pub plan : JobPlan
+  pub password : List ℕ
+
+-- the device is the named one, or the first that is listed
+abbrev pub IsDeviceNamed : Option (List ℕ) → List DeviceInfo → List ℕ → Type 0
+IsDeviceNamed None infos device = (first : DeviceInfo) × (slice_get infos 0 ≡ Some first) × (device ≡ first.name)
+IsDeviceNamed (Some name) infos device = device ≡ name
+
+-- A job on a device, done with its file where it is to go: standard output holds what it held, and the file if it goes there; of
+-- the system's files nothing is known.
+pub data DoesPlanned (destination : Destination) (job : Job) (was now : DeviceAndOutput) (printed : Printout) : Type 0 where
+  ToOutput : destination ≡ StandardOutput → DoesJob job was now printed → DoesPlanned destination job was now printed
+  ToPath : (path : List ℕ) → destination ≡ Path path → DoesJob job (record was { output = None }) (record now { output = None }) printed → now.output ≡ was.output → DoesPlanned destination job was now printed
+  ToFolder : destination ≡ Folder → DoesBatch job (record { device = was.device; stock = None }) (record { device = now.device; stock = None }) printed → now.output ≡ was.output → DoesPlanned destination job was now printed
+
+-- the job that was asked for is done on the device of the table that it names, and its table is printed behind its file
+pub record HasDoneHere (table : Table) (asked : AskedHere) (was now : StandardStreams) : Type 0 where
+  pub job : Job
+  pub asked_for : IsJobOf asked.plan asked.password job
+  pub named : IsDeviceNamed asked.device (listed_infos table) job.device
   pub old : DeviceState
   pub new : DeviceState
-  pub does : DoesJob job (record { device = old; output = None }) (record { device = new; output = None }) printed ⊎ DoesBatch job (record { device = old; stock = None }) (record { device = new; stock = None }) printed
-
--- such a job was done on a scanner of this machine: on the named one, where one is named
-pub record HasDoneHere (options : Options) (settings : List (List ℕ × List ℕ)) (password : List ℕ) : Type 0 where
-  pub device : List ℕ
-  pub job : Job
-  pub asked : IsJobAsked options settings password device job
-  pub named : IfSome options.device_name (λ name. device ≡ name)
+  pub found : unplug_answer table job.device ≡ Ok old
+  pub behind : Option (List ℕ)
   pub printed : Printout
-  pub ran : RanHere job printed
+  pub does : DoesPlanned asked.plan.destination job (record { device = old; output = was.out }) (record { device = new; output = behind }) printed
+  pub printed_out : Appends behind now.out printed.table.items
 
--- the job is done by the client's rules, for replies and frames that came, and what its reports come to is to be printed
-pub record RanThere (job : Job) (host : List ℕ) (printed : Printout) : Type 0 where
+-- **done by the program (`IsDoneHere`, `HasDoneHere`, `IsJobOf`, `DoesPlanned`)**: a list prints a line for each device that is
+-- listed, in order; anything else is the job of the plan, with the password, on the device that is named, or the first, its file
+-- where the plan has it go.
+pub record IsDoneHere (table : Table) (asked : AskedHere) (was now : StandardStreams) : Type 0 where
+  pub list : asked.plan.task ≡ ListTask → Appends was.out now.out (device_lines [] (listed_infos table))
+  pub job : asked.plan.task ≢ ListTask → HasDoneHere table asked was now
+
+-- a job's one file: the text that was written is the whole file of the picture that the frames show, or nothing, where the job
+-- is no scan
+pub record GaveFile (job : Job) (trace : JobTrace) (was now : Option (List ℕ)) : Type 0 where
+  pub text : List ℕ
+  pub taken : Appends was now text
+  pub file : job.task ≡ Scan → (p : Picture) × ShowsFrames trace.protocol.history.ended p × Denotes text p
+  pub none : job.task ≢ Scan → text ≡ []
+
+-- the file, or the files of a batch, went where they were to go; of the system's files nothing is known
+abbrev pub GavePlanned : Destination → Job → JobTrace → Option (List ℕ) → Option (List ℕ) → Type 0
+GavePlanned StandardOutput job trace was now = GaveFile job trace was now
+GavePlanned (Path path) job trace was now = GaveFile job trace None None × (now ≡ was)
+GavePlanned Folder job trace was now = MayScan job.task (length (pages_of trace)) × All IsPageFile (pages_of trace) × (now ≡ was)
+
+-- the job is done by the client's rules, for replies and frames that came, its file where it is to go, and what its reports
+-- come to is to be printed
+pub record RanThere (job : Job) (host : List ℕ) (destination : Destination) (was now : Option (List ℕ)) (printed : Printout) : Type 0 where
   pub reports : Reports
   pub trace : JobTrace
   pub events : List TraceEvent
   pub runs : EventsLead (target_of job) (initial_trace job) events trace
   pub told : trace.protocol.outcome ≡ Done reports
+  pub gave : GavePlanned destination job trace was now
   pub prints : Prints job.task (net_prefix host) job.device reports printed
 
--- such a job was done on a daemon of that host; one that lists devices has no settings
-pub record HasDoneThere (options : Options) (settings : List (List ℕ × List ℕ)) (password host device : List ℕ) : Type 0 where
-  pub job : Job
-  pub asked : IsJobAsked options (if options.list_devices then [] else settings) password device job
-  pub printed : Printout
-  pub ran : RanThere job host printed
+-- a job that is asked of a host: the rest of its plan, and the password
+pub record AskedThere : Type 0 where
+  pub remote : Remote
+  pub plan : JobPlan
+  pub password : List ℕ
 
--- **done by the program (`IsDoneHere`, `IsJobAsked`, `HasDoneHere`, `HasDoneThere`)**: a list is asked of this machine; or
--- a job with the user, password, device, settings and task that the options ask for, done on a scanner here, or by the
--- client's rules on a daemon of the host that was asked.
-abbrev pub IsDoneHere : Options → List (List ℕ × List ℕ) → List ℕ → Type 0
-IsDoneHere options settings password = (options.list_devices ≡ true) ⊎ HasDoneHere options settings password
+-- the control connection was made to the host's address and the port that is asked
+pub record IsConnectedTo (remote : Remote) (control : ControlConnection) : Type 0 where
+  pub address : IsAddressOf remote.host control.address
+  pub port : control.port ≡ remote.port
+
+-- **done at a host (`IsDoneThere`, `RanThere`, `IsConnectedTo`)**: the job of the plan, with the password, for the device that is
+-- asked for there, done by the client's rules over a connection to the host and port that are asked, its file where the plan
+-- has it go, and behind it its list or table is printed.
+pub record IsDoneThere (asked : AskedThere) (was now : StandardStreams) : Type 0 where
+  pub job : Job
+  pub asked_for : IsJobOf asked.plan asked.password job
+  pub device : job.device ≡ asked.remote.device
+  pub control : ControlConnection
+  pub connected : IsConnectedTo asked.remote control
+  pub behind : Option (List ℕ)
+  pub printed : Printout
+  pub ran : RanThere job asked.remote.host asked.plan.destination was.out behind printed
+  pub printed_out : Appends behind now.out printed.table.items

@@ -2,8 +2,10 @@ ghost use Rattle.std.specs.Prelude.{OnOk};
 ghost use Rattle.std.specs.Io.KnownBytes.{Appends};
 ghost use Rattle.scanimage_cli.specs.Ending.{config_line_text};
 
+use crate::options::OptionsFault;
 use crate::pieces::write_pieces;
-use config_pages::NoPage;
+use crate::word_cut::SplitFault;
+use config_pages::{DeviceFault, NoPage};
 use dispatch::ConfigFault;
 use itoa::Buffer;
 use sane_fixed::{Status, Text};
@@ -28,13 +30,44 @@ pub enum Ending {
 impl Ending {
     ghost use Rattle.std.specs.Prelude.{◌≡◌, OnOk};
     ghost use Rattle.std.specs.Io.KnownBytes.{Appends};
-    ghost use Rattle.scanimage_cli.specs.Ending.{ended_by, exit_status, ending_line, JobIsRefusedAs};
+    ghost use Rattle.scanimage_cli.specs.Ending.{ended_by, ended_by_device, exit_status, ending_line, IsPlanRefusal, JobIsRefusedAs};
 
     /// A job stopped so.
     pub fn of(stop: Stop) -> Ending
         ensures { result ≡ ended_by stop }
     {
         Ending::Ended(stop.status, stop.why)
+    }
+
+    /// The words of the command line cannot be split.
+    pub fn of_split(fault: SplitFault) -> Ending
+        ensures { IsPlanRefusal result }
+    {
+        match fault {
+            SplitFault::Bad => Ending::BadCommandLine,
+            SplitFault::NoMem => Ending::no_memory(),
+        }
+    }
+
+    /// The program's own words are no options.
+    pub fn of_options(fault: OptionsFault) -> Ending
+        ensures { IsPlanRefusal result }
+    {
+        match fault {
+            OptionsFault::Bad => Ending::BadCommandLine,
+            OptionsFault::NoMem => Ending::no_memory(),
+        }
+    }
+
+    /// The config's line of that number has no scanner.
+    pub fn of_device(line: u32, fault: DeviceFault) -> Ending
+        /// A line of the config without a scanner is told by its number and why its page is not there, or as out of memory.
+        ensures { result ≡ ended_by_device line fault }
+    {
+        match fault {
+            DeviceFault::NoPage(why) => Ending::Page(line, why),
+            DeviceFault::NoMem => Ending::no_memory(),
+        }
     }
 
     /// There was no memory.

@@ -16,6 +16,14 @@ fn address_of(host: &[u8]) -> Option<Ipv4Addr>
     Ipv4Addr::parse_ascii(host).ok()
 }
 
+/// The control connection of a job, and where it was made to.
+#[derive(Drop)]
+pub struct ControlConnection {
+    pub address: Ipv4Addr,
+    pub port: u16,
+    pub stream: TcpStream,
+}
+
 /// The connections to a host. Each waits for the host.
 #[derive(Drop)]
 pub struct HostDial<'a> {
@@ -28,7 +36,7 @@ pub struct HostDial<'a> {
 }
 
 impl<'a> HostDial<'a> {
-    ghost use Rattle.std.specs.Prelude.{◌≡◌, None, IfSome, true, false};
+    ghost use Rattle.std.specs.Prelude.{◌≡◌, None, IfOk, IfSome, true, false};
     ghost use Rattle.std.specs.declared.net.ipv4_addr.Ipv4Addr.{Ipv4Addr as Address};
     ghost use Rattle.scanimage_cli.specs.Host.{IsAddressOf, held_at};
 
@@ -50,6 +58,19 @@ impl<'a> HostDial<'a> {
             address,
             is_first,
             held: None,
+        })
+    }
+
+    /// The control connection to that port of the host.
+    pub fn control(&self, port: u16) -> Result<ControlConnection, DialFault>
+        /// The control connection is made to the host's address and the port that is asked for.
+        ensures { IfOk result (λ made. (made.address ≡ self.now.address) × (made.port ≡ port)) }
+    {
+        let stream = self.connect(port)?;
+        Ok(ControlConnection {
+            address: self.address,
+            port,
+            stream,
         })
     }
 

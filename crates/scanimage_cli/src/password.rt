@@ -1,22 +1,13 @@
 ghost use Rattle.std.specs.Prelude.{◌≡◌, IfOk, IfSome, take};
 ghost use Rattle.scanimage_cli.specs.Password.{first_line_of};
 
+use config_pages::text_of;
 use std::alloc::Global;
 use std::io::{self, Read};
 use text_lines::first_line;
 
 /// One byte more than the longest password of a job, with CR and LF behind it.
 const MOST_READ: u64 = 1_023 + 1 + 2;
-
-/// The front of a password file that shows its first line, or that this is too long for a job.
-fn front_text<R: Read + Drop>(alloc: Global, reader: R) -> io::Result<Vec<u8>>
-    ensures { IfOk result
-        (λ text. IfSome (R.remaining reader) (λ all. text.items ≡ take 1026 all)) }
-{
-    let mut text = Vec::new(alloc);
-    reader.take(MOST_READ).read_to_end(&mut text)?;
-    Ok(text)
-}
 
 /// The first line of a text, without what ends it: nothing where the text is empty.
 fn line_of(text: &[u8]) -> &[u8]
@@ -34,7 +25,7 @@ pub fn password_line<R: Read + Drop>(alloc: Global, reader: R) -> io::Result<Vec
     ensures { IfOk result
         (λ line. IfSome (R.remaining reader) (λ all. line.items ≡ first_line_of (take 1026 all))) }
 {
-    let text = front_text(alloc, reader)?;
+    let text = text_of(alloc, reader, MOST_READ)?;
     let line = Vec::from_slice(alloc, line_of(text.as_slice()))?;
     Ok(line)
 }

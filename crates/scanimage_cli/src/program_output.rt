@@ -1,12 +1,10 @@
 use sane_fixed::Text;
 use std::fs::File;
-use std::io::{self, ErrorKind, Stdout, Write};
+use std::io::{self, ErrorKind, Write};
 
-/// Where a file goes: standard output, or a file that is made when the first bytes come, and in which
-/// nothing of an older one is left then.
+/// The output file of a job, which is made when the first bytes come; nothing of an older one is left then.
 #[derive(Drop)]
-pub enum Output<'a> {
-    Standard(Stdout),
+pub enum OutputFile<'a> {
     Unmade(&'a HostRuntime, Text),
     Made(File),
 }
@@ -19,24 +17,22 @@ fn made(rt: &HostRuntime, path: &Text) -> io::Result<File> {
     }
 }
 
-impl Write for Output<'_> {
+impl Write for OutputFile<'_> {
     fn write(&mut self, bytes: &[u8]) -> io::Result<usize> {
-        if let Output::Unmade(rt, path) = self {
+        if let OutputFile::Unmade(rt, path) = self {
             let file = made(rt, path)?;
-            *self = Output::Made(file);
+            *self = OutputFile::Made(file);
         }
         match self {
-            Output::Standard(out) => out.write(bytes),
-            Output::Made(file) => file.write(bytes),
-            Output::Unmade(_, _) => Ok(0),
+            OutputFile::Made(file) => file.write(bytes),
+            OutputFile::Unmade(_, _) => Ok(0),
         }
     }
 
     fn flush(&mut self) -> io::Result<()> {
         match self {
-            Output::Standard(out) => out.flush(),
-            Output::Made(file) => file.flush(),
-            Output::Unmade(_, _) => Ok(()),
+            OutputFile::Made(file) => file.flush(),
+            OutputFile::Unmade(_, _) => Ok(()),
         }
     }
 }

@@ -1,0 +1,48 @@
+-- What the program saned does, from the words of its command line to the calls of its daemon.
+use Rattle.std.specs.Prelude.{ℕ, ◌≡◌, ◌≢◌, None, Option, List, [], ◌∷◌}
+use Rattle.device_api.specs.State.{DeviceState}
+use Rattle.dispatch.specs.Table.{fresh_table}
+use Rattle.md5_auth.specs.Challenges.{HasGiven}
+use Rattle.md5_auth.specs.UserLines.{TellsUsers}
+use Rattle.md5_auth.specs.declared.users.Entry.{Entry}
+use Rattle.saned_core.specs.DaemonStates.{Core}
+use Rattle.saned_serve.specs.ListenerTraces.{ListenerTrace}
+use Rattle.saned_serve.specs.Serving.{HasServed}
+use Rattle.saned_serve.specs.declared.serving.ServeEnd.{ServeEnd}
+use Rattle.saned_cli.specs.DaemonEndings.{daemon_exit_status}
+use Rattle.saned_cli.specs.DaemonPlans.{IsDaemonPlanOf}
+use Rattle.saned_cli.specs.declared.daemon_ending.DaemonEnding.{DaemonEnding}
+use Rattle.saned_cli.specs.declared.daemon_plan.DaemonPlan.{DaemonPlan}
+
+-- an ending whose exit status is not 0
+abbrev pub IsDaemonFailure : DaemonEnding → Type 0
+IsDaemonFailure ending = daemon_exit_status ending ≢ 0
+
+-- a daemon before its first session: of these devices and users, with the plan's seed and size of strings
+pub record IsDaemonOf (plan : DaemonPlan) (devices : List DeviceState) (users : List Entry) (daemon : Core) : Type 0 where
+  pub registry : daemon.registry ≡ fresh_table devices
+  pub users_are : daemon.users ≡ users
+  pub strings : daemon.strings ≡ plan.options.strings
+  pub seed : HasGiven plan.seed 0 daemon.stream
+  pub none : daemon.slots ≡ None ∷ None ∷ None ∷ None ∷ None ∷ None ∷ None ∷ None ∷ []
+
+-- a daemon has served as many sessions, or as long, as the plan says
+pub record IsServedBy (plan : DaemonPlan) (daemon : Core) : Type 0 where
+  pub last : Core
+  pub began : Option ListenerTrace
+  pub listened : Option ListenerTrace
+  pub end : ServeEnd
+  pub served : HasServed (record { sessions = plan.options.sessions; idle_turns = plan.options.idle_turns }) (record { daemon = daemon; listeners = began }) (record { daemon = last; listeners = listened }) end
+
+-- **has served for its words (`HasServedFor`, `IsDaemonOf`, `IsServedBy`)**: the words have a plan, and the daemon of it, of some
+-- devices and users, has served to the plan's end of sessions or idle turns; where the plan names no users, they are those of an
+-- empty text.
+pub record HasServedFor (words : List (List ℕ)) : Type 0 where
+  pub plan : DaemonPlan
+  pub is_plan : IsDaemonPlanOf words plan
+  pub devices : List DeviceState
+  pub users : List Entry
+  pub no_users : plan.options.users ≡ None → TellsUsers [] users
+  pub first : Core
+  pub serves : IsServedBy plan first
+  pub begun : IsDaemonOf plan devices users first

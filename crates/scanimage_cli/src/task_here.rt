@@ -1,0 +1,120 @@
+ghost use Rattle.std.specs.Prelude.{◌≡◌, IfOk, IfErr, OnOk, OnErr};
+ghost use Rattle.device_api.specs.State.{DeviceState};
+ghost use Rattle.dispatch.specs.Table.{table, listed_infos};
+ghost use Rattle.local_job.specs.LocalRun.{LeavesNoFile};
+ghost use Rattle.scanimage_cli.specs.Programs.{DoesPlanned, IsDeviceNamed, IsDoneHere, IsFailure};
+
+use crate::device_listing::device_list;
+use crate::doing::{do_batch, do_job};
+use crate::ending::Ending;
+use crate::folder::Folder;
+use crate::planning::{Destination, JobPlan};
+use crate::printed::Printout;
+use crate::printing::{print, print_all};
+use crate::program_output::OutputFile;
+use device_api::Device;
+use dispatch::Registry;
+use sane_fixed::{Status, Text};
+use scan_job::{Job, Task, Why};
+use std::io::Write;
+
+/// Does a job whose file goes where it is to go.
+fn run_job<O: Write>(
+    rt: &HostRuntime,
+    device: &mut dyn Device,
+    job: &Job,
+    destination: Destination,
+    out: &mut O,
+) -> Result<Printout, Ending>
+    ensures done { IfOk result (λ printed. DoesPlanned destination job.now
+        (record { device = state device.old; output = O.contents out.old })
+        (record { device = state device.new; output = O.contents out.new }) printed) }
+    ensures no_file { OnErr result (LeavesNoFile (O.contents out.old) (O.contents out.new)) }
+    ensures failed { IfErr result IsFailure }
+{
+    match destination {
+        Destination::StandardOutput => do_job(rt.alloc(), device, job, out),
+        Destination::Path(path) => {
+            do_job(rt.alloc(), device, job, &mut OutputFile::Unmade(rt, path))
+        }
+        Destination::Folder => do_batch(rt.alloc(), device, job, &mut Folder { rt }),
+    }
+}
+
+/// The name of the device that is asked for: that of the first one where none is named.
+fn device_name(
+    rt: &HostRuntime,
+    registry: &Registry,
+    named: Option<Text>,
+) -> Result<Text, Ending>
+    ensures named { IfOk result (IsDeviceNamed named (listed_infos (table state registry.now))) }
+    ensures failed { IfErr result IsFailure }
+{
+    if let Some(name) = named {
+        return Ok(name);
+    }
+    let Ok(devices) = registry.list(rt.alloc()) else {
+        return Err(Ending::no_memory());
+    };
+    match devices.first() {
+        Some(first) => match first.name.try_clone(rt.alloc()) {
+            Ok(name) => Ok(name),
+            Err(_) => Err(Ending::no_memory()),
+        },
+        None => Err(Ending::Ended(Status::Inval, Why::Setting)),
+    }
+}
+
+/// Does what is asked for on one of the devices: on that of this name, or on the first.
+pub fn run_task<O: Write, E: Write>(
+    rt: &HostRuntime,
+    registry: &mut Registry,
+    device: Option<Text>,
+    plan: JobPlan,
+    password: Text,
+    out: &mut O,
+    err: &mut E,
+) -> Result<(), Ending>
+    /// Where what is asked for here ends well, it is done: a list of all devices is printed; or the job of the plan is done as
+    /// `do_job` or `do_batch` says, on the device of the table that is named, or on the first, its file where the plan has it
+    /// go, and behind it its table is printed.
+    /// Carried by: `done` of `run_task`: `IsDoneHere`
+    ensures done { OnOk result (IsDoneHere (table state registry.old)
+        (record { device = device; plan = plan; password = password })
+        (record { out = O.contents out.old; err = E.contents err.old })
+        (record { out = O.contents out.new; err = E.contents err.new })) }
+    /// Where a scan does not, an output that tells its bytes took no whole file.
+    ensures no_file { plan.task ≡ Task.Scan
+        → OnErr result (LeavesNoFile (O.contents out.old) (O.contents out.new)) }
+    /// No ending of any of its parts has the exit status 0.
+    ensures failed { IfErr result IsFailure }
+{
+    if plan.task == Task::List {
+        let Ok(devices) = registry.list(rt.alloc()) else {
+            return Err(Ending::no_memory());
+        };
+        let Ok(lines) = device_list(rt.alloc(), &[], &devices) else {
+            return Err(Ending::no_memory());
+        };
+        return print(out, &lines);
+    }
+    let device = device_name(rt, registry, device)?;
+    let JobPlan {
+        user,
+        settings,
+        task,
+        destination,
+    } = plan;
+    let job = Job {
+        user,
+        password,
+        device,
+        settings,
+        task,
+    };
+    let Ok(mut device) = registry.unplug(job.device.as_bytes()) else {
+        return Err(Ending::Ended(Status::Inval, Why::Setting));
+    };
+    let printed = run_job(rt, &mut *device, &job, destination, out)?;
+    print_all(out, err, &printed)
+}

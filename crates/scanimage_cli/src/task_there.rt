@@ -1,0 +1,102 @@
+ghost use Rattle.std.specs.Prelude.{◌≡◌, IfOk, IfErr, OnOk};
+ghost use Rattle.scanimage_cli.specs.Programs.{IsConnectedTo, IsDoneThere, IsFailure, RanThere};
+
+use crate::ending::Ending;
+use crate::folder::Folder;
+use crate::host::{ControlConnection, HostDial};
+use crate::net_doing::{do_net_batch, do_net_job};
+use crate::planning::{Destination, JobPlan, Remote};
+use crate::printed::Printout;
+use crate::printing::print_all;
+use crate::program_output::OutputFile;
+use sane_fixed::Text;
+use scan_job::Job;
+use std::io::Write;
+
+/// What makes the connections to a host, and the control connection to the port that is asked.
+fn connections<'a>(
+    rt: &'a HostRuntime,
+    remote: &Remote,
+) -> Result<(HostDial<'a>, ControlConnection), Ending>
+    ensures connected { IfOk result (λ made. IsConnectedTo remote.now made.1) }
+    ensures failed { IfErr result IsFailure }
+{
+    let Some(dial) = HostDial::new(rt, remote.host.as_bytes(), remote.dial_first) else {
+        return Err(Ending::ending_of_loss());
+    };
+    match dial.control(remote.port) {
+        Ok(control) => Ok((dial, control)),
+        Err(_) => Err(Ending::ending_of_loss()),
+    }
+}
+
+/// Does a job over connections to its host, its file where it is to go.
+fn run_job<O: Write>(
+    rt: &HostRuntime,
+    host: &[u8],
+    job: Job,
+    destination: Destination,
+    made: (HostDial<'_>, ControlConnection),
+    out: &mut O,
+) -> Result<Printout, Ending>
+    ensures ran { IfOk result
+        (RanThere job host.now destination (O.contents out.old) (O.contents out.new)) }
+    ensures failed { IfErr result IsFailure }
+{
+    let (mut dial, mut control) = made;
+    let stream = &mut control.stream;
+    match destination {
+        Destination::StandardOutput => do_net_job(rt.alloc(), host, job, stream, &mut dial, out),
+        Destination::Path(path) => {
+            let mut file = OutputFile::Unmade(rt, path);
+            do_net_job(rt.alloc(), host, job, stream, &mut dial, &mut file)
+        }
+        Destination::Folder => {
+            do_net_batch(rt.alloc(), host, job, stream, &mut dial, &mut Folder { rt })
+        }
+    }
+}
+
+/// Does what is asked for on the daemon of a host, with the device of that name there.
+pub fn run_net_task<O: Write, E: Write>(
+    rt: &HostRuntime,
+    remote: Remote,
+    plan: JobPlan,
+    password: Text,
+    out: &mut O,
+    err: &mut E,
+) -> Result<(), Ending>
+    /// Where a job over the net ends well, it is the one that the plan has for that host, port and device, done by the client's
+    /// rules, its file where the plan has it go, and behind it its list or table is printed.
+    /// Carried by: `done` of `run_net_task`: `IsDoneThere`
+    ensures done { OnOk result (IsDoneThere
+        (record { remote = remote; plan = plan; password = password })
+        (record { out = O.contents out.old; err = E.contents err.old })
+        (record { out = O.contents out.new; err = E.contents err.new })) }
+    /// No ending of any of its parts has the exit status 0.
+    ensures failed { IfErr result IsFailure }
+{
+    let JobPlan {
+        user,
+        settings,
+        task,
+        destination,
+    } = plan;
+    let Ok(device) = remote.device.try_clone(rt.alloc()) else {
+        return Err(Ending::no_memory());
+    };
+    let job = Job {
+        user,
+        password,
+        device,
+        settings,
+        task,
+    };
+    // Such a job does not even ask for a connection.
+    if let Some(ending) = Ending::of_refused(&job) {
+        return Err(ending);
+    }
+    let made = connections(rt, &remote)?;
+    let printed = run_job(rt, remote.host.as_bytes(), job, destination, made, out)?;
+    print_all(out, err, &printed)
+}
