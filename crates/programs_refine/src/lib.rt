@@ -57,9 +57,9 @@ pub fn worlds_hear_in_turn()
 /// its file is what a world promises of a file.
 #[tactic(none)]
 pub fn programs_keep_all()
-    /// So of each job whose loop is over holds what a world promises of the outcome and of the files of a job, by a
-    /// history that led to such a world: done, the picture that its settings mean on the page of its start, where the
-    /// pages that came for its device are steady; else a status and a cause, and no whole file.
+    /// So of each job whose loop is over holds what a world promises of its outcome and files, by a history that led to
+    /// such a world: done, the picture that its settings mean on the page of its start, where the pages that came are
+    /// steady; else a status and a cause, and no whole file.
     /// Carried by: `programs_keep_all`: `LoopIsKept`
     ///
     /// Of a job that is stopped while it runs, as one that is killed between two steps of its loop, no whole file went

@@ -26,11 +26,7 @@ use std::process::ExitCode;
 const ROOT: &str = "/";
 
 /// Listens, says where, and serves.
-fn serve_at(
-    rt: &HostRuntime,
-    plan: &DaemonPlan,
-    daemon: &mut Daemon,
-) -> Result<(), DaemonEnding>
+fn serve_at(rt: &HostRuntime, plan: &DaemonPlan, daemon: &mut Daemon) -> Result<(), DaemonEnding>
     ensures served { OnOk result (IsServedBy plan.now (core state daemon.old)) }
     ensures failed { IfErr result IsDaemonFailure }
 {
@@ -72,25 +68,33 @@ fn run(rt: &HostRuntime, words: &[String]) -> Result<(), DaemonEnding>
     for line in &lines {
         match line.kind {
             DeviceKind::Flatbed => {
-                let device = flatbed(rt, line, order).map_err(|e| DaemonEnding::of_device(line.line, e))?;
+                let device = flatbed(rt, line, order).map_err(|e| DaemonEnding::of_device(
+                    line.line, e,
+                ))?;
                 let Ok(()) = devices.push(device) else {
                     return Err(DaemonEnding::NoMemory);
                 };
             }
             DeviceKind::Hand => {
-                let device = hand_scanner(rt, line, order).map_err(|e| DaemonEnding::of_device(line.line, e))?;
+                let device = hand_scanner(rt, line, order).map_err(|e| DaemonEnding::of_device(
+                    line.line, e,
+                ))?;
                 let Ok(()) = devices.push(device) else {
                     return Err(DaemonEnding::NoMemory);
                 };
             }
             DeviceKind::ThreePass => {
-                let device = three_pass(rt, line, order).map_err(|e| DaemonEnding::of_device(line.line, e))?;
+                let device = three_pass(rt, line, order).map_err(|e| DaemonEnding::of_device(
+                    line.line, e,
+                ))?;
                 let Ok(()) = devices.push(device) else {
                     return Err(DaemonEnding::NoMemory);
                 };
             }
             DeviceKind::Feeder => {
-                let device = feeder(rt, line, order).map_err(|e| DaemonEnding::of_device(line.line, e))?;
+                let device = feeder(rt, line, order).map_err(|e| DaemonEnding::of_device(
+                    line.line, e,
+                ))?;
                 let Ok(()) = devices.push(device) else {
                     return Err(DaemonEnding::NoMemory);
                 };

@@ -59,13 +59,17 @@ fn run<O: Write, E: Write>(
                 };
             }
             DeviceKind::Hand => {
-                let device = hand_scanner(rt, line, ORDER).map_err(|e| Ending::of_device(line.line, e))?;
+                let device = hand_scanner(rt, line, ORDER).map_err(|e| Ending::of_device(
+                    line.line, e,
+                ))?;
                 let Ok(()) = devices.push(device) else {
                     return Err(Ending::no_memory());
                 };
             }
             DeviceKind::ThreePass => {
-                let device = three_pass(rt, line, ORDER).map_err(|e| Ending::of_device(line.line, e))?;
+                let device = three_pass(rt, line, ORDER).map_err(|e| Ending::of_device(
+                    line.line, e,
+                ))?;
                 let Ok(()) = devices.push(device) else {
                     return Err(Ending::no_memory());
                 };

@@ -191,11 +191,13 @@ impl World {
             let v = seen_world ⟦<Box<dyn Device> as Device>⟧.state self.new.inner in
             KeepsRunning w v }
         /// A job in whose way nothing stood in front of these moves is done behind them, or is told as out of memory, or
-        /// lost its connection as its next move, for want of memory or at a reply that cannot be said. Nothing stands in
-        /// its way where its device is there, is no feeder and is named by no other job, its sources cannot fail, its
-        /// settings can be in force, name no status and mean a picture on each page that came, and its password is
-        /// allowed; and no event gave it up, took a connection of it, or took its device out.
-        /// Carried by: `clear` of `World::run_all`: `ClearsUp`, `IsClear`
+        /// lost its connection as its next move, for want of memory or at a reply that cannot be said.
+        /// Carried by: `clear` of `World::run_all`: `ClearsUp`
+        ///
+        /// Nothing stands in its way where its device is there, no feeder, and named by no other job; its sources cannot
+        /// fail; its settings can be in force, name no status and mean a picture on each page that came; its password is
+        /// allowed; and no event cancelled it, lost a connection of it, or took its device out.
+        /// Carried by: `clear` of `World::run_all`: `IsClear`
         ensures clear { let w = seen_world ⟦<Box<dyn Device> as Device>⟧.state self.old.inner in
             let v = seen_world ⟦<Box<dyn Device> as Device>⟧.state self.new.inner in
             ClearsUp w v }

@@ -15,8 +15,11 @@ pub fn a_run_refines()
     ///
     /// Where a page source fails in them by the model, it failed in one of the events and counted that: the job's
     /// session held the device in the world in front of it, and in the daemon behind it holds it stopped, or has
-    /// given it back so; at a START, of a job under way. Where a session breaks off at a reply, of such a job, it
-    /// answered in one of the events, as it stood in the world in front, with one that cannot be said.
+    /// given it back so; at a START, of a job under way.
+    /// Carried by: `a_run_refines`: `failures` of `RunRefines`
+    ///
+    /// Where a session breaks off at a reply, of such a job, it answered in one of the events, as it stood in the world in
+    /// front, with one that cannot be said.
     /// Carried by: `a_run_refines`: `failures` of `RunRefines`
     ensures { EventsFollow }
 {}
