@@ -43,9 +43,7 @@ pub use net_doing::{do_net_batch, do_net_job};
 pub use option_table::options_table;
 pub use options::{Options, OptionsFault, read_options};
 pub use password::password_line;
-pub use planning::{
-    Destination, Input, JobPlan, Location, Plan, Remote, plan_by_options, plan_of,
-};
+pub use planning::{Destination, Input, JobPlan, Location, Plan, Remote, plan_by_options, plan_of};
 pub use printed::Printout;
 pub use printing::{print, print_all};
 pub use program_option::ProgramOption;

@@ -163,11 +163,7 @@ fn settings_of(alloc: Global, task: Task, settings: Vec<(Text, Text)>) -> Vec<(T
 }
 
 /// The plan of these options and settings.
-fn planned(
-    alloc: Global,
-    options: Options,
-    settings: Vec<(Text, Text)>,
-) -> Result<Plan, NoMem>
+fn planned(alloc: Global, options: Options, settings: Vec<(Text, Text)>) -> Result<Plan, NoMem>
     ensures { IfOk result (IsPlanned options settings.items) }
 {
     let task = task_of(&options);

@@ -42,11 +42,7 @@ fn run_job<O: Write>(
 }
 
 /// The name of the device that is asked for: that of the first one where none is named.
-fn device_name(
-    rt: &HostRuntime,
-    registry: &Registry,
-    named: Option<Text>,
-) -> Result<Text, Ending>
+fn device_name(rt: &HostRuntime, registry: &Registry, named: Option<Text>) -> Result<Text, Ending>
     ensures named { IfOk result (IsDeviceNamed named (listed_infos (table state registry.now))) }
     ensures failed { IfErr result IsFailure }
 {
