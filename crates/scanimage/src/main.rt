@@ -39,13 +39,8 @@ fn run<O: Write, E: Write>(
         (record { out = O.contents out.new; err = E.contents err.new })) }
     ensures failed { IfErr result IsFailure }
 {
-    let Plan {
-        config,
-        password_file,
-        location,
-        job,
-    } = plan_of(rt.alloc(), words)?;
-    let lines = config_lines(rt, &config)?;
+    let plan = plan_of(rt.alloc(), words)?;
+    let lines = config_lines(rt, &plan.config)?;
     let mut devices: Vec<Box<dyn Device>> = Vec::with_capacity(rt.alloc(), lines.len()).map_err(
         |_| Ending::no_memory(),
     )?;
@@ -85,7 +80,8 @@ fn run<O: Write, E: Write>(
     let Ok(mut registry) = Registry::new(rt.alloc(), devices) else {
         return Err(Ending::no_memory());
     };
-    let password = password(rt, &password_file)?;
+    let password = password(rt, &plan.password_file)?;
+    let Plan { location, job, .. } = plan;
     match location {
         Location::There(remote) => run_net_task(rt, remote, job, password, out, err),
         Location::Here(device) => run_task(rt, &mut registry, device, job, password, out, err),
