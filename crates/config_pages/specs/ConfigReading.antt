@@ -5,9 +5,9 @@ use Rattle.config_pages.specs.declared.config_reading.ConfigFailure.{ConfigFailu
 use Rattle.config_pages.specs.declared.config_reading.ConfigFailure.TheVariants.{Unread, NoMem, Refused}
 
 -- what is left in a reader that was opened, where it tells
-abbrev pub given_by : {R E : Type 0} → (R → Option (List ℕ)) → Result R E → Option (List ℕ)
-given_by remaining (Ok reader) = remaining reader
-given_by remaining (Err fault) = None
+abbrev pub remaining_of : {R E : Type 0} → (R → Option (List ℕ)) → Result R E → Option (List ℕ)
+remaining_of remaining (Ok reader) = remaining reader
+remaining_of remaining (Err fault) = None
 
 -- **a config that is refused (`RefusesConfig`)**: its text, where it is told, has the fault of its first bad line.
 abbrev pub RefusesConfig : Option (List ℕ) → ConfigFailure → Type 0

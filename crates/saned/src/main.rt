@@ -125,7 +125,8 @@ fn exit_code<E: Write>(rt: &HostRuntime, words: &[String], err: &mut E) -> ExitC
     ensures well { code_of result ≡ 0 → HasServedFor (map string_bytes words.now) }
     /// Any other exit status is that of the ending that is told.
     ensures otherwise { code_of result ≢ 0
-        → (ending : AnEnding) × (code_of result ≡ daemon_exit_status ending) × IsDaemonFailure ending }
+        → (ending : AnEnding)
+        × (code_of result ≡ daemon_exit_status ending) × IsDaemonFailure ending }
 {
     match run(rt, words) {
         Ok(()) => ExitCode::from(0),

@@ -17,6 +17,6 @@ daemon_exit_status CannotListen = 9
 daemon_exit_status NoMemory = 10
 
 -- a line of the config has no scanner: its page is not there, or there is no memory
-abbrev pub ended_by_device : ℕ → DeviceFault → DaemonEnding
-ended_by_device line (NoPage why) = Page line why
-ended_by_device line NoMem = NoMemory
+abbrev pub daemon_ended_by_device : ℕ → DeviceFault → DaemonEnding
+daemon_ended_by_device line (NoPage why) = Page line why
+daemon_ended_by_device line NoMem = NoMemory

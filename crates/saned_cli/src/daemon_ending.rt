@@ -26,7 +26,7 @@ pub enum DaemonEnding {
 
 impl DaemonEnding {
     ghost use Rattle.std.specs.Prelude.{◌≡◌, ◌⊎◌};
-    ghost use Rattle.saned_cli.specs.DaemonEndings.{daemon_exit_status, ended_by_device};
+    ghost use Rattle.saned_cli.specs.DaemonEndings.{daemon_exit_status, daemon_ended_by_device};
     ghost use Rattle.saned_cli.specs.declared.daemon_ending.DaemonEnding.TheVariants.{BadCommandLine, NoMemory};
 
     /// The words of the command line are no options.
@@ -43,7 +43,7 @@ impl DaemonEnding {
     /// The config's line of that number has no scanner.
     pub fn of_device(line: u32, fault: DeviceFault) -> DaemonEnding
         /// A line of the config without a scanner is told by its number and why its page is not there, or as out of memory.
-        ensures { result ≡ ended_by_device line fault }
+        ensures { result ≡ daemon_ended_by_device line fault }
     {
         match fault {
             DeviceFault::NoPage(why) => DaemonEnding::Page(line, why),

@@ -1,7 +1,7 @@
 ghost use Rattle.std.specs.Prelude.{◌≡◌, IfErr, IfOk, IfSome, IsOk, OnOk, string_bytes, take};
 ghost use Rattle.dispatch.specs.ConfigLines.{TellsConfig};
 ghost use Rattle.md5_auth.specs.UserLines.{TellsUsers};
-ghost use Rattle.config_pages.specs.ConfigReading.{given_by};
+ghost use Rattle.config_pages.specs.ConfigReading.{remaining_of};
 ghost use Rattle.saned_cli.specs.DaemonInputs.{IsUnreadFile, RefusesDaemonConfig, RefusesUsers};
 
 use crate::daemon_ending::DaemonEnding;
@@ -46,10 +46,10 @@ pub fn config_from<R: Read + Drop>(
     /// by its name.
     /// Carried by: `opened`, `lines`, `refused` of `config_from`
     ensures opened { OnOk result (IsOk opened) }
-    ensures lines { IfOk result (λ lines. IfSome (given_by R.remaining opened)
+    ensures lines { IfOk result (λ lines. IfSome (remaining_of R.remaining opened)
         (λ all. TellsConfig (take 4194433 all) lines.items)) }
     ensures refused { IfErr result
-        (RefusesDaemonConfig name.now (given_by R.remaining opened)) }
+        (RefusesDaemonConfig name.now (remaining_of R.remaining opened)) }
 {
     match read_config(alloc, opened) {
         Ok(lines) => Ok(lines),
@@ -70,9 +70,9 @@ pub fn users_from<R: Read + Drop>(
     /// for its first bad line, or since it cannot be read, by its name.
     /// Carried by: `opened`, `users`, `refused` of `users_from`
     ensures opened { OnOk result (IsOk opened) }
-    ensures users { IfOk result (λ users. IfSome (given_by R.remaining opened)
+    ensures users { IfOk result (λ users. IfSome (remaining_of R.remaining opened)
         (λ all. TellsUsers (take 66049 all) users)) }
-    ensures refused { IfErr result (RefusesUsers name.now (given_by R.remaining opened)) }
+    ensures refused { IfErr result (RefusesUsers name.now (remaining_of R.remaining opened)) }
 {
     let reader = match opened {
         Ok(reader) => reader,

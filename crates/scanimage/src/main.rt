@@ -5,7 +5,7 @@ ghost use Rattle.std.specs.Prelude.{◌≡◌, ◌≢◌, IfErr, OnOk};
 ghost use Rattle.std.specs.Process.{exit_status as code_of};
 ghost use Rattle.scanimage_cli.specs.Ending.{exit_status};
 ghost use Rattle.scanimage_cli.specs.Programs.{IsFailure};
-ghost use Rattle.scanimage_cli.specs.Whole.{HasRun};
+ghost use Rattle.scanimage_cli.specs.Whole.{HasRunFor};
 ghost use Rattle.scanimage_cli.specs.declared.ending.Ending.{Ending as AnEnding};
 
 mod command_line;
@@ -34,7 +34,7 @@ fn run<O: Write, E: Write>(
     out: &mut O,
     err: &mut E,
 ) -> Result<(), Ending>
-    ensures done { OnOk result (HasRun words.now
+    ensures done { OnOk result (HasRunFor words.now
         (record { out = O.contents out.old; err = E.contents err.old })
         (record { out = O.contents out.new; err = E.contents err.new })) }
     ensures failed { IfErr result IsFailure }
@@ -105,8 +105,8 @@ fn exit_code<O: Write, E: Write>(
 ) -> ExitCode
     /// Where the exit status is 0, what the words of the command line ask for is done: on the devices of the config's lines, or
     /// on a daemon of the host and port that they name.
-    /// Carried by: `well` of the private `exit_code`, `done` of the private `run`: `HasRun`
-    ensures well { code_of result ≡ 0 → HasRun words.now
+    /// Carried by: `well` of the private `exit_code`, `done` of the private `run`: `HasRunFor`
+    ensures well { code_of result ≡ 0 → HasRunFor words.now
         (record { out = O.contents out.old; err = E.contents err.old })
         (record { out = O.contents out.new; err = E.contents err.new }) }
     /// Any other exit status is that of the ending that is told.

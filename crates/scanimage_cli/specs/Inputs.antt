@@ -10,11 +10,11 @@ use Rattle.scanimage_cli.specs.declared.ending.Ending.TheVariants.{BadCommandLin
 abbrev pub IsUnread : List ℕ → Ending → Type 0
 IsUnread name ending = (ending ≡ Ended NoMem Memory) ⊎ (ending ≡ CannotRead name)
 
--- **a text that is not taken (`IsUnread`, `RefusesConfig`)**: out of memory, or the file of that name cannot be read; a config
+-- **a text that is not taken (`IsUnread`, `RefusesNamedConfig`)**: out of memory, or the file of that name cannot be read; a config
 -- also for the fault of its first bad line.
-abbrev pub RefusesConfig : List ℕ → Option (List ℕ) → Ending → Type 0
-RefusesConfig name told BadCommandLine = ⊥
-RefusesConfig name told (CannotRead path) = path ≡ name
-RefusesConfig name told (Config fault) = IfSome told (λ all. HasConfigFault (take 4194433 all) fault.line fault.reason)
-RefusesConfig name told (Page line why) = ⊥
-RefusesConfig name told (Ended status why) = (status ≡ NoMem) × (why ≡ Memory)
+abbrev pub RefusesNamedConfig : List ℕ → Option (List ℕ) → Ending → Type 0
+RefusesNamedConfig name told BadCommandLine = ⊥
+RefusesNamedConfig name told (CannotRead path) = path ≡ name
+RefusesNamedConfig name told (Config fault) = IfSome told (λ all. HasConfigFault (take 4194433 all) fault.line fault.reason)
+RefusesNamedConfig name told (Page line why) = ⊥
+RefusesNamedConfig name told (Ended status why) = (status ≡ NoMem) × (why ≡ Memory)

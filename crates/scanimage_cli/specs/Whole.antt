@@ -20,9 +20,9 @@ pub record IsCarriedOut (plan : Plan) (table : Table) (was now : StandardStreams
   pub no_password : plan.password_file ≡ None → password ≡ []
   pub does : IsDoneAt plan.location table plan.job password was now
 
--- **has run (`HasRun`, `IsCarriedOut`, `IsDoneAt`)**: the words have a plan, and it is carried out: on one of some devices here,
+-- **has run (`HasRunFor`, `IsCarriedOut`, `IsDoneAt`)**: the words have a plan, and it is carried out: on one of some devices here,
 -- or at the host; without a password file the password is empty.
-pub record HasRun (words : List (List ℕ)) (was now : StandardStreams) : Type 0 where
+pub record HasRunFor (words : List (List ℕ)) (was now : StandardStreams) : Type 0 where
   pub plan : Plan
   pub is_plan : IsPlanOf words plan
   pub devices : List DeviceState

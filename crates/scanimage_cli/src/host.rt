@@ -38,7 +38,7 @@ pub struct HostDial<'a> {
 impl<'a> HostDial<'a> {
     ghost use Rattle.std.specs.Prelude.{◌≡◌, None, IfOk, IfSome, true, false};
     ghost use Rattle.std.specs.declared.net.ipv4_addr.Ipv4Addr.{Ipv4Addr as Address};
-    ghost use Rattle.scanimage_cli.specs.Host.{IsAddressOf, held_at};
+    ghost use Rattle.scanimage_cli.specs.Host.{IsAddressOf, held_for};
 
     /// Those to an IPv4 address or to `localhost`; `None` where the host is neither. Where `is_first`, a data connection is
     /// made as soon as its port is known.
@@ -96,7 +96,7 @@ impl<'a> HostDial<'a> {
 
     /// The connection to that port that is held, if one is; one to another port is closed.
     fn take_held(&mut self, port: u16) -> Option<TcpStream>
-        ensures taken { result ≡ held_at port self.old.held }
+        ensures taken { result ≡ held_for port self.old.held }
         ensures left { self.new ≡ record self.old { held = None } }
     {
         let (at, conn) = self.held.take()?;

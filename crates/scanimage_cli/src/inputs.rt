@@ -1,7 +1,7 @@
 ghost use Rattle.std.specs.Prelude.{◌≡◌, IfOk, IfErr, IfSome, OnOk, IsOk, take};
 ghost use Rattle.dispatch.specs.ConfigLines.{TellsConfig};
-ghost use Rattle.config_pages.specs.ConfigReading.{given_by};
-ghost use Rattle.scanimage_cli.specs.Inputs.{IsUnread, RefusesConfig};
+ghost use Rattle.config_pages.specs.ConfigReading.{remaining_of};
+ghost use Rattle.scanimage_cli.specs.Inputs.{IsUnread, RefusesNamedConfig};
 ghost use Rattle.scanimage_cli.specs.Password.{first_line_of};
 
 use crate::ending::Ending;
@@ -44,9 +44,9 @@ pub fn config_from<R: Read + Drop>(
     /// by its name.
     /// Carried by: `opened`, `lines`, `refused` of `config_from`
     ensures opened { OnOk result (IsOk opened) }
-    ensures lines { IfOk result (λ lines. IfSome (given_by R.remaining opened)
+    ensures lines { IfOk result (λ lines. IfSome (remaining_of R.remaining opened)
         (λ all. TellsConfig (take 4194433 all) lines.items)) }
-    ensures refused { IfErr result (RefusesConfig name.now (given_by R.remaining opened)) }
+    ensures refused { IfErr result (RefusesNamedConfig name.now (remaining_of R.remaining opened)) }
 {
     match read_config(alloc, opened) {
         Ok(lines) => Ok(lines),
@@ -66,7 +66,7 @@ pub fn password_from<R: Read + Drop>(
     /// The password is the first line of its file, and none is taken for one that cannot be read.
     /// Carried by: `opened`, `line`, `refused` of `password_from`
     ensures opened { OnOk result (IsOk opened) }
-    ensures line { IfOk result (λ password. IfSome (given_by R.remaining opened)
+    ensures line { IfOk result (λ password. IfSome (remaining_of R.remaining opened)
         (λ all. password ≡ first_line_of (take 1026 all))) }
     ensures refused { IfErr result (IsUnread name.now) }
 {

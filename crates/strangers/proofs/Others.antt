@@ -38,7 +38,7 @@ use Rattle.world_refines.specs.GhostStates.{Ghost}
 use Rattle.world_refines.specs.WorldRefinement.{IsBelow}
 use Rattle.world_refines.proofs.job_events.Fresh.{fresh_there}
 use Rattle.world_refines.proofs.state.EndpointSlots.{with_number}
-use Rattle.strangers.specs.LeavingJobs.{GoesOn, HasCome, IsStrangers, JobsStand, MayCome, StrangersCome, StrangersTakeData, StrangersTakeReplies}
+use Rattle.strangers.specs.LeavingJobs.{GoesOn, HasArrived, IsStrangers, JobsStand, MayCome, StrangersCome, StrangersTakeData, StrangersTakeReplies}
 use Rattle.strangers.proofs.Treated.{AllFit}
 use Rattle.strangers.proofs.Jobs.{Left, jobs_left, leaves_jobs}
 use Rattle.strangers.proofs.Calls.{AllTreated, put_treated, treated_fit, treated_leaves}

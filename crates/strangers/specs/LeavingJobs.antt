@@ -54,7 +54,7 @@ pub record LeavesJobs (t : Ghost) (w : WorldCore) (i n : ℕ) (e : Core) (device
   pub held : (k j : ℕ) → j ≢ i → (t.system.device k).holder ≡ Some j → device k ≡ t.system.device k
   pub others : LeavesOthers i w.daemon.registry e.registry t.system.device device
 
--- **whatever a stranger does (`SaysAnything`, `GoesOn`, `HasCome`, `ActLeaves`)**: he is fed any bytes, also where memory
+-- **whatever a stranger does (`SaysAnything`, `GoesOn`, `HasArrived`, `ActLeaves`)**: he is fed any bytes, also where memory
 -- runs out; his data connection is made or lost, a record or replies of his are taken, and he has a session still; he
 -- comes; or whatever of that. Each leaves the jobs.
 pub record SaysAnything (t : Ghost) (w : WorldCore) (i n : ℕ) (fed : Fed) (e : Core) : Type 0 where
@@ -117,7 +117,7 @@ pub record MayCome (t : Ghost) (w : WorldCore) (i : ℕ) : Type 0 where
   pub links : (j : ℕ) (endpoint : Endpoint) (id : SessionId) → slice_get w.endpoints j ≡ Some endpoint
       → endpoint.link ≡ Some id → id.number < w.daemon.opened
 
-pub record HasCome (t : Ghost) (w : WorldCore) (i : ℕ) (e : Core) : Type 0 where
+pub record HasArrived (t : Ghost) (w : WorldCore) (i : ℕ) (e : Core) : Type 0 where
   pub leaves : LeavesJobs t w i w.daemon.opened e t.system.device
   pub session : AbstractSession
   pub is : IsStrangers t (record w { daemon = e }) i w.daemon.opened session
@@ -125,4 +125,4 @@ pub record HasCome (t : Ghost) (w : WorldCore) (i : ℕ) (e : Core) : Type 0 whe
 abbrev pub StrangersCome : Type 0
 StrangersCome =
     (t : Ghost) (w : WorldCore) (i port : ℕ) → JobsStand t w → MayCome t w i
-    → HasCome t w i (after_open_session w.daemon port)
+    → HasArrived t w i (after_open_session w.daemon port)

@@ -26,7 +26,7 @@ pub fn strangers_come_and_go()
 #[tactic(none)]
 pub fn strangers_take_what_is_theirs()
     /// So they are where a stranger comes, and where records of his data and his replies are taken.
-    /// Carried by: `strangers_take_what_is_theirs`: `HasCome`, `GoesOn`
+    /// Carried by: `strangers_take_what_is_theirs`: `HasArrived`, `GoesOn`
     ensures came { StrangersCome }
     ensures data { StrangersTakeData }
     ensures replies { StrangersTakeReplies }

@@ -20,7 +20,7 @@ use Rattle.interleaving.specs.HandingOn.{HandsOn, MayMove, MayServe}
 use Rattle.programs_refine.specs.Programs.{Acts, BringsNoMore, LostBringNoMore}
 use Rattle.programs_refine.specs.StepTraffic.{traffic_of}
 use Rattle.programs_refine.specs.WorkedRuns.{owned_by_first}
-use Rattle.worked_run.specs.UnderWay.{HasView, IsUnderWay, View}
+use Rattle.worked_run.specs.UnderWay.{HasView, IsRunUnderWay, View}
 
 -- ---- an act for the session
 
@@ -70,7 +70,7 @@ viewed_act act acts v plain h = record {
   given = h.given;
 }
 
-pub acts_on : (job : Job) (start d e : Core) (c : ClientState) (v : View) (act : SessionAction) → IsUnderWay job start d c v → opens_session act ≡ false → leaves act ≡ 0 → ActsOn 0 d act e → ((stopped : Bool) → MayDo act v.projection stopped) → IsHanded act v → IsUnderWay job start e c (acted act v)
+pub acts_on : (job : Job) (start d e : Core) (c : ClientState) (v : View) (act : SessionAction) → IsRunUnderWay job start d c v → opens_session act ≡ false → leaves act ≡ 0 → ActsOn 0 d act e → ((stopped : Bool) → MayDo act v.projection stopped) → IsHanded act v → IsRunUnderWay job start e c (acted act v)
 unfolding server_journal job_journal HandsOn
 acts_on job start d e c v act u plain stays does may is = record {
   acts = OfServer (Of 0 act) ∷ u.acts;
@@ -105,7 +105,7 @@ waits_leads start d journal n l asked one = record {
   unused = l.unused;
 }
 
-pub waits_on : (job : Job) (start d : Core) (c : ClientState) (v : View) → IsUnderWay job start d c v → v.asked ≡ false → IsUnderWay job start d c (asked_view v)
+pub waits_on : (job : Job) (start d : Core) (c : ClientState) (v : View) → IsRunUnderWay job start d c v → v.asked ≡ false → IsRunUnderWay job start d c (asked_view v)
 unfolding server_journal job_journal HandsOn
 waits_on job start d c v u asked = record {
   acts = OfServer Waits ∷ u.acts;
@@ -153,7 +153,7 @@ turned_leads start d journal n p l opened asked at is = record {
   unused = λ id low. ap (λ (q : SessionProjection). record q { visited = false; spoken = false; tended = false }) (l.unused id low);
 }
 
-pub turns_on : (job : Job) (start d : Core) (c : ClientState) (v : View) → IsUnderWay job start d c v → v.asked ≡ true → IsBehindItsTurn v.projection → IsUnderWay job start d c (turned_view v)
+pub turns_on : (job : Job) (start d : Core) (c : ClientState) (v : View) → IsRunUnderWay job start d c v → v.asked ≡ true → IsBehindItsTurn v.projection → IsRunUnderWay job start d c (turned_view v)
 unfolding server_journal job_journal HandsOn
 turns_on job start d c v u asked is = record {
   acts = OfServer Turned ∷ u.acts;
@@ -221,7 +221,7 @@ viewed_step step acts v still h = record {
   given = ap (λ (b : Bool). if b then [] else given_by_steps (job_journal 0 acts) ++ given_by step.gives) still ∙ ap (λ (l : List ℕ). l ++ given_by step.gives) h.given;
 }
 
-pub steps_on : (job : Job) (start d : Core) (c e : ClientState) (v : View) (step : JobStep) → IsUnderWay job start d c v → StepLeads c step e → is_failed_write step.move ≡ false → step.turned ≡ false → IsGiven (traffic_of step) v → IsUnderWay job start d e (moved (traffic_of step) step.gives v)
+pub steps_on : (job : Job) (start d : Core) (c e : ClientState) (v : View) (step : JobStep) → IsRunUnderWay job start d c v → StepLeads c step e → is_failed_write step.move ≡ false → step.turned ≡ false → IsGiven (traffic_of step) v → IsRunUnderWay job start d e (moved (traffic_of step) step.gives v)
 unfolding server_journal job_journal HandsOn
 steps_on job start d c e v step u leads whole still is = record {
   acts = OfJob 0 step ∷ u.acts;

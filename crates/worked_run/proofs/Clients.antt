@@ -8,7 +8,7 @@ use Rattle.net_client.specs.ReplyPieces.{Heeds}
 use Rattle.net_client.specs.ReplyPieces.Heeds.{Whole, Garbled, OutOfMemoryBehind, OutOfMemoryAtOnce}
 use Rattle.net_client.specs.FramePieces.{Receives}
 use Rattle.net_jobs.specs.JobJournal.{AreGives, DialsPort, GivesFileBytes, HearsPiece, JobMove, MovesLead, TakesPiece}
-use Rattle.net_jobs.specs.JobJournal.JobMove.{Writes, Fails, Hears, Resumes, Dials, Takes, Gives, Loses}
+use Rattle.net_jobs.specs.JobJournal.JobMove.{Writes, Fails, Hears, Resumes, Prepares, Dials, Takes, Gives, Loses}
 use Rattle.net_jobs.specs.JobSteps.{GivesOut}
 use Rattle.saned_serve.proofs.ActionSteps.{not_both}
 use Rattle.worked_run.specs.Rounds.{GivesFile, said_all}
@@ -66,6 +66,7 @@ gives_all job old (Writes bytes ∷ gives) new are leads k = absurd are
 gives_all job old (Fails bytes ∷ gives) new are leads k = absurd are
 gives_all job old (Hears piece ∷ gives) new are leads k = absurd are
 gives_all job old (Resumes ∷ gives) new are leads k = absurd are
+gives_all job old (Prepares port ∷ gives) new are leads k = absurd are
 gives_all job old (Dials port made ∷ gives) new are leads k = absurd are
 gives_all job old (Takes piece ∷ gives) new are leads k = absurd are
 gives_all job old (Loses link reason ∷ gives) new are leads k = absurd are

@@ -25,8 +25,8 @@ use Rattle.interleaving.specs.Interleavings.Traffic.{Writes as WritesBytes, Read
 use Rattle.interleaving.specs.Interleavings.JointAction.{OfJob, OfServer}
 use Rattle.interleaving.specs.HandingOn.{HandsOn}
 use Rattle.programs_refine.specs.WorkedRuns.{owned_by_first}
-use Rattle.worked_run.specs.Rounds.{GivesFile, IsDialled, IsRecord, IsRound, said_all}
-use Rattle.worked_run.specs.UnderWay.{Flows, HasView, IsAtData, IsAtRest, IsClientOf, IsDue, IsQuiet, IsUnderWay, Rests, View}
+use Rattle.worked_run.specs.Rounds.{GivesFile, IsDialledOnce, IsRecord, IsCallRound, said_all}
+use Rattle.worked_run.specs.UnderWay.{Flows, HasView, IsAtData, IsAtRest, IsClientOf, IsTurnDue, IsRunQuiet, IsRunUnderWay, Rests, View}
 use Rattle.worked_run.proofs.Acts.{acted, acts_on, asked_view, moved, steps_on, turned_view, turns_on, waits_on}
 use Rattle.worked_run.proofs.Clients.{dials_on, first_client, gives_on, hears_on, says_on, takes_on}
 
@@ -77,13 +77,13 @@ begins imaging job start d c file r =
 abbrev tended_view : View → View
 tended_view v = record v { projection = record v.projection { tended = true } }
 
-tended_by : (job : Job) (start d : Core) (c : ClientState) (v : View) (b : Bool) → is_waiting (frame_in (session_of d 0)) ≡ b → IsUnderWay job start d c v → IsDue false v → IsUnderWay job start d c (tended_view v)
+tended_by : (job : Job) (start d : Core) (c : ClientState) (v : View) (b : Bool) → is_waiting (frame_in (session_of d 0)) ≡ b → IsRunUnderWay job start d c v → IsTurnDue false v → IsRunUnderWay job start d c (tended_view v)
 tended_by job start d c v true waits u due = acts_on job start d d c v (Misses v.projection.port) u refl refl (waits, refl) (λ stopped. (due.quiet.stands, due.quiet.images, refl, (due.visited, due.tended))) tt
 tended_by job start d c v false none u due =
     let looked = acts_on job start d d c v (Looks (frame_in (session_of d 0))) u refl refl (refl, refl) (λ stopped. (due.quiet.stands, due.quiet.images, (due.visited, due.tended))) tt in
-    subst (λ (b : Bool). IsUnderWay job start d c (record v { projection = record v.projection { tended = not b } })) none looked
+    subst (λ (b : Bool). IsRunUnderWay job start d c (record v { projection = record v.projection { tended = not b } })) none looked
 
-behind_quiet : (v : View) → IsQuiet false v → v.projection.visited ≡ true → v.projection.tended ≡ true → IsBehindItsTurn v.projection
+behind_quiet : (v : View) → IsRunQuiet false v → v.projection.visited ≡ true → v.projection.tended ≡ true → IsBehindItsTurn v.projection
 behind_quiet v q visited tended = record {
   visited = visited;
   held = q.held;
@@ -93,7 +93,7 @@ behind_quiet v q visited tended = record {
 }
 
 -- no turn changes what is quiet
-quiet_turned : (imaging : Bool) (v : View) → IsQuiet imaging v → IsQuiet imaging (turned_view v)
+quiet_turned : (imaging : Bool) (v : View) → IsRunQuiet imaging v → IsRunQuiet imaging (turned_view v)
 quiet_turned imaging v q = record {
   stands = q.stands;
   over = q.over;
@@ -109,7 +109,7 @@ quiet_turned imaging v q = record {
   flows = λ on. let f = q.flows on in record { going = f.going; up = f.up; known = f.known; shown = f.shown; taken = f.taken };
 }
 
-quiet_tended : (v : View) → IsQuiet false v → IsQuiet false (tended_view v)
+quiet_tended : (v : View) → IsRunQuiet false v → IsRunQuiet false (tended_view v)
 quiet_tended v q = record {
   stands = q.stands;
   over = q.over;
@@ -147,14 +147,14 @@ abbrev hears_step : List ℕ → List JobMove → JobStep
 hears_step piece gives = record { move = HearsMove piece; gives = gives; turned = false }
 
 -- the listeners are asked to forget, if a frame began
-forgets : (job : Job) (start d : Core) (c : ClientState) (v : View) (b : Bool) → v.projection.begun ≡ b → v.projection.is_open ≡ true → IsUnderWay job start d c v → IsUnderWay job start d c (record v { projection = record v.projection { begun = false } })
+forgets : (job : Job) (start d : Core) (c : ClientState) (v : View) (b : Bool) → v.projection.begun ≡ b → v.projection.is_open ≡ true → IsRunUnderWay job start d c v → IsRunUnderWay job start d c (record v { projection = record v.projection { begun = false } })
 forgets job start d c v true begun here u = acts_on job start d d c v (Forgets false v.projection.port) u refl refl refl (λ stopped. (here, begun, refl)) tt
-forgets job start d c v false none here u = subst (λ (b : Bool). IsUnderWay job start d c (record v { projection = record v.projection { begun = b } })) none u
+forgets job start d c v false none here u = subst (λ (b : Bool). IsRunUnderWay job start d c (record v { projection = record v.projection { begun = b } })) none u
 
 scans_as : (job : Job) (c : ClientState) (scan : Bool) → scan ≡ scans job.task → IsClientOf job c → scan ≡ scans c.target.task
 scans_as job c scan is client = is ∙ sym (ap (λ (t : JobTarget). scans t.task) client.target)
 
-pub rounds : (scan : Bool) (job : Job) (start d : Core) (c : ClientState) (file bytes : List ℕ) (e : Core) (after : ClientState) → scan ≡ scans job.task → IsAtRest false job start d c file → IsRound scan d c bytes e after → IsAtRest false job start e after (file ++ bytes)
+pub rounds : (scan : Bool) (job : Job) (start d : Core) (c : ClientState) (file bytes : List ℕ) (e : Core) (after : ClientState) → scan ≡ scans job.task → IsAtRest false job start d c file → IsCallRound scan d c bytes e after → IsAtRest false job start e after (file ++ bytes)
 rounds scan job start d c file bytes e after is r x =
     let v = r.v in
     let q = r.rests.quiet in
@@ -221,7 +221,7 @@ rounds scan job start d c file bytes e after is r x =
 abbrev dials_step : ℕ → JobStep
 dials_step port = record { move = Dials port true; gives = []; turned = false }
 
-pub connects : (job : Job) (start d : Core) (c : ClientState) (file : List ℕ) (e : Core) (after : ClientState) → IsAtData false job start d c file → IsDialled d c e after → IsAtData true job start e after file
+pub connects : (job : Job) (start d : Core) (c : ClientState) (file : List ℕ) (e : Core) (after : ClientState) → IsAtData false job start d c file → IsDialledOnce d c e after → IsAtData true job start e after file
 connects job start d c file e after a x =
     let v = a.v in
     let q = a.due.quiet in
@@ -265,7 +265,7 @@ abbrev shown_view : DataStep → List ℕ → List JobMove → View → View
 shown_view step bytes gives v = moved (TakesBytes bytes) gives (acted (Shows (Moved (length bytes)) bytes) (acted (Turn 65483 step bytes) v))
 
 record IsShown (job : Job) (start e : Core) (after : ClientState) (step : DataStep) (bytes : List ℕ) (gives : List JobMove) (v : View) : Type 0 where
-  under_way : IsUnderWay job start e after (shown_view step bytes gives v)
+  under_way : IsRunUnderWay job start e after (shown_view step bytes gives v)
   wrote : trace_bytes_written v.projection.image ++ take (length bytes) bytes ≡ v.projection.shown ++ bytes
   client : IsClientOf job after
 
@@ -292,7 +292,7 @@ is_shown scan job start d c file bytes step e after is a x =
       client = gives_on scan job x.taken bytes after x.gives (takes_on job c x.piece x.taken x.takes a.client);
     }
 
-quiet_shown : (step : DataStep) (bytes : List ℕ) (gives : List JobMove) (v : View) → trace_bytes_written v.projection.image ++ take (length bytes) bytes ≡ v.projection.shown ++ bytes → is_end_record step ≡ false → IsQuiet true v → IsQuiet true (shown_view step bytes gives v)
+quiet_shown : (step : DataStep) (bytes : List ℕ) (gives : List JobMove) (v : View) → trace_bytes_written v.projection.image ++ take (length bytes) bytes ≡ v.projection.shown ++ bytes → is_end_record step ≡ false → IsRunQuiet true v → IsRunQuiet true (shown_view step bytes gives v)
 quiet_shown step bytes gives v wrote more q =
     let f = q.flows refl in
     record {
@@ -346,7 +346,7 @@ shows_last scan job start d c file bytes step e after is last a x =
     let ended : v3.projection.last ≡ true = ap (λ (b : Bool). b || is_end_record step) (q.flows refl).going ∙ last in
     let v4 : View = acted (HangsUp (Some v3.projection.image)) v3 in
     let u4 = acts_on job start e e after v3 (HangsUp (Some v3.projection.image)) s.under_way refl refl refl (λ stopped. (q.stands, q.images, refl, ([], sym s.wrote ∙ sym (append-nil _)), inl (inl (ended, s.wrote)))) tt in
-    let quiet : IsQuiet false v4 = record {
+    let quiet : IsRunQuiet false v4 = record {
       stands = q.stands;
       over = q.over;
       drained = q.drained;
@@ -389,7 +389,7 @@ opens_first start d port none is = record {
   unused = λ id low. unused_first id port (let opened = ap (λ (x : Core). x.opened) is.after in omega (arith, low, opened));
 }
 
-under_way_first : (job : Job) (start d : Core) (c : ClientState) (port : ℕ) → start.opened ≡ 0 → IsOpened start port 0 d → IsNewClient job c → IsUnderWay job start d c (opened_view port)
+under_way_first : (job : Job) (start d : Core) (c : ClientState) (port : ℕ) → start.opened ≡ 0 → IsOpened start port 0 d → IsNewClient job c → IsRunUnderWay job start d c (opened_view port)
 unfolding server_journal job_journal HandsOn projection_of bytes_sent bytes_heard bytes_taken connections_made connections_accepted
 under_way_first job start d c port none is new = record {
   acts = OfServer (Of 0 (Opens port)) ∷ [];

@@ -20,9 +20,9 @@ pub record GivesFile (scan : Bool) (old : ClientState) (bytes : List ℕ) (new :
   pub gave : given_by gives ≡ bytes
   pub out : GivesOut scan false old gives new
 
--- **round (`IsRound`)**: a client writes all that is to go out, 1 to 4,096 bytes; the daemon is fed it, and the session
+-- **round (`IsCallRound`)**: a client writes all that is to go out, 1 to 4,096 bytes; the daemon is fed it, and the session
 -- stands; the replies are taken, 1 to 4,096 bytes, and the client hears them; and then no replies wait.
-pub record IsRound (scan : Bool) (d : Core) (c : ClientState) (bytes : List ℕ) (e : Core) (after : ClientState) : Type 0 where
+pub record IsCallRound (scan : Bool) (d : Core) (c : ClientState) (bytes : List ℕ) (e : Core) (after : ClientState) : Type 0 where
   pub piece : IsPiece c.out
   pub fed : Core
   pub feeds : Feeds 0 d c.out Standing fed
@@ -37,7 +37,7 @@ pub record IsRound (scan : Bool) (d : Core) (c : ClientState) (bytes : List ℕ)
   pub none : AreRepliesTaken told 0 4096 [] e
 
 -- the client dials the port that it wants, and the daemon is told that the data connection is there
-pub record IsDialled (d : Core) (c : ClientState) (e : Core) (after : ClientState) : Type 0 where
+pub record IsDialledOnce (d : Core) (c : ClientState) (e : Core) (after : ClientState) : Type 0 where
   pub port : ℕ
   pub dials : DialsPort c port after
   pub connects : IsConnected d 0 e

@@ -38,9 +38,9 @@ pub record HasView (acts : Acts) (v : View) : Type 0 where
   pub accepted : connections_accepted 0 (server_journal acts) ≡ v.accepted
   pub given : given_by_steps (job_journal 0 acts) ≡ v.given
 
--- **under way (`IsUnderWay`, `View`)**: acts of a server and of one job, from a new client on, that led from the one daemon
+-- **under way (`IsRunUnderWay`, `View`)**: acts of a server and of one job, from a new client on, that led from the one daemon
 -- and this client to these, over connections that hand on; what was done by them is seen by a view.
-pub record IsUnderWay (job : Job) (start d : Core) (c : ClientState) (v : View) : Type 0 where
+pub record IsRunUnderWay (job : Job) (start d : Core) (c : ClientState) (v : View) : Type 0 where
   pub acts : Acts
   pub view : HasView acts v
   pub first : ClientState
@@ -63,7 +63,7 @@ pub record Flows (v : View) : Type 0 where
   pub taken : v.taken ≡ v.projection.shown
 
 -- a session that goes on, and all that either side wrote was read
-pub record IsQuiet (imaging : Bool) (v : View) : Type 0 where
+pub record IsRunQuiet (imaging : Bool) (v : View) : Type 0 where
   pub stands : v.projection.is_open ≡ true
   pub over : v.projection.over ≡ false
   pub drained : v.projection.drained ≡ true
@@ -79,15 +79,15 @@ pub record IsQuiet (imaging : Bool) (v : View) : Type 0 where
 
 -- between two turns of the server
 pub record Rests (imaging : Bool) (v : View) : Type 0 where
-  pub quiet : IsQuiet imaging v
+  pub quiet : IsRunQuiet imaging v
   pub visited : v.projection.visited ≡ false
   pub spoken : v.projection.spoken ≡ false
   pub tended : v.projection.tended ≡ false
   pub asked : v.asked ≡ false
 
 -- in a turn, where the data are to have their part
-pub record IsDue (imaging : Bool) (v : View) : Type 0 where
-  pub quiet : IsQuiet imaging v
+pub record IsTurnDue (imaging : Bool) (v : View) : Type 0 where
+  pub quiet : IsRunQuiet imaging v
   pub visited : v.projection.visited ≡ true
   pub tended : v.projection.tended ≡ false
   pub asked : v.asked ≡ true
@@ -102,14 +102,14 @@ pub record IsClientOf (job : Job) (c : ClientState) : Type 0 where
 -- the data are to have their part.
 pub record IsAtRest (imaging : Bool) (job : Job) (start d : Core) (c : ClientState) (file : List ℕ) : Type 0 where
   pub v : View
-  pub under_way : IsUnderWay job start d c v
+  pub under_way : IsRunUnderWay job start d c v
   pub rests : Rests imaging v
   pub client : IsClientOf job c
   pub gave : v.given ≡ file
 
 pub record IsAtData (imaging : Bool) (job : Job) (start d : Core) (c : ClientState) (file : List ℕ) : Type 0 where
   pub v : View
-  pub under_way : IsUnderWay job start d c v
-  pub due : IsDue imaging v
+  pub under_way : IsRunUnderWay job start d c v
+  pub due : IsTurnDue imaging v
   pub client : IsClientOf job c
   pub gave : v.given ≡ file

@@ -10,7 +10,7 @@ ghost use Rattle.saned_core.specs.DaemonStates.{Core, core};
 ghost use Rattle.saned_core.specs.Feeding.{Feeds};
 ghost use Rattle.saned_core.specs.declared.session_slot.Fed.TheVariants.{Standing};
 ghost use Rattle.saned_serve.specs.SessionActions.{AreRepliesTaken, is_end_record, written_by};
-ghost use Rattle.worked_run.specs.Rounds.{GivesFile, IsDialled, IsRecord, IsRound, said_all};
+ghost use Rattle.worked_run.specs.Rounds.{GivesFile, IsDialledOnce, IsRecord, IsCallRound, said_all};
 ghost use Rattle.worked_run.specs.UnderWay.{IsAtData, IsAtRest};
 
 use device_api::Device;
@@ -113,7 +113,7 @@ fn ask<D: Device>(
     scan: bool,
     file: &mut Vec<u8>,
 ) -> bool
-    ensures { id.number ≡ 0 → result ≡ true → (bytes : List ℕ) × IsRound scan
+    ensures { id.number ≡ 0 → result ≡ true → (bytes : List ℕ) × IsCallRound scan
         (core D.state daemon.old) client.old bytes (core D.state daemon.new) client.new
         × (file.new.items ≡ file.old.items ++ bytes) }
 {
@@ -140,7 +140,7 @@ fn ask<D: Device>(
 
 /// The data connection that the client wants is made.
 fn dial<D: Device>(daemon: &mut Daemon<D>, id: SessionId, client: &mut Client) -> bool
-    ensures { id.number ≡ 0 → result ≡ true → IsDialled
+    ensures { id.number ≡ 0 → result ≡ true → IsDialledOnce
         (core D.state daemon.old) client.old (core D.state daemon.new) client.new }
 {
     if client.is_over() {

@@ -32,7 +32,7 @@ use Rattle.scan_world.specs.Worlds.{WorldCore}
 use Rattle.client_replies.specs.ProtocolStates.{is_running}
 use Rattle.world_contract.specs.Calls.{AreNextMoves, HadUnsaidReply, MovesNext, outcome_at, starved_at}
 use Rattle.world_contract.specs.Clear.{StoppedIsNoLie}
-use Rattle.world_contract.specs.Endings.{AnswerIsExplained, HadNoPage, IsJudged, NamesStatus}
+use Rattle.world_contract.specs.Endings.{AnswerIsExplained, HadNoPage, HasPassed, NamesStatus}
 use Rattle.world_contract.specs.Histories.{History}
 use Rattle.world_contract.specs.Reports.{AreSettingsReported, IsSettingReported, told_option}
 use Rattle.world_contract.specs.Lies.{AllowedIsNoLie, BusyIsNoLie, CancelledIsNoLie, CountIsNoLie, DeniedIsNoLie, EmptyIsNoLie, FailedIsNoLie, FileIsNoLie, GivenUpIsNoLie, GoneOnIsNoLie, HiddenIsNoLie, IdleIsNoLie, InvalIsNoLie, ListIsNoLie, LossIsNoLie, LostIsNoLie, MemoryIsNoLie, MissingIsNoLie, MovedIsNoLie, NamesNothing, NowhereIsNoLie, PageIsNoLie, RoundedIsNoLie, SharedIsNoLie, ShownIsNoLie, SilentIsNoLie, StuckIsNoLie, SwappedIsNoLie, WholeIsNoLie}
@@ -121,7 +121,7 @@ hidden h w i job reports list never done = let o = done.opened list in o.listed 
 pub allowed : AllowedIsNoLie
 allowed h w i job reports list guarded wrong done = by_case (done.opened list).permitted
   where
-    by_case : (is_guarded h.users (backend_of job.device) ≡ false) ⊎ IsJudged h (done.opened list).asked.at.before i job true → ⊥
+    by_case : (is_guarded h.users (backend_of job.device) ≡ false) ⊎ HasPassed h (done.opened list).asked.at.before i job true → ⊥
     by_case (inl unguarded) = let clash : true ≡ false = sym guarded ∙ unguarded in cc
     by_case (inr judged) = let clash : false ≡ true = sym (wrong judged.sent.resource) ∙ judged.is in cc
 

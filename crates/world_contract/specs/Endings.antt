@@ -59,7 +59,7 @@ WasHeld h w i job =
 
 -- a line of the users names its backend, and whether its user and password are allowed for the challenge that its
 -- session had sent, in that world, is this
-pub record IsJudged (h : History) (before : WorldCore) (i : ℕ) (job : Job) (allowed : Bool) : Type 0 where
+pub record HasPassed (h : History) (before : WorldCore) (i : ℕ) (job : Job) (allowed : Bool) : Type 0 where
   pub session : Session DeviceState
   pub stands : SessionAt before i session
   pub sent : AwaitedAuthorization
@@ -69,7 +69,7 @@ pub record IsJudged (h : History) (before : WorldCore) (i : ℕ) (job : Job) (al
 
 -- they are not
 abbrev pub WasDisallowed : History → WorldCore → ℕ → Job → Type 0
-WasDisallowed h w i job = (asked : Asked h w i IsAtOpen) × IsJudged h asked.at.before i job false
+WasDisallowed h w i job = (asked : Asked h w i IsAtOpen) × HasPassed h asked.at.before i job false
 
 -- as it asked for a start behind so many finished pages, the device that its session had had none
 abbrev pub HadNoPage : History → WorldCore → ℕ → Job → ℕ → Type 0
@@ -137,11 +137,11 @@ IsEndingExplained h w i job starved status why = ⊥
 
 -- ---- and where a job is done
 
--- **opened (`WasOpened`, `IsJudged`)**: as a job that is done asked for its device, that was listed and no session had
+-- **opened (`WasOpened`, `HasPassed`)**: as a job that is done asked for its device, that was listed and no session had
 -- it; no line of the users names its backend, or its user and password are allowed for the challenge that its session
 -- had sent.
 pub record WasOpened (h : History) (w : WorldCore) (i : ℕ) (job : Job) : Type 0 where
   pub asked : Asked h w i IsAtOpen
   pub listed : find_name job.device asked.at.before.daemon.registry ≢ None
   pub free : (j : ℕ) (d : DeviceState) → Has asked.at.before j job.device d → ⊥
-  pub permitted : (is_guarded h.users (backend_of job.device) ≡ false) ⊎ IsJudged h asked.at.before i job true
+  pub permitted : (is_guarded h.users (backend_of job.device) ≡ false) ⊎ HasPassed h asked.at.before i job true

@@ -162,7 +162,7 @@ not_listed h w i job s e on a opens none =
     (asked_open h w i job s on a opens, unlisted_none a.1.ghost a.1.at.before job.device a.1.stands there)
 
 -- whether its user and password are allowed for the challenge that its session had sent
-pub judged_by : (h : History) (w : WorldCore) (i : ℕ) (job : Job) (s : SystemState) (allowed : Bool) → Here h i job s → IsUnderWay (s.job i).client.stage → (s.job i).served ≡ true → (a : Front h w job s i) → (c : Challenge) → (s.job i).session.awaited ≡ Some c → (s.job i).session.job.allows c ≡ allowed → rows.IsJudged h a.1.at.before i job allowed
+pub judged_by : (h : History) (w : WorldCore) (i : ℕ) (job : Job) (s : SystemState) (allowed : Bool) → Here h i job s → IsUnderWay (s.job i).client.stage → (s.job i).served ≡ true → (a : Front h w job s i) → (c : Challenge) → (s.job i).session.awaited ≡ Some c → (s.job i).session.job.allows c ≡ allowed → rows.HasPassed h a.1.at.before i job allowed
 judged_by h w i job s allowed e on served a c awaited allows =
     let linked = linked_by i (make_for s i) (s.job i) (device_for s i) (s.job i).client.stage (e.sound.talks i) on served in
     let r = awaits_there a.1.ghost a.1.at.before i c a.1.stands (slice_get a.1.at.before.endpoints i) refl (ap (λ (u : SystemState). (u.job i).served) a.1.state ∙ served) (ap (λ (u : SystemState). (u.job i).linked) a.1.state ∙ linked) (ap (λ (u : SystemState). (u.job i).session.awaited) a.1.state ∙ awaited) in

@@ -29,7 +29,7 @@ use Rattle.world_refines.specs.FailedSources.{AllAlong}
 use Rattle.world_refines.specs.GhostStates.{Ghost, backend_of, is_guarded, name_at, place_named}
 use Rattle.world_refines.specs.WorldRefinement.{HaveDifferentNames, WorldRefines}
 use Rattle.world_refines.proofs.state.Finding.{find_there, names_at}
-use Rattle.world_contract.specs.Endings.{IsJudged, WasOpened}
+use Rattle.world_contract.specs.Endings.{HasPassed, WasOpened}
 use Rattle.world_contract.specs.Histories.{History}
 use Rattle.world_contract.specs.Sessions.{Has}
 use Rattle.world_contract.proofs.Along.{Here, Laws, own_place}
@@ -196,7 +196,7 @@ none_has t w name k h free named j d has =
     let same : m.place ≡ k = h.is_of.apart m.place k name m.named named in
     let clash : None ≡ Some j = sym free ∙ (ap (λ (n : ℕ). (t.system.device n).holder) (sym same) ∙ ap (λ (dev : AbstractDevice). dev.holder) m.is) in cc
 
-permitted_by : (h : History) (w : WorldCore) (i : ℕ) (job : Job) (s : SystemState) → Here h i job s → IsUnderWay (s.job i).client.stage → (s.job i).served ≡ true → (a : Front h w job s i) → ((s.job i).session.job.guarded ≡ false) ⊎ ((c : Challenge) × ((s.job i).session.awaited ≡ Some c) × ((s.job i).session.job.allows c ≡ true)) → (is_guarded h.users (backend_of job.device) ≡ false) ⊎ IsJudged h a.1.at.before i job true
+permitted_by : (h : History) (w : WorldCore) (i : ℕ) (job : Job) (s : SystemState) → Here h i job s → IsUnderWay (s.job i).client.stage → (s.job i).served ≡ true → (a : Front h w job s i) → ((s.job i).session.job.guarded ≡ false) ⊎ ((c : Challenge) × ((s.job i).session.awaited ≡ Some c) × ((s.job i).session.job.allows c ≡ true)) → (is_guarded h.users (backend_of job.device) ≡ false) ⊎ HasPassed h a.1.at.before i job true
 permitted_by h w i job s e on served a (inl unguarded) = inl (ap (λ (j : AbstractJob). j.guarded) (sym e.is) ∙ unguarded)
 permitted_by h w i job s e on served a (inr (c, awaited, allows)) = inr (judged_by h w i job s true e on served a c awaited allows)
 
