@@ -1,9 +1,9 @@
-use config_pages::NoPage;
+use config_pages::{NoPage, text_of};
 use dispatch::{ConfigFault, ConfigReason};
 use md5_auth::{LineFault, LineReason};
 use sane_fixed::ByteOrder;
 use saned_cli::{
-    DaemonEnding, DaemonOptions, DaemonOptionsFault, PortRange, read_options, read_seed, text_of,
+    DaemonEnding, DaemonOptions, DaemonOptionsFault, PortRange, read_options, read_seed,
 };
 use saned_requests::StringSize;
 use std::alloc::Global;
