@@ -119,8 +119,8 @@ fn told<E: Write>(err: &mut E, ending: &DaemonEnding) -> ExitCode
 
 /// Serves as the words of the command line say, and gives the exit status.
 fn exit_code<E: Write>(rt: &HostRuntime, words: &[String], err: &mut E) -> ExitCode
-    /// Where the exit status is 0, a daemon of the config's devices and the users, with the seed and the size of strings that the
-    /// words say, has served as many sessions, or as long, as they say.
+    /// Where the exit status is 0, a daemon of some devices and users, with the seed and the size of strings that the words say,
+    /// has served as `serve` says, with their limits of sessions and idle turns.
     /// Carried by: `well` of the private `exit_code`, `done` of the private `run`: `HasServedFor`
     ensures well { code_of result ≡ 0 → HasServedFor (map string_bytes words.now) }
     /// Any other exit status is that of the ending that is told.

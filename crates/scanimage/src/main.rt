@@ -103,8 +103,8 @@ fn exit_code<O: Write, E: Write>(
     out: &mut O,
     err: &mut E,
 ) -> ExitCode
-    /// Where the exit status is 0, what the words of the command line ask for is done: on the devices of the config's lines, or
-    /// on a daemon of the host and port that they name.
+    /// Where the exit status is 0, what the words of the command line ask for is done: on the device of that name among some
+    /// devices, or on a daemon of the host and port that they name.
     /// Carried by: `well` of the private `exit_code`, `done` of the private `run`: `HasRunFor`
     ensures well { code_of result ≡ 0 → HasRunFor words.now
         (record { out = O.contents out.old; err = E.contents err.old })
