@@ -4,8 +4,12 @@ same backend on this machine without any daemon; what that one writes otherwise 
 import contextlib
 import os
 import re
+import select
 import signal
+import socket
+import struct
 import subprocess
+import threading
 
 THEIR_PORT, PATIENCE, IN_TIME = 16566, 5, 30
 PICTURES = ("Solid white", "Color pattern", "Grid")
@@ -35,9 +39,9 @@ class Theirs:
         words = [self.place.saned, "-l", "-e", "-b", "127.0.0.1", "-p", str(THEIR_PORT)]
         return self.place.serving(words, THEIR_PORT, side=self.side)
 
-    def words(self, *words):
+    def words(self, *words, port=THEIR_PORT):
         """The command line of ours that scans."""
-        return [self.ours, "--port", str(THEIR_PORT), "-d", f"net:localhost:{self.backend}:0", "--dial-first", *words]
+        return [self.ours, "--port", str(port), "-d", f"net:localhost:{self.backend}:0", "--dial-first", *words]
 
     def scanned(self, *words):
         """Our scan: its status, the file, and what it says."""
@@ -48,6 +52,12 @@ class Theirs:
         status, told, wrong = self.place.ran([*self.words(*words), "-A"], limit=IN_TIME)
         return status, told.decode(errors="replace"), wrong
 
+    def listed_aloud(self, *words):
+        """The same, with what ours and the daemon said to each other."""
+        with Ear() as ear:
+            status, told, wrong = self.place.ran([*self.words(*words, port=ear.port), "-A"], limit=IN_TIME)
+        return status, told.decode(errors="replace"), wrong, ear.said
+
     def direct(self, *words):
         """SANE's own scan or list of the same backend, with no daemon. Its window is a corner and a size."""
         pairs, given = [], dict(zip(words[::2], words[1::2]))
@@ -56,6 +66,34 @@ class Theirs:
                 value = str(int(value) - int(given.get(name.replace("br", "tl"), "0")))
             pairs += [WINDOW[name], value] if name in WINDOW else [f"{name}={value}"]
         return self.place.ran([self.place.scanimage, "-d", f"{self.backend}:0", "--format=pnm", *pairs], side=self.side)
+
+
+class Ear:
+    """Stands between one client and SANE's daemon, and keeps what each of them says."""
+
+    def __init__(self):
+        self.listener, self.said = socket.create_server(("127.0.0.1", 0)), [b"", b""]
+        self.port = self.listener.getsockname()[1]
+        self.listening = threading.Thread(target=self.carry, daemon=True)
+
+    def __enter__(self):
+        self.listening.start()
+        return self
+
+    def __exit__(self, *_):
+        self.listening.join(IN_TIME)
+        self.listener.close()
+
+    def carry(self):
+        with contextlib.suppress(OSError), self.listener.accept()[0] as client, socket.create_connection(("127.0.0.1", THEIR_PORT)) as daemon:
+            ends = [client, daemon]
+            while True:
+                for one in select.select(ends, [], [])[0]:
+                    piece = one.recv(65536)
+                    if not piece:
+                        return
+                    self.said[one is daemon] += piece
+                    ends[one is client].sendall(piece)
 
 
 def blank(file):
@@ -362,9 +400,19 @@ def reads_back(theirs, first, name, value):
     if f"rounded value of {name.removeprefix('--')}" in wrong:
         return "rounded"
     shown = table(told)[1].get(WINDOW.get(name, name), "")
-    if re.search(r"\[\d+ values\]|\[read-only\]", shown) or f"[{value}]" in shown:
-        return "back"
-    return f"shown as {shown[-40:]}"
+    if re.search(r"\[\d+ values\]", shown):
+        return "back" if is_kept_whole(theirs, first, name, value) else f"not told back: {value[:40]}"
+    return "back" if "[read-only]" in shown or f"[{value}]" in shown else f"shown as {shown[-40:]}"
+
+
+def is_kept_whole(theirs, first, name, value):
+    """Whether the words of a vector, which a table does not show, were asked for and told back, each in its place: whole numbers, or
+    fixed ones."""
+    status, _, _, (asked, answered) = theirs.listed_aloud(*first, name, value)
+    words = [float(it) for it in value.split(",")]
+    ways = [[int(it * scale) for it in words] for scale in (1, 65536) if all(it * scale == int(it * scale) and abs(it * scale) < 1 << 31 for it in words)]
+    spelled = [struct.pack(f">II{len(it)}i", 4 * len(it), len(it), *it) for it in ways]
+    return status == 0 and any(it in asked and it in answered for it in spelled)
 
 
 def trials(ours):
