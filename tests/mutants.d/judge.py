@@ -66,7 +66,7 @@ class Said:
         """A law that is not proved any more, with what its proof lacks, where no text of a proof has only lost a name."""
         name = next((it for it, told in self.told.items() if ("no proof" in told or "not proved" in told) and it.split("::")[-1] in laws), "")
         found = [PROOF_ERROR.match(it) for it in self.lines]
-        errors = [it[2] for it in found if it and "depend" not in it[2] and "note:" not in it[0]]
+        errors = [it[2] for it in found if it and "depend" not in it[2] and "note:" not in it[0]] or [it[2] for it in self.notes if it[3] == name and GOAL in it[2]]
         return f"{name}: {errors[0]}" if name and errors and not any(LOST_NAME.search(it) for it in errors) else ""
 
     def first_error(self):
