@@ -17,3 +17,4 @@ pub mod Asking
 pub mod Shelving
 pub mod Batching
 pub mod Refusing
+pub mod OutputEnds
