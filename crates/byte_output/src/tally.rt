@@ -39,8 +39,15 @@ impl OutputTally {
     pub fn new() -> OutputTally
         ensures { result ≡ record { again = 2 ^ 40; failed = false } }
     {
+        OutputTally::with_again(MOST_AGAIN)
+    }
+
+    /// Before the first call, where so many interrupted writes may be made again.
+    pub fn with_again(again: u64) -> OutputTally
+        ensures { result ≡ record { again = again; failed = false } }
+    {
         OutputTally {
-            again: MOST_AGAIN,
+            again,
             failed: false,
         }
     }

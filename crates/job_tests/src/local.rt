@@ -4,7 +4,7 @@ mod tasks;
 
 use device_api::Device;
 use flatbed_dev::Flatbed;
-use local_job::{MOST_AGAIN, put, run_local};
+use local_job::{MOST_AGAIN, OutputTally, put, run_local};
 use option_desc::Value;
 use page_picture::{FailingPage, MemoryPage, Source, read_page};
 use pnm_writer::read_pnm;
@@ -661,11 +661,11 @@ const BYTES: &[(&[u8], bool)] = &[(b"twelve bytes", true), (b"", true), (b"more"
 #[test]
 fn bytes_put(rt: HostRuntime) {
     let mut out = disk_with(rt.alloc(), 12, 2, true);
-    let mut again = 2;
+    let mut outputs = OutputTally::with_again(2);
     for (bytes, takes) in BYTES {
-        assert!(&rt; put(&mut out, bytes, &mut again) == *takes);
+        assert!(&rt; put(&mut out, bytes, &mut outputs) == *takes);
         assert!(&rt; out.taken.as_slice() == b"twelve bytes".as_slice());
-        assert!(&rt; again == 0);
+        assert!(&rt; outputs.has_failed() != *takes);
     }
     drop(out);
 }
@@ -673,14 +673,17 @@ fn bytes_put(rt: HostRuntime) {
 /// How often an output is interrupted, and whether it takes what is put then.
 const TOO_OFTEN: &[(u32, bool)] = &[(2, true), (1, true), (1, false), (0, true)];
 
-/// Interrupted writes are counted over all that is put.
+/// Interrupted writes are counted over all that is put, and a failure stays noted.
 #[test]
 fn interrupted_too_often(rt: HostRuntime) {
     let alloc = rt.alloc();
-    let mut again = 3;
+    let mut outputs = OutputTally::with_again(3);
+    let mut has_failed = false;
     for (interrupts, takes) in TOO_OFTEN {
         let mut out = disk_with(alloc, 4, *interrupts, true);
-        assert!(&rt; put(&mut out, b"four", &mut again) == *takes);
+        assert!(&rt; put(&mut out, b"four", &mut outputs) == *takes);
+        has_failed |= !*takes;
+        assert!(&rt; outputs.has_failed() == has_failed);
         drop(out);
     }
     assert!(&rt; MOST_AGAIN == 1_099_511_627_776);

@@ -325,6 +325,7 @@ fn talk<C: Read + Write, D: Dial>(
 fn looks_again(client: &Client, has_looked: &mut bool) -> bool
     ensures early { result ≡ true → HasEarlyReply client.now }
     ensures once { result ≡ true → has_looked.old ≡ false }
+    ensures looks { has_looked.old ≡ false → HasEarlyReply client.now → result ≡ true }
     ensures noted { has_looked.new ≡ result }
 {
     let is_early = !*has_looked && client.has_early_reply();

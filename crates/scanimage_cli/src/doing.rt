@@ -7,7 +7,7 @@ ghost use Rattle.local_job.specs.LocalRun.{LeavesNoFile, ChangesDevice};
 use crate::ending::Ending;
 use crate::printed::Printout;
 use device_api::Device;
-use local_job::{run_local_batch_with, run_local_with};
+use local_job::{OutputTally, run_local_batch_with, run_local_with};
 use scan_job::{Job, Shelf};
 use std::alloc::Global;
 use std::io::Write;
@@ -46,7 +46,8 @@ pub fn do_job<W: Write>(
 {
     let name = job.device.as_bytes();
     let task = job.task;
-    let done = run_local_with(alloc, device, job, output, |reports| {
+    let mut outputs = OutputTally::new();
+    let done = run_local_with(alloc, device, job, output, &mut outputs, |reports| {
         Printout::of(alloc, b"", name, task, reports)
     });
     match done {
@@ -78,7 +79,8 @@ pub fn do_batch<S: Shelf>(
 {
     let name = job.device.as_bytes();
     let task = job.task;
-    let done = run_local_batch_with(alloc, device, job, shelf, |reports| {
+    let mut outputs = OutputTally::new();
+    let done = run_local_batch_with(alloc, device, job, shelf, &mut outputs, |reports| {
         Printout::of(alloc, b"", name, task, reports)
     });
     match done {

@@ -9,6 +9,7 @@ ghost use Rattle.scanimage_cli.specs.Programs.{IsFailure};
 use crate::device_listing::net_prefix;
 use crate::ending::Ending;
 use crate::printed::Printout;
+use local_job::OutputTally;
 use net_backend::{Dial, run_batch_with, run_job_with};
 use sane_fixed::{NoMem, Text};
 use scan_job::{Job, Shelf};
@@ -56,7 +57,8 @@ pub fn do_net_job<C: Read + Write, D: Dial, W: Write>(
         return Err(Ending::no_memory());
     };
     let task = job.task;
-    let done = run_job_with(alloc, job, control, dial, output, |reports| {
+    let mut outputs = OutputTally::new();
+    let done = run_job_with(alloc, job, control, dial, output, &mut outputs, |reports| {
         Printout::of(alloc, prefix.as_slice(), device.as_bytes(), task, reports)
     });
     match done {
@@ -91,7 +93,8 @@ pub fn do_net_batch<C: Read + Write, D: Dial, S: Shelf>(
         return Err(Ending::no_memory());
     };
     let task = job.task;
-    let done = run_batch_with(alloc, job, control, dial, shelf, |reports| {
+    let mut outputs = OutputTally::new();
+    let done = run_batch_with(alloc, job, control, dial, shelf, &mut outputs, |reports| {
         Printout::of(alloc, prefix.as_slice(), device.as_bytes(), task, reports)
     });
     match done {

@@ -3,7 +3,7 @@ ghost use Rattle.std.specs.Io.KnownBytes.{Appends};
 
 use crate::ending::Ending;
 use crate::printed::Printout;
-use local_job::{MOST_AGAIN, put};
+use local_job::{OutputTally, put};
 use sane_fixed::Status;
 use scan_job::Why;
 use std::io::Write;
@@ -17,8 +17,8 @@ pub fn print<W: Write>(to: &mut W, lines: &[u8]) -> Result<(), Ending>
     // No output fails for nothing.
     ensures nothing { lines.now ≡ [] → IsOk result }
 {
-    let mut again = MOST_AGAIN;
-    if put(to, lines, &mut again) {
+    let mut outputs = OutputTally::new();
+    if put(to, lines, &mut outputs) {
         Ok(())
     } else {
         Err(Ending::failed_output())
