@@ -1,5 +1,6 @@
 -- That a job ends for its output only where that failed.
-use Rattle.std.proofs.Common.{◌≡◌, ◌≢◌, ◌∙◌, ◌⊎◌, ℕ, Bool, true, false, Option, List, inl, inr, ap, sym, subst}
+use Rattle.std.proofs.Common.{◌≡◌, ◌≢◌, ◌∙◌, ◌⊎◌, ℕ, Bool, true, false, Option, Result, Ok, Err, List, inl, inr, ap, refl, sym, subst}
+use Rattle.std.specs.Prelude.{IfErr}
 use Rattle.std.specs.Io.KnownBytes.{Appends}
 use Rattle.sane_fixed.specs.declared.status.Status.TheVariants as statuses
 use Rattle.frame_join.specs.FrameHistory.{JoinHistory}
@@ -79,3 +80,15 @@ fails_by views left_of job first coming0 before was notes links coming stream c 
     from_here views left_of job first coming0 before was notes links coming stream c old under given past (λ b outputs k q. failed ≡ true) (sym scanning ∙ e) h shelf g goes
 fails_by views left_of job first coming0 before was notes links coming stream c old under given past is_scanning false result failed e scanning h shelf g short none goes =
     absurd (let clash : true ≡ false = sym (none e) ∙ short in cc)
+
+-- ---- a batch whose last output is given back
+
+taken_or_not : (is_taken was failed : Bool) → (is_taken ≡ false → failed ≡ true) → (is_taken ≡ true → failed ≡ was) → was ≡ true → failed ≡ true
+taken_or_not true was failed refused kept noted = kept refl ∙ noted
+taken_or_not false was failed refused kept noted = refused refl
+
+pub closed_output : {T : Type 0} (done result : Result T Stop) (is_taken was failed : Bool) → IfErr result (λ stop. (done ≡ Err stop) ⊎ (is_taken ≡ false)) → IfErr done (λ stop. stop.why ≡ whys.Sink → was ≡ true)
+    → (is_taken ≡ false → failed ≡ true) → (is_taken ≡ true → failed ≡ was) → IfErr result (λ stop. stop.why ≡ whys.Sink → failed ≡ true)
+closed_output done (Ok it) is_taken was failed by ends refused kept = tt
+closed_output {T} done (Err stop) is_taken was failed (inl is) ends refused kept = λ sink. taken_or_not is_taken was failed refused kept (subst (λ (r : Result T Stop). IfErr r (λ s. s.why ≡ whys.Sink → was ≡ true)) is ends sink)
+closed_output done (Err stop) is_taken was failed (inr is) ends refused kept = λ sink. refused is
