@@ -5,6 +5,7 @@ pub mod DataStreams
 pub mod KeepingInvariant
 pub mod DataLoop
 pub mod Giving
+pub mod ToldPorts
 pub mod Steps
 pub mod RunInvariants
 pub mod Turning

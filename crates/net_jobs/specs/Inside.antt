@@ -25,7 +25,7 @@ use Rattle.sane_fixed.specs.declared.status.Status.TheVariants as statuses
 use Rattle.scan_job.specs.declared.outcome.Why.TheVariants as whys
 use Rattle.net_jobs.specs.declared.calls.Loss.{Loss}
 use Rattle.net_jobs.specs.declared.calls.Loss.TheVariants.{ReadFailed, StreamEnded, DialFailed}
-use Rattle.net_jobs.specs.JobJournal.{AreGives, IsPiece, JobMove, Hears, Resumes, MovesLead, Fails, Dials, Takes, Gives, Loses, MoveLeads, HearsPiece, TakesPiece, DialsPort, MissesPort, LosesLink, has_write_failed, given_by}
+use Rattle.net_jobs.specs.JobJournal.{AreGives, IsPiece, JobMove, StandsBehind, Hears, Resumes, MovesLead, Fails, Dials, Takes, Gives, Loses, MoveLeads, HearsPiece, TakesPiece, DialsPort, MissesPort, LosesLink, has_write_failed, given_by}
 use Rattle.net_jobs.specs.JobSteps.{FileRunsOut, IsDelivery, MovesAreSteps, MovesStopWithin, PageEnds, StepsGive}
 use Rattle.net_jobs.specs.JobTraces.{TraceEvent, EndWell}
 use Rattle.net_jobs.specs.JobTraces.TraceEvent.{Opened}
@@ -183,7 +183,7 @@ IsQuiet move = Unit {0}
 
 abbrev pub AreQuiet : List JobMove → Type 0
 AreQuiet [] = Unit {0}
-AreQuiet (move ∷ moves) = IsQuiet move × AreQuiet moves
+AreQuiet (move ∷ moves) = IsQuiet move × StandsBehind move moves × AreQuiet moves
 
 -- the moves of a turn that leads to that client: with its newest something comes, if that is told, or it ends the job
 pub data AreOfTurn (came : Bool) (now : ClientState) (moves : List JobMove) : Type 0 where
