@@ -651,9 +651,9 @@ pub fn run_job<C: Read + Write, D: Dial, W: Write>(
     /// job ended before.
     /// Carried by: `done`, `ended` of `run_job`
     ///
-    /// What makes the data connections is told beforehand of no port but that which START's reply named, once the
-    /// frame's parameters are asked for and before they are told.
-    /// Carried by: `done`, `ended` of `run_job`: `PreparesPort` of its moves
+    /// What makes the data connections is told beforehand of no port but that which START's reply named, right behind
+    /// the request for the frame's parameters and before they are told; and of each frame's once.
+    /// Carried by: `done`, `ended` of `run_job`: `PreparesPort` of its moves, and `PortsAreTold`
     ///
     /// Each data connection began with the records of a frame that ended, but for at most one that was let go within
     /// its frame.
