@@ -12,3 +12,5 @@ mod local;
 mod program;
 #[cfg(test)]
 mod streams;
+#[cfg(test)]
+mod worked;

@@ -4,7 +4,7 @@ mod tasks;
 
 use device_api::Device;
 use flatbed_dev::Flatbed;
-use local_job::{MOST_AGAIN, put, run_local};
+use local_job::{MOST_AGAIN, OutputTally, put, run_local};
 use option_desc::Value;
 use page_picture::{FailingPage, MemoryPage, Source, read_page};
 use pnm_writer::read_pnm;
@@ -16,13 +16,13 @@ use std::process::Abort;
 
 const RESOLUTION: u32 = 3;
 
-const TWO_ROWS: &[u8] = b"P5\n1 2\n255\n\x07\x09";
+pub(crate) const TWO_ROWS: &[u8] = b"P5\n1 2\n255\n\x07\x09";
 
 /// The settings that show the two-row page as it is.
-const ONE_BY_TWO: &[(&[u8], &[u8])] = &[(b"resolution", b"26"), (b"br-x", b"1"), (b"br-y", b"2")];
+pub(crate) const ONE_BY_TWO: &[(&[u8], &[u8])] = &[(b"resolution", b"26"), (b"br-x", b"1"), (b"br-y", b"2")];
 
 /// Its whole file, of 33 bytes.
-const TWO_ROWS_FILE: &[u8] = b"P5\n# SANE data follows\n1 2\n255\n\x07\x09";
+pub(crate) const TWO_ROWS_FILE: &[u8] = b"P5\n# SANE data follows\n1 2\n255\n\x07\x09";
 
 fn text(rt: &impl Abort, alloc: Global, bytes: &[u8]) -> Text {
     Text::new(alloc, bytes).expect(rt, "a text")
@@ -37,7 +37,7 @@ fn flatbed(rt: &impl Abort, alloc: Global, source: Source) -> Flatbed {
 }
 
 /// A flatbed on a page file of so many dots per inch.
-fn flatbed_on(rt: &impl Abort, alloc: Global, file: &[u8], dpi: u32) -> Flatbed {
+pub(crate) fn flatbed_on(rt: &impl Abort, alloc: Global, file: &[u8], dpi: u32) -> Flatbed {
     let page = read_page(alloc, file, dpi).expect(rt, "a page");
     flatbed(rt, alloc, Source::Memory(MemoryPage::new(page)))
 }
@@ -53,7 +53,12 @@ fn pairs(rt: &impl Abort, alloc: Global, settings: &[(&[u8], &[u8])]) -> Vec<(Te
 }
 
 /// A job of these settings, in their order.
-fn job(rt: &impl Abort, alloc: Global, settings: &[(&[u8], &[u8])], task: Task) -> Job {
+pub(crate) fn job(
+    rt: &impl Abort,
+    alloc: Global,
+    settings: &[(&[u8], &[u8])],
+    task: Task,
+) -> Job {
     Job {
         settings: pairs(rt, alloc, settings),
         user: text(rt, alloc, b"user"),
@@ -661,11 +666,11 @@ const BYTES: &[(&[u8], bool)] = &[(b"twelve bytes", true), (b"", true), (b"more"
 #[test]
 fn bytes_put(rt: HostRuntime) {
     let mut out = disk_with(rt.alloc(), 12, 2, true);
-    let mut again = 2;
+    let mut outputs = OutputTally::with_again(2);
     for (bytes, takes) in BYTES {
-        assert!(&rt; put(&mut out, bytes, &mut again) == *takes);
+        assert!(&rt; put(&mut out, bytes, &mut outputs) == *takes);
         assert!(&rt; out.taken.as_slice() == b"twelve bytes".as_slice());
-        assert!(&rt; again == 0);
+        assert!(&rt; outputs.has_failed() != *takes);
     }
     drop(out);
 }
@@ -673,14 +678,17 @@ fn bytes_put(rt: HostRuntime) {
 /// How often an output is interrupted, and whether it takes what is put then.
 const TOO_OFTEN: &[(u32, bool)] = &[(2, true), (1, true), (1, false), (0, true)];
 
-/// Interrupted writes are counted over all that is put.
+/// Interrupted writes are counted over all that is put, and a failure stays noted.
 #[test]
 fn interrupted_too_often(rt: HostRuntime) {
     let alloc = rt.alloc();
-    let mut again = 3;
+    let mut outputs = OutputTally::with_again(3);
+    let mut has_failed = false;
     for (interrupts, takes) in TOO_OFTEN {
         let mut out = disk_with(alloc, 4, *interrupts, true);
-        assert!(&rt; put(&mut out, b"four", &mut again) == *takes);
+        assert!(&rt; put(&mut out, b"four", &mut outputs) == *takes);
+        has_failed |= !*takes;
+        assert!(&rt; outputs.has_failed() == has_failed);
         drop(out);
     }
     assert!(&rt; MOST_AGAIN == 1_099_511_627_776);

@@ -13,3 +13,4 @@ pub mod EmptyTrays
 pub mod ShelfFiles
 pub mod Batches
 pub mod BatchRuns
+pub mod OutputEnds

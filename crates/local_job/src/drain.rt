@@ -7,6 +7,7 @@ ghost use Rattle.local_job.specs.Inside.{JoinIsDrainedTo};
 ghost use Rattle.scan_job.specs.FileOutputs.{StopsShort};
 
 use crate::outlet::Outlet;
+use byte_output::OutputTally;
 use frame_join::{FrameJoin, PnmOut, no_file_is_endless, no_front_is_whole};
 
 /// More than a file has bytes.
@@ -14,7 +15,12 @@ const MOST_PULLS: u64 = 1 << 40;
 
 /// Writes all bytes of the file that may go out. Says whether the output took them; if not, what it
 /// took in all is no whole file.
-pub fn drain<W: Outlet>(join: &mut FrameJoin, room: &mut [u8], out: &mut W, again: &mut u64) -> bool
+pub fn drain<W: Outlet>(
+    join: &mut FrameJoin,
+    room: &mut [u8],
+    out: &mut W,
+    outputs: &mut OutputTally,
+) -> bool
     requires { 0 < length room.old }
     ensures room { length room.new ≡ length room.old }
     ensures becomes { (first : W) → W.Becomes first out.old → W.Becomes first out.new }
@@ -25,6 +31,9 @@ pub fn drain<W: Outlet>(join: &mut FrameJoin, room: &mut [u8], out: &mut W, agai
     ensures short { result ≡ false → (first : Option (List ℕ)) (past : JoinHistory)
         → Represents past join.old → past.fault ≡ None
         → Appends first (W.contents out.old) past.given → StopsShort first (W.contents out.new) }
+    ensures failed { result ≡ false → (first : Option (List ℕ)) (past : JoinHistory)
+        → Represents past join.old → past.fault ≡ None
+        → Appends first (W.contents out.old) past.given → outputs.new.failed ≡ true }
 {
     no_file_is_endless();
     no_front_is_whole();
@@ -34,7 +43,7 @@ pub fn drain<W: Outlet>(join: &mut FrameJoin, room: &mut [u8], out: &mut W, agai
         if n == 0 {
             return true;
         }
-        if !out.put(&room[..n], again) {
+        if !out.put(&room[..n], outputs) {
             return false;
         }
     }

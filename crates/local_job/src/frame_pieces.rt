@@ -1,4 +1,4 @@
-ghost use Rattle.std.specs.Prelude.{◌≡◌, ◌<◌, ◌≤◌, ◌+◌, ◌++◌, ◌⊎◌, Some, Option, List, ℕ, OnOk, OnErr, length};
+ghost use Rattle.std.specs.Prelude.{◌≡◌, ◌<◌, ◌≤◌, ◌+◌, ◌++◌, ◌⊎◌, Some, Option, List, ℕ, OnOk, OnErr, length, true};
 ghost use Rattle.page_picture.specs.Shows.{Frame};
 ghost use Rattle.frame_join.specs.FrameHistory.{JoinHistory};
 ghost use Rattle.frame_join.specs.AloneFrame.{most_bytes};
@@ -11,10 +11,12 @@ ghost use Rattle.device_api.specs.State.{Reading, after_pass, goes_to, page_of};
 ghost use Rattle.local_job.specs.FrameReading.{IsRefusal, KeepsDevice};
 ghost use Rattle.local_job.specs.ScanCauses.{ScanHasCause};
 ghost use Rattle.scan_job.specs.Stops.{no_memory, failed_output};
+ghost use Rattle.scan_job.specs.declared.outcome.Why.TheVariants.{Sink};
 
 use crate::drain::drain;
 use crate::local_stop::{read_refused, stop_of_join};
 use crate::outlet::Outlet;
+use byte_output::OutputTally;
 use device_api::Device;
 use frame_join::{FrameJoin, not_whole_before};
 use sane_fixed::Status;
@@ -26,7 +28,7 @@ fn take_piece<W: Outlet>(
     bytes: &[u8],
     room: &mut [u8],
     out: &mut W,
-    again: &mut u64,
+    outputs: &mut OutputTally,
 ) -> Result<(), Stop>
     requires { 0 < length room.old }
     ensures room { length room.new ≡ length room.old }
@@ -39,6 +41,10 @@ fn take_piece<W: Outlet>(
         → JoinIsInside past frame first join.old (W.contents out.old)
         → StopsShort first (W.contents out.new)) }
     ensures refusal { IfErr result (λ stop. IsRefusal stop) }
+    ensures output { IfErr result (λ stop. stop.why ≡ Sink
+        → (first : Option (List ℕ)) (past : JoinHistory) (frame : Frame)
+        → JoinIsInside past frame first join.old (W.contents out.old)
+        → outputs.new.failed ≡ true) }
     // Bytes that the frame has room for are never too many.
     ensures cause { IfErr result (λ stop. (first : Option (List ℕ)) (past : JoinHistory)
         (frame : Frame) → JoinIsInside past frame first join.old (W.contents out.old)
@@ -50,7 +56,7 @@ fn take_piece<W: Outlet>(
     if let Some(fault) = join.fault() {
         return Err(stop_of_join(fault));
     }
-    if drain(join, room, out, again) {
+    if drain(join, room, out, outputs) {
         Ok(())
     } else {
         Err(Stop::failed_output())
@@ -64,7 +70,7 @@ pub fn read_frame<W: Outlet>(
     piece: &mut [u8],
     room: &mut [u8],
     out: &mut W,
-    again: &mut u64,
+    outputs: &mut OutputTally,
 ) -> Result<(), Stop>
     requires piece { 0 < length piece.old }
     requires room { 0 < length room.old }
@@ -96,6 +102,11 @@ pub fn read_frame<W: Outlet>(
         → pass_length (state device.old).setup (page_of (state device.old)) pass
         ≤ most_bytes under.frame.params
         → ScanHasCause stop (state device.old) (state device.new)) }
+    // What a read answers is never told as an output that failed.
+    ensures output { IfErr result (λ stop. stop.why ≡ Sink → (pass : ℕ) (under : FrameUnderWay)
+        → FrameHasBegun (state device.old) pass under
+        (record { join = join.old; contents = W.contents out.old })
+        → outputs.new.failed ≡ true) }
     ensures same { KeepsDevice (state device.old) (state device.new) }
 {
     not_whole_before();
@@ -105,6 +116,6 @@ pub fn read_frame<W: Outlet>(
             Err(status) if status == Status::Eof => return Ok(()),
             Err(status) => return Err(read_refused(status)),
         };
-        take_piece(join, &piece[..n], room, out, again)?;
+        take_piece(join, &piece[..n], room, out, outputs)?;
     }
 }

@@ -14,6 +14,6 @@ mod run;
 mod scan;
 mod settings;
 
-pub use byte_output::{MOST_AGAIN, put};
+pub use byte_output::{MOST_AGAIN, OutputTally, put};
 pub use local_batch::{run_local_batch, run_local_batch_with};
 pub use run::{run_local, run_local_with};

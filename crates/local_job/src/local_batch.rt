@@ -5,12 +5,14 @@ ghost use Rattle.device_api.specs.State.{is_at_rest, after_reset};
 ghost use Rattle.scan_job.specs.JobSize.{HasJobFault};
 ghost use Rattle.scan_job.specs.Outcomes.{IfDone, IfEnded, IsOver};
 ghost use Rattle.local_job.specs.FrameReading.{IsRefusal};
+ghost use Rattle.scan_job.specs.declared.outcome.Why.TheVariants.{Sink};
 ghost use Rattle.local_job.specs.LocalBatch.{pages_of_task, IsBatchDone, IsBatchEndedBy};
 
 use crate::local_stop::bad_setting;
 use crate::pages::scan_pages;
 use crate::run::{devices_reported, options_reported, settings_put};
 use crate::settings::put_settings;
+use byte_output::OutputTally;
 use device_api::Device;
 use sane_fixed::NoMem;
 use scan_job::{Job, Outcome, Reports, Shelf, Stop, Task};
@@ -40,6 +42,7 @@ fn do_batch<S: Shelf, T: Drop, F: FnOnce(&Reports) -> Result<T, NoMem> + Drop>(
     device: &mut dyn Device,
     job: &Job,
     shelf: &mut S,
+    outputs: &mut OutputTally,
     tell: F,
 ) -> Result<(Reports, T), Stop>
     requires reset { state device.old ≡ after_reset (state device.old) }
@@ -52,6 +55,7 @@ fn do_batch<S: Shelf, T: Drop, F: FnOnce(&Reports) -> Result<T, NoMem> + Drop>(
         IsBatchEndedBy job.now (record { device = state device.old; stock = S.stock shelf.old })
         (record { device = state device.new; stock = S.stock shelf.new }) stop) }
     ensures refusal { IfErr result (λ stop. IsRefusal stop) }
+    ensures output { IfErr result (λ stop. stop.why ≡ Sink → outputs.new.failed ≡ true) }
 {
     if !is_taken(job) {
         return Err(bad_setting());
@@ -65,17 +69,18 @@ fn do_batch<S: Shelf, T: Drop, F: FnOnce(&Reports) -> Result<T, NoMem> + Drop>(
         options,
     };
     let told = tell(&reports)?;
-    scan_pages(alloc, device, pages_of_task(job.task), shelf)?;
+    scan_pages(alloc, device, pages_of_task(job.task), shelf, outputs)?;
     Ok((reports, told))
 }
 
 /// Does a job as `run_local_batch` does it, and makes of its reports what is to be told of it, by `tell`, before its first
-/// page is scanned. Gives the reports and what was made of them.
+/// page is scanned. Gives the reports and what was made of them, and what became of the calls on its outputs.
 pub fn run_local_batch_with<S: Shelf, T: Drop, F: FnOnce(&Reports) -> Result<T, NoMem> + Drop>(
     alloc: Global,
     device: &mut dyn Device,
     job: &Job,
     shelf: &mut S,
+    outputs: &mut OutputTally,
     tell: F,
 ) -> Result<(Reports, T), Stop>
     requires { F.IsAlwaysCallable tell }
@@ -87,10 +92,13 @@ pub fn run_local_batch_with<S: Shelf, T: Drop, F: FnOnce(&Reports) -> Result<T, 
         IsBatchEndedBy job.now (record { device = state device.old; stock = S.stock shelf.old })
         (record { device = state device.new; stock = S.stock shelf.new }) stop) }
     ensures refusal { IfErr result (λ stop. IsRefusal stop) }
+    /// A batch ends for its output only where it is noted that one failed: a write to it, or the shelf gave none, or
+    /// refused it.
+    ensures output { IfErr result (λ stop. stop.why ≡ Sink → outputs.new.failed ≡ true) }
     ensures rest { is_at_rest (state device.new).phase ≡ true }
 {
     device.reset();
-    let done = do_batch(alloc, device, job, shelf, tell);
+    let done = do_batch(alloc, device, job, shelf, outputs, tell);
     device.cancel();
     done
 }
@@ -127,7 +135,8 @@ pub fn run_local_batch<S: Shelf>(
     // The scanner is at rest.
     ensures rest { is_at_rest (state device.new).phase ≡ true }
 {
-    match run_local_batch_with(alloc, device, job, shelf, |_| Ok(())) {
+    let mut outputs = OutputTally::new();
+    match run_local_batch_with(alloc, device, job, shelf, &mut outputs, |_| Ok(())) {
         Ok((reports, ())) => Outcome::Done(reports),
         Err(stop) => Outcome::Ended(stop.status, stop.why),
     }

@@ -1,7 +1,7 @@
-ghost use Rattle.std.specs.Prelude.{◌≡◌, ◌<◌, ◌≤◌, ℕ, List, Option, false, length, take, IsTrue};
+ghost use Rattle.std.specs.Prelude.{◌≡◌, ◌<◌, ◌≤◌, ℕ, List, Option, true, false, length, take, IsTrue};
 ghost use Rattle.std.specs.Io.KnownBytes.{Appends};
 
-use byte_output::put;
+use byte_output::{OutputTally, put};
 use std::io::Write;
 
 /// What takes the bytes of a file.
@@ -12,13 +12,13 @@ pub trait Outlet {
     // What may become of an outlet as it takes bytes.
     ghost Becomes: { Self → Self → Type 0 };
 
-    /// Takes the bytes, and says whether it took them all; else it took a proper front of them. `again` is as for
-    /// `put`.
-    fn put(&mut self, bytes: &[u8], again: &mut u64) -> bool
+    /// Takes the bytes, and says whether it took them all; else it took a proper front of them, and that is noted.
+    fn put(&mut self, bytes: &[u8], outputs: &mut OutputTally) -> bool
         ensures whole { IsTrue result → Appends (contents self.old) (contents self.new) bytes.now }
         ensures front { result ≡ false → (n : ℕ) × (n < length bytes.now)
             × Appends (contents self.old) (contents self.new) (take n bytes.now) }
-        ensures again { again.new ≤ again.old }
+        ensures failed { result ≡ false → outputs.new.failed ≡ true }
+        ensures again { outputs.new.again ≤ outputs.old.again }
         ensures becomes { (first : Self) → Becomes first self.old → Becomes first self.new };
 }
 
@@ -32,7 +32,7 @@ impl<W: Write> Outlet for GivenOutput<'_, W> {
 
     ghost Becomes = { λ first now. now.out.ghost_name ≡ first.out.ghost_name };
 
-    fn put(&mut self, bytes: &[u8], again: &mut u64) -> bool {
-        put(&mut *self.out, bytes, again)
+    fn put(&mut self, bytes: &[u8], outputs: &mut OutputTally) -> bool {
+        put(&mut *self.out, bytes, outputs)
     }
 }

@@ -7,10 +7,11 @@ ghost use Rattle.local_job.specs.FrameReading.{IsRefusal, KeepsDevice};
 ghost use Rattle.local_job.specs.LocalPages.{AreScanned, StopsAt};
 ghost use Rattle.local_job.specs.Inside.{FilesPage, LeavesPage};
 ghost use Rattle.local_job.specs.LocalStops.{stop_by_status};
+ghost use Rattle.scan_job.specs.declared.outcome.Why.TheVariants.{Sink};
 
 use crate::page_out::{PageOut, give_back};
 use crate::scan::{PIECE, ROOM, scan_passes, zeros};
-use byte_output::MOST_AGAIN;
+use byte_output::OutputTally;
 use device_api::Device;
 use frame_join::{FrameJoin, not_whole_before};
 use sane_fixed::Status;
@@ -27,7 +28,7 @@ fn scan_page<S: Shelf>(
     room: &mut [u8],
     shelf: &mut S,
     number: u32,
-    again: &mut u64,
+    outputs: &mut OutputTally,
 ) -> Result<bool, Stop>
     requires rest { is_at_rest (state device.old).phase ≡ true }
     requires piece { 0 < length piece.old }
@@ -38,6 +39,8 @@ fn scan_page<S: Shelf>(
         FilesPage (state device.old) number is_shelved (S.stock shelf.old) (S.stock shelf.new)) }
     ensures short { OnErr result (LeavesPage number (S.stock shelf.old) (S.stock shelf.new)) }
     ensures refusal { IfErr result (λ stop. IsRefusal stop) }
+    ensures refused { IfOk result (λ is_shelved. is_shelved ≡ false → outputs.new.failed ≡ true) }
+    ensures output { IfErr result (λ stop. stop.why ≡ Sink → outputs.new.failed ≡ true) }
     ensures empty { IfErr result (λ stop. (state device.old).pages ≡ []
         → stop ≡ stop_by_status NoDocs) }
     ensures stays { OnErr result ((state device.old).pages ≡ []
@@ -61,13 +64,13 @@ fn scan_page<S: Shelf>(
         number,
         out: None,
     };
-    let scanned = scan_passes(alloc, device, &mut join, piece, room, &mut page, again);
+    let scanned = scan_passes(alloc, device, &mut join, piece, room, &mut page, outputs);
     let PageOut {
         shelf,
         number: _,
         out,
     } = page;
-    let is_shelved = give_back(shelf, out);
+    let is_shelved = give_back(shelf, out, outputs);
     match scanned {
         Ok(()) => Ok(is_shelved),
         Err(stop) => Err(stop),
@@ -95,6 +98,7 @@ fn scan_each<S: Shelf>(
     piece: &mut [u8],
     room: &mut [u8],
     shelf: &mut S,
+    outputs: &mut OutputTally,
 ) -> Result<(), Stop>
     requires rest { is_at_rest (state device.old).phase ≡ true }
     requires piece { 0 < length piece.old }
@@ -108,10 +112,10 @@ fn scan_each<S: Shelf>(
         (λ stop. StopsAt count (record { device = state device.old; stock = S.stock shelf.old })
         (record { device = state device.new; stock = S.stock shelf.new }) stop) }
     ensures refusal { IfErr result (λ stop. IsRefusal stop) }
+    ensures output { IfErr result (λ stop. stop.why ≡ Sink → outputs.new.failed ≡ true) }
 {
-    let mut again = MOST_AGAIN;
     for behind in 0..count {
-        match scan_page(alloc, device, piece, room, shelf, behind + 1, &mut again) {
+        match scan_page(alloc, device, piece, room, shelf, behind + 1, outputs) {
             Ok(true) => {}
             Ok(false) => return Err(Stop::failed_output()),
             Err(stop) if behind > 0 && is_no_page(stop) => return Ok(()),
@@ -128,6 +132,7 @@ pub fn scan_pages<S: Shelf>(
     device: &mut dyn Device,
     count: u32,
     shelf: &mut S,
+    outputs: &mut OutputTally,
 ) -> Result<(), Stop>
     requires { is_at_rest (state device.old).phase ≡ true }
     ensures done { OnOk result (AreScanned count (record {
@@ -139,11 +144,12 @@ pub fn scan_pages<S: Shelf>(
         (λ stop. StopsAt count (record { device = state device.old; stock = S.stock shelf.old })
         (record { device = state device.new; stock = S.stock shelf.new }) stop) }
     ensures refusal { IfErr result (λ stop. IsRefusal stop) }
+    ensures output { IfErr result (λ stop. stop.why ≡ Sink → outputs.new.failed ≡ true) }
 {
     if count == 0 {
         return Ok(());
     }
     let mut piece = zeros(alloc, PIECE)?;
     let mut room = zeros(alloc, ROOM)?;
-    scan_each(alloc, device, count, &mut piece, &mut room, shelf)
+    scan_each(alloc, device, count, &mut piece, &mut room, shelf, outputs)
 }

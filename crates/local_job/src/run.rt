@@ -5,6 +5,7 @@ ghost use Rattle.device_api.specs.State.{is_at_rest, after_reset};
 ghost use Rattle.scan_job.specs.Outcomes.{IfDone, IfEnded, IsOver};
 ghost use Rattle.local_job.specs.FrameReading.{IsRefusal};
 ghost use Rattle.scan_job.specs.Stops.{no_memory};
+ghost use Rattle.scan_job.specs.declared.outcome.Why.TheVariants.{Sink};
 ghost use Rattle.local_job.specs.LocalRun.{settings_put, devices_reported, options_reported, IsDone, IsEndedBy, IsTakenJob, LeavesNoFile, ChangesDevice};
 ghost use Rattle.local_job.specs.Inside.{KeepsPages};
 
@@ -12,6 +13,7 @@ use crate::local_stop::bad_setting;
 use crate::option_showing::show_options;
 use crate::scan::scan_picture;
 use crate::settings::put_settings;
+use byte_output::OutputTally;
 use device_api::{Device, DeviceInfo};
 use option_desc::{Descriptor, Value};
 use sane_fixed::{NoMem, Text};
@@ -77,6 +79,7 @@ fn do_job<W: Write, T: Drop, F: FnOnce(&Reports) -> Result<T, NoMem> + Drop>(
     device: &mut dyn Device,
     job: &Job,
     out: &mut W,
+    outputs: &mut OutputTally,
     tell: F,
 ) -> Result<(Reports, T), Stop>
     requires reset { state device.old ≡ after_reset (state device.old) }
@@ -87,6 +90,7 @@ fn do_job<W: Write, T: Drop, F: FnOnce(&Reports) -> Result<T, NoMem> + Drop>(
     ensures told { IfOk result (λ done. FnOnceReturnsAt F.FnOnce tell done.0 (Ok done.1)) }
     ensures no_file { OnErr result (LeavesNoFile (W.contents out.old) (W.contents out.new)) }
     ensures refusal { IfErr result (λ stop. IsRefusal stop) }
+    ensures output { IfErr result (λ stop. stop.why ≡ Sink → outputs.new.failed ≡ true) }
     ensures stop { IfErr result
         (λ stop. IsEndedBy (state device.old) job.now (state device.new) stop) }
     ensures runs { KeepsPages (state device.old) (state device.new) }
@@ -104,18 +108,20 @@ fn do_job<W: Write, T: Drop, F: FnOnce(&Reports) -> Result<T, NoMem> + Drop>(
     };
     let told = tell(&reports)?;
     if job.task == Task::Scan {
-        scan_picture(alloc, device, out)?;
+        scan_picture(alloc, device, out, outputs)?;
     }
     Ok((reports, told))
 }
 
 /// Does a job as `run_local` does it, and makes of its reports what is to be told of it, by `tell`: before the first byte
-/// of its file, so that what there is no memory to tell of leaves no file. Gives the reports and what was made of them.
+/// of its file, so that what there is no memory to tell of leaves no file. Gives the reports and what was made of them, and
+/// what became of the calls on its output.
 pub fn run_local_with<W: Write, T: Drop, F: FnOnce(&Reports) -> Result<T, NoMem> + Drop>(
     alloc: Global,
     device: &mut dyn Device,
     job: &Job,
     out: &mut W,
+    outputs: &mut OutputTally,
     tell: F,
 ) -> Result<(Reports, T), Stop>
     requires { F.IsAlwaysCallable tell }
@@ -125,13 +131,16 @@ pub fn run_local_with<W: Write, T: Drop, F: FnOnce(&Reports) -> Result<T, NoMem>
     ensures told { IfOk result (λ done. FnOnceReturnsAt F.FnOnce tell done.0 (Ok done.1)) }
     ensures no_file { OnErr result (LeavesNoFile (W.contents out.old) (W.contents out.new)) }
     ensures refusal { IfErr result (λ stop. IsRefusal stop) }
+    /// A job ends for its output only where it is noted that a write to it failed: neither a page that cannot be read
+    /// nor what `read-return-value` names is told so.
+    ensures output { IfErr result (λ stop. stop.why ≡ Sink → outputs.new.failed ≡ true) }
     ensures stop { IfErr result
         (λ stop. IsEndedBy (state device.old) job.now (state device.new) stop) }
     ensures runs { ChangesDevice (state device.old) (state device.new) }
     ensures rest { is_at_rest (state device.new).phase ≡ true }
 {
     device.reset();
-    let done = do_job(alloc, device, job, out, tell);
+    let done = do_job(alloc, device, job, out, outputs, tell);
     device.cancel();
     done
 }
@@ -188,7 +197,8 @@ pub fn run_local<W: Write>(
     ensures runs { ChangesDevice (state device.old) (state device.new) }
     ensures rest { is_at_rest (state device.new).phase ≡ true }
 {
-    match run_local_with(alloc, device, job, out, |_| Ok(())) {
+    let mut outputs = OutputTally::new();
+    match run_local_with(alloc, device, job, out, &mut outputs, |_| Ok(())) {
         Ok((reports, ())) => Outcome::Done(reports),
         Err(stop) => Outcome::Ended(stop.status, stop.why),
     }

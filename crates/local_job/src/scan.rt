@@ -10,6 +10,7 @@ ghost use Rattle.device_api.specs.State.{goes_to, is_at_rest, is_reading, next_p
 ghost use Rattle.scan_job.specs.FileOutputs.{StopsShort};
 ghost use Rattle.local_job.specs.LocalStops.{stop_by_status};
 ghost use Rattle.scan_job.specs.Stops.{no_memory};
+ghost use Rattle.scan_job.specs.declared.outcome.Why.TheVariants.{Sink};
 ghost use Rattle.local_job.specs.FrameReading.{IsRefusal, KeepsDevice, IsScanned};
 ghost use Rattle.local_job.specs.Inside.{JoinIsBetween, JoinIsInside, FrameEndsAs, JoinsFrame, HasJoined, HasScannedPass};
 ghost use Rattle.local_job.specs.ScanCauses.{ScanHasCause};
@@ -18,7 +19,7 @@ use crate::drain::drain;
 use crate::frame_pieces::read_frame;
 use crate::local_stop::{malformed_frames, stop_by_status, stop_of_join};
 use crate::outlet::{GivenOutput, Outlet};
-use byte_output::MOST_AGAIN;
+use byte_output::OutputTally;
 use device_api::Device;
 use frame_join::{FrameJoin, not_whole_before, whole_shows};
 use scan_frames::frames_show_the_picture;
@@ -52,6 +53,7 @@ fn start_pass(alloc: Global, device: &mut dyn Device) -> Result<(), Stop>
     ensures started { OnOk result (state device.new
         ≡ with_phase (state device.old) (Reading (next_pass (state device.old).phase) 0)) }
     ensures refusal { IfErr result (λ stop. IsRefusal stop) }
+    ensures output { IfErr result (λ stop. stop.why ≢ Sink) }
     ensures cause { IfErr result (λ stop. (state device.old).pages ≢ []
         → has_picture (state device.old).setup (page_of (state device.old)) ≡ true
         → ScanHasCause stop (state device.old) (state device.new)) }
@@ -75,6 +77,7 @@ fn begin_frame(alloc: Global, device: &dyn Device, join: &mut FrameJoin) -> Resu
         }) join.new) }
     ensures limits { HasLimits (state device.now) }
     ensures refusal { IfErr result (λ stop. IsRefusal stop) }
+    ensures output { IfErr result (λ stop. stop.why ≢ Sink) }
     ensures cause { IfErr result (λ stop. (past : JoinHistory) → JoinIsBetween past join.old
         → is_accepted past.ended (params_of (state device.now)) (state device.now).setup.order
         ≡ true → stop ≡ no_memory) }
@@ -92,7 +95,7 @@ fn end_frame<W: Outlet>(
     join: &mut FrameJoin,
     room: &mut [u8],
     out: &mut W,
-    again: &mut u64,
+    outputs: &mut OutputTally,
 ) -> Result<bool, Stop>
     requires { 0 < length room.old }
     ensures room { length room.new ≡ length room.old }
@@ -105,6 +108,10 @@ fn end_frame<W: Outlet>(
         → JoinIsInside past frame first join.old (W.contents out.old)
         → StopsShort first (W.contents out.new)) }
     ensures refusal { IfErr result (λ stop. IsRefusal stop) }
+    ensures output { IfErr result (λ stop. stop.why ≡ Sink
+        → (first : Option (List ℕ)) (past : JoinHistory) (frame : Frame)
+        → JoinIsInside past frame first join.old (W.contents out.old)
+        → outputs.new.failed ≡ true) }
     // A frame that has all its bytes is not refused, and another is short.
     ensures cause { IfErr result (λ stop. (first : Option (List ℕ)) (past : JoinHistory)
         (frame : Frame) → JoinIsInside past frame first join.old (W.contents out.old)
@@ -115,7 +122,7 @@ fn end_frame<W: Outlet>(
         Ok(is_whole) => is_whole,
         Err(fault) => return Err(stop_of_join(fault)),
     };
-    if drain(join, room, out, again) {
+    if drain(join, room, out, outputs) {
         Ok(is_whole)
     } else {
         Err(Stop::failed_output())
@@ -137,7 +144,7 @@ fn scan_pass<W: Outlet>(
     piece: &mut [u8],
     room: &mut [u8],
     out: &mut W,
-    again: &mut u64,
+    outputs: &mut OutputTally,
 ) -> Result<bool, Stop>
     requires rest { is_reading (state device.old).phase ≡ false }
     requires piece { 0 < length piece.old }
@@ -166,6 +173,9 @@ fn scan_pass<W: Outlet>(
     ensures untold { OnOk result ((state device.old).setup.told ≢ Some NoDocs) }
     ensures ended { OnOk result (is_reading (state device.new).phase ≡ false) }
     ensures refusal { IfErr result (λ stop. IsRefusal stop) }
+    ensures output { IfErr result (λ stop. stop.why ≡ Sink → (first : Option (List ℕ))
+        → HasJoined (state device.old) (next_pass (state device.old).phase) first join.old
+        (W.contents out.old) → outputs.new.failed ≡ true) }
     ensures cause { IfErr result (λ stop. (first : Option (List ℕ))
         → HasJoined (state device.old) (next_pass (state device.old).phase) first join.old
         (W.contents out.old) → (state device.old).pages ≢ []
@@ -181,8 +191,8 @@ fn scan_pass<W: Outlet>(
     a_join_takes_the_frames_of_a_scan();
     start_pass(alloc, device)?;
     begin_frame(alloc, &*device, join)?;
-    read_frame(device, join, piece, room, out, again)?;
-    end_frame(join, room, out, again)
+    read_frame(device, join, piece, room, out, outputs)?;
+    end_frame(join, room, out, outputs)
 }
 
 /// Reads the passes of a scan, from the first, until the picture is whole.
@@ -193,7 +203,7 @@ pub fn scan_passes<W: Outlet>(
     piece: &mut [u8],
     room: &mut [u8],
     out: &mut W,
-    again: &mut u64,
+    outputs: &mut OutputTally,
 ) -> Result<(), Stop>
     requires rest { is_at_rest (state device.old).phase ≡ true }
     requires join { Represents empty_history join.old }
@@ -207,6 +217,7 @@ pub fn scan_passes<W: Outlet>(
         → Appends first (W.contents out.old) [] → StopsShort first (W.contents out.new)) }
     ensures becomes { (first : W) → W.Becomes first out.old → W.Becomes first out.new }
     ensures refusal { IfErr result (λ stop. IsRefusal stop) }
+    ensures output { IfErr result (λ stop. stop.why ≡ Sink → outputs.new.failed ≡ true) }
     ensures empty { IfErr result (λ stop. (state device.old).pages ≡ []
         → stop ≡ stop_by_status NoDocs) }
     ensures stays { OnErr result ((state device.old).pages ≡ []
@@ -224,7 +235,7 @@ pub fn scan_passes<W: Outlet>(
 {
     not_whole_before();
     for _pass in 0..MOST_PASSES {
-        if scan_pass(alloc, device, join, piece, room, out, again)? {
+        if scan_pass(alloc, device, join, piece, room, out, outputs)? {
             return Ok(());
         }
     }
@@ -237,6 +248,7 @@ pub fn scan_picture<W: Write>(
     alloc: Global,
     device: &mut dyn Device,
     out: &mut W,
+    outputs: &mut OutputTally,
 ) -> Result<(), Stop>
     requires { is_at_rest (state device.old).phase ≡ true }
     ensures done { OnOk result ((first : Option (List ℕ)) → Appends first (W.contents out.old) []
@@ -244,6 +256,7 @@ pub fn scan_picture<W: Write>(
     ensures short { OnErr result ((first : Option (List ℕ))
         → Appends first (W.contents out.old) [] → StopsShort first (W.contents out.new)) }
     ensures refusal { IfErr result (λ stop. IsRefusal stop) }
+    ensures output { IfErr result (λ stop. stop.why ≡ Sink → outputs.new.failed ≡ true) }
     ensures empty { IfErr result (λ stop. (state device.old).pages ≡ []
         → (stop ≡ no_memory) ⊎ (stop ≡ stop_by_status NoDocs)) }
     ensures none { IfErr result (λ stop. (state device.old).pages ≢ []
@@ -259,10 +272,9 @@ pub fn scan_picture<W: Write>(
     let mut piece = zeros(alloc, PIECE)?;
     let mut room = zeros(alloc, ROOM)?;
     let mut join = FrameJoin::new(alloc);
-    let mut again = MOST_AGAIN;
     let mut plain = GivenOutput { out };
     let scanned = scan_passes(
-        alloc, device, &mut join, &mut piece, &mut room, &mut plain, &mut again,
+        alloc, device, &mut join, &mut piece, &mut room, &mut plain, outputs,
     );
     let GivenOutput { out: _ } = plain;
     scanned

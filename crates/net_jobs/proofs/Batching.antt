@@ -142,6 +142,7 @@ came_done views left_of job first coming0 before notes links coming stream c now
           last = d.last;
           fresh = d.is_fresh;
           leads = d.leads;
+          told = d.told;
           rest = s.rest;
           left = d.left;
           trace = s.trace;
@@ -191,7 +192,7 @@ pub came_ended : {L R : Type 0} {whole : Bool} (views : LinkViews L) (left_of : 
     → Shut views left_of job first coming0 before notes whole links coming stream c now out → BatchHasCome views job (record { links = first; coming = coming0; output = before }) (record { links = links; coming = coming; output = now }) out (Ended status why) notes
 came_ended views left_of job first coming0 before notes links coming stream c now out status why law over d =
     let s = d.stage in
-    let r = ran_by views left_of job (record { links = first; coming = coming0; output = before }) (record { links = links; coming = coming; output = now }) stream c d.given d.moves d.left d.fresh d.last d.is_fresh d.leads d.calls s s.stands in
+    let r = ran_by views left_of job (record { links = first; coming = coming0; output = before }) (record { links = links; coming = coming; output = now }) stream c d.given d.moves d.left d.fresh d.last d.is_fresh d.leads d.told d.calls s s.stands in
     let fits = ended_fits c.outcome status why c.target.task c s.history over s.serves.fits in (
       record {
         ran = r.ran;
@@ -218,7 +219,7 @@ came_untold : {L R : Type 0} {whole : Bool} (views : LinkViews L) (left_of : R �
     → c.outcome ≡ Done reports → (d : Shut views left_of job first coming0 before notes whole links coming stream c now out) → (IsWhole d.given.bytes → ⊥) → BatchHasCome views job (record { links = first; coming = coming0; output = before }) (record { links = links; coming = coming; output = now }) out (Ended statuses.NoMem whys.Memory) notes
 came_untold views left_of job first coming0 before notes links coming stream c now out reports done d not_whole =
     let s = d.stage in
-    let r = ran_by views left_of job (record { links = first; coming = coming0; output = before }) (record { links = links; coming = coming; output = now }) stream c d.given d.moves d.left d.fresh d.last d.is_fresh d.leads d.calls s s.stands in (
+    let r = ran_by views left_of job (record { links = first; coming = coming0; output = before }) (record { links = links; coming = coming; output = now }) stream c d.given d.moves d.left d.fresh d.last d.is_fresh d.leads d.told d.calls s s.stands in (
       record {
         ran = r.ran;
         cause = inr (inl (ByMemory refl));
@@ -264,7 +265,7 @@ refused_next : {L R : Type 0} (views : LinkViews L) (left_of : R → Option (Lis
 refused_next views left_of job first coming0 before notes links coming stream new now out given page t stop files none refused =
     let g = t.going in
     let s = g.stage in
-    let r = ran_by views left_of job (record { links = first; coming = coming0; output = before }) (record { links = links; coming = coming; output = now }) stream new (turned_given given page) g.moves g.left g.fresh new g.is_fresh g.leads g.calls s s.stands in (
+    let r = ran_by views left_of job (record { links = first; coming = coming0; output = before }) (record { links = links; coming = coming; output = now }) stream new (turned_given given page) g.moves g.left g.fresh new g.is_fresh g.leads g.told.told g.calls s s.stands in (
       record {
         ran = r.ran;
         cause = inr (inr refl);
@@ -291,7 +292,7 @@ sunk_by : {L R : Type 0} (views : LinkViews L) (left_of : R → Option (List ℕ
     → BatchHasCome views job (record { links = first; coming = coming0; output = before }) (record { links = links; coming = coming; output = now }) out (Ended statuses.IoError whys.Sink) notes
 sunk_by views left_of job first coming0 before notes links coming stream c new now out given gives shows scanning files g alive last all (inl short) =
     let s = g.stage in
-    let r = ran_by views left_of job (record { links = first; coming = coming0; output = before }) (record { links = links; coming = coming; output = now }) stream c given g.moves g.left g.fresh c g.is_fresh g.leads g.calls s s.stands in (
+    let r = ran_by views left_of job (record { links = first; coming = coming0; output = before }) (record { links = links; coming = coming; output = now }) stream c given g.moves g.left g.fresh c g.is_fresh g.leads g.told.told g.calls s s.stands in (
       record {
         ran = r.ran;
         cause = inr (inr refl);
@@ -371,6 +372,7 @@ with_output views job was now new r = record {
   last = r.last;
   fresh = r.fresh;
   leads = r.leads;
+  told = r.told;
   rest = r.rest;
   left = r.left;
   trace = r.trace;

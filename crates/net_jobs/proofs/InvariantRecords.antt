@@ -15,6 +15,7 @@ use Rattle.net_jobs.specs.Inside.{ports_opened, HasReadOf, CallNotes, NotesMatch
 use Rattle.net_jobs.specs.Links.{LinkViews, Calls, HasBrought, BeginWith}
 use Rattle.net_jobs.specs.Outputs.{files_text}
 use Rattle.net_jobs.specs.RunPromises.{EndsBy}
+use Rattle.net_jobs.proofs.ToldPorts.{ToldSoFar}
 
 -- the bytes of the frame under way
 abbrev pub came_in : Option Frame → List ℕ
@@ -106,5 +107,6 @@ pub record FullRunInvariant {C R : Type 0} (views : LinkViews C) (left_of : R �
   pub fresh : ClientState
   pub is_fresh : IsNewClient job fresh
   pub leads : MovesLead fresh moves c
+  pub told : ToldSoFar moves c
   pub gave : files_text given.pages ++ given.bytes ≡ given_by moves
   pub notes_are : NotesMatch moves notes

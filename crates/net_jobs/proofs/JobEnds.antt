@@ -33,12 +33,13 @@ use Rattle.client_replies.specs.ReplyTurns.{stop_unjoined, frame_ended_by, statu
 use Rattle.client_replies.specs.ProtocolStates.{ProtocolState, target_of, is_running, is_ended, is_batch, scans, turns, next_outcome, HistoryFits, FitsEnded}
 use Rattle.net_client.specs.ClientStates.{ClientState, ClientRepresents, IsNewClient, after_client_end}
 use Rattle.net_jobs.specs.JobTraces.{TraceEvent, Replied, Opened, Came, Finished, Gave, Turned, JobTrace, BytesMatchTrace, EventsLead, EndWell}
-use Rattle.net_jobs.specs.JobJournal.{JobMove, MovesLead, WritesShort, Writes, Fails, given_by, bytes_written_by, heard_by, dialled_by, has_write_failed}
+use Rattle.net_jobs.specs.JobJournal.{PortsAreTold, JobMove, MovesLead, WritesShort, Writes, Fails, given_by, bytes_written_by, heard_by, dialled_by, has_write_failed}
 use Rattle.net_jobs.specs.JobSteps.{FileRunsOut}
 use Rattle.net_jobs.specs.Inside.{GivesAll, CallNotes, NotesMatch, HasRunNoted, no_notes, TakesLeave, StopsAs, HoldsGiven, IsDrainedTo, StopsBehind, Silent, Whole, Short}
 use Rattle.net_jobs.specs.Links.{JobLinks, LinkViews, views_of, Calls, Called, HasBrought, BeginWith}
 use Rattle.net_jobs.proofs.InvariantRecords.{LinkMatchesTrace, ClientFollowsTrace, Falls, GivenFiles, no_files_given, RunInvariant, FullRunInvariant, AsksPorts, more_given}
 use Rattle.net_jobs.specs.RunPromises.{JobStreams, SeenStreams, RefusesJob, EndsBy, ByLoss, ByMemory, ByGarble, ByLength, HasEndingCause, RanWithTrace, RanDone, RanEnded}
+use Rattle.net_jobs.proofs.ToldPorts.{told_short, told_written}
 use Rattle.net_jobs.proofs.Tracing.{did_quiet}
 use Rattle.net_jobs.proofs.KeepingInvariant.{lets_go, stage_on}
 use Rattle.net_jobs.specs.Outputs.{files_text}
@@ -247,6 +248,7 @@ pub record Closed {C R : Type 0} (views : LinkViews C) (left_of : R → Option (
   pub last : ClientState
   pub is_fresh : IsNewClient job fresh
   pub leads : MovesLead fresh moves last
+  pub told : PortsAreTold moves
   pub ends : last.outcome ≡ c.outcome
   pub steps : (whole ≡ true) ⊎ (is_ended c.outcome ≡ true) → StepsSoFar fresh moves last given
   pub gave : files_text given.pages ++ given.bytes ≡ given_by moves
@@ -299,6 +301,7 @@ closed_parted {whole = whole} views left_of job first coming0 held was now contr
     last = c;
     is_fresh = d.going.is_fresh;
     leads = d.going.leads;
+    told = d.going.told.told;
     ends = refl;
     steps = steps_at whole job.task d.going.fresh d.going.moves c d.given d.steps;
     gave = d.going.gave;
@@ -325,6 +328,7 @@ closed_parted {whole = whole} views left_of job first coming0 held was now contr
         last = record c { out = [] };
         is_fresh = g.is_fresh;
         leads = (c, g.leads, record { all = refl; new_is = refl });
+        told = told_written c.out g.moves g.told.told;
         ends = refl;
         steps = λ either. steps_quiet g.fresh g.moves c (Writes c.out) (record c { out = [] }) d.given (steps_at whole job.task g.fresh g.moves c d.given d.steps either) (g.notes_are.write_failed ∙ up) tt (record { all = refl; new_is = refl });
         gave = g.gave;
@@ -351,6 +355,7 @@ closed_parted {whole = whole} views left_of job first coming0 held was now contr
         last = record c { out = drop n c.out };
         is_fresh = g.is_fresh;
         leads = (c, g.leads, falls_short c n over short);
+        told = told_short (take n c.out) g.moves g.told.told;
         ends = refl;
         steps = λ either. steps_quiet g.fresh g.moves c (Fails (take n c.out)) (record c { out = drop n c.out }) d.given (steps_at whole job.task g.fresh g.moves c d.given d.steps either) (g.notes_are.write_failed ∙ up) tt (falls_short c n over short);
         gave = g.gave;
@@ -429,6 +434,7 @@ run_done views left_of job first coming0 held notes control coming stream c hold
           last = d.last;
           fresh = d.is_fresh;
           leads = d.leads;
+          told = d.told;
           rest = s.rest;
           left = d.left;
           trace = s.trace;
@@ -475,10 +481,10 @@ pub record RanBy {L O : Type 0} (views : LinkViews L) (job : Job) (was now : See
   pub last_is : ran.last ≡ last
 
 pub ran_by : {L O R : Type 0} (views : LinkViews L) (left_of : R → Option (List ℕ)) (job : Job) (was now : SeenStreams L O) (stream : Option R) (c : ClientState) (given : GivenFiles) (moves : List JobMove) (left : List ℕ) (fresh last : ClientState)
-    → IsNewClient job fresh → MovesLead fresh moves last → Calls views was.links moves now.links → (s : RunInvariant left_of job moves (heard_by moves) (bytes_written_by moves) left was.coming now.coming given stream c)
+    → IsNewClient job fresh → MovesLead fresh moves last → PortsAreTold moves → Calls views was.links moves now.links → (s : RunInvariant left_of job moves (heard_by moves) (bytes_written_by moves) left was.coming now.coming given stream c)
     → (stands : ClientFollowsTrace left_of was.coming now.coming s.trace s.rest stream c s.history ⊎ Falls moves was.coming now.coming s.trace s.rest c)
     → RanBy views job was now c.outcome given moves left fresh last
-ran_by views left_of job was now stream c given moves left fresh last is_fresh leads calls s (inl f) =
+ran_by views left_of job was now stream c given moves left fresh last is_fresh leads told calls s (inl f) =
     let l = lets_go left_of was.coming now.coming s.trace.streams stream c s.history f.linked in
     record {
       ran = record {
@@ -487,6 +493,7 @@ ran_by views left_of job was now stream c given moves left fresh last is_fresh l
         last = last;
         fresh = is_fresh;
         leads = leads;
+        told = told;
         rest = s.rest;
         left = left;
         trace = s.trace;
@@ -506,13 +513,14 @@ ran_by views left_of job was now stream c given moves left fresh last is_fresh l
       first_is = refl;
       last_is = refl;
     }
-ran_by views left_of job was now stream c given moves left fresh last is_fresh leads calls s (inr f) = record {
+ran_by views left_of job was now stream c given moves left fresh last is_fresh leads told calls s (inr f) = record {
   ran = record {
     moves = moves;
     first = fresh;
     last = last;
     fresh = is_fresh;
     leads = leads;
+    told = told;
     rest = s.rest;
     left = left;
     trace = s.trace;
@@ -571,7 +579,7 @@ pub run_ended : {L R : Type 0} {whole : Bool} (views : LinkViews L) (left_of : R
     → Closed views left_of job first coming0 held notes whole links coming stream c holds → HasRunNoted views job (record { links = first; coming = coming0; output = held }) (record { links = links; coming = coming; output = holds }) (Ended status why) notes
 run_ended views left_of job first coming0 held notes links coming stream c holds status why single law over d =
     let s = d.stage in
-    let r = ran_by views left_of job (record { links = first; coming = coming0; output = held }) (record { links = links; coming = coming; output = holds }) stream c d.given d.moves d.left d.fresh d.last d.is_fresh d.leads d.calls s s.stands in
+    let r = ran_by views left_of job (record { links = first; coming = coming0; output = held }) (record { links = links; coming = coming; output = holds }) stream c d.given d.moves d.left d.fresh d.last d.is_fresh d.leads d.told d.calls s s.stands in
     let fits = subst (λ (o : Outcome). HistoryFits c.target.task o c.progress s.history) over s.serves.fits in (
       record {
         single = single;
@@ -599,7 +607,7 @@ pub run_sunk : {L R : Type 0} (views : LinkViews L) (left_of : R → Option (Lis
     → HasRunNoted views job (record { links = first; coming = coming0; output = held }) (record { links = links; coming = coming; output = holds }) (Ended statuses.IoError whys.Sink) notes
 run_sunk views left_of job first coming0 held was notes links coming stream c holds given single scan alive taken g last stops =
     let s = g.stage in
-    let r = ran_by views left_of job (record { links = first; coming = coming0; output = held }) (record { links = links; coming = coming; output = holds }) stream c given g.moves g.left g.fresh c g.is_fresh g.leads g.calls s s.stands in
+    let r = ran_by views left_of job (record { links = first; coming = coming0; output = held }) (record { links = links; coming = coming; output = holds }) stream c given g.moves g.left g.fresh c g.is_fresh g.leads g.told.told g.calls s s.stands in
     let short = stops s.history (record { scan = task_is c job s.target ∙ scan; serves = s.serves; taken = subst (λ (l : List ℕ). Appends held was l) (sym s.given_is) taken }) in (
       record { single = single; ran = r.ran; cause = inr (inr refl); last_told = inr (inr refl); sunk = λ sink other. same_stop g.fresh r.ran.first g.moves r.ran.moves c r.ran.last r.first_is r.moves_is r.last_is (stops_within job.task g.fresh g.moves c given [] c tt refl last); steps = λ told. absurd (let clash : true ≡ false = sym (ap is_ended (sym (ap (λ (v : ClientState). v.outcome) r.last_is) ∙ told)) ∙ alive in cc); all = λ other. absurd (other refl); refusal = λ e. cc; text = s.history.given ++ short.behind; taken = short.taken; behind = short.behind; gave = ap (λ (l : List ℕ). l ++ short.behind) (s.given_is ∙ one_file_given job s.trace _ _ s.rest g.left given (given_by g.moves) single s.did s.pages_is g.gave ∙ ap (λ (m : List JobMove). given_by m) (sym r.moves_is)); none_behind = λ other. absurd (other refl); not_whole = short.not_whole },
       subst (λ (m : List JobMove). NotesMatch m notes) (sym r.moves_is) g.notes_are,
@@ -662,7 +670,7 @@ run_untold : {L R : Type 0} {whole : Bool} (views : LinkViews L) (left_of : R �
     → HasRunNoted views job (record { links = first; coming = coming0; output = held }) (record { links = links; coming = coming; output = holds }) (Ended statuses.NoMem whys.Memory) notes
 run_untold views left_of job first coming0 held notes links coming stream c holds reports single done d not_whole =
     let s = d.stage in
-    let r = ran_by views left_of job (record { links = first; coming = coming0; output = held }) (record { links = links; coming = coming; output = holds }) stream c d.given d.moves d.left d.fresh d.last d.is_fresh d.leads d.calls s s.stands in (
+    let r = ran_by views left_of job (record { links = first; coming = coming0; output = held }) (record { links = links; coming = coming; output = holds }) stream c d.given d.moves d.left d.fresh d.last d.is_fresh d.leads d.told d.calls s s.stands in (
       record {
         single = single;
         ran = r.ran;

@@ -5,6 +5,7 @@ pub mod DataStreams
 pub mod KeepingInvariant
 pub mod DataLoop
 pub mod Giving
+pub mod ToldPorts
 pub mod Steps
 pub mod RunInvariants
 pub mod Turning
@@ -17,3 +18,4 @@ pub mod Asking
 pub mod Shelving
 pub mod Batching
 pub mod Refusing
+pub mod OutputEnds

@@ -1,4 +1,4 @@
--- That no job stops with GOOD, whatever the daemon says.
+-- That no job stops with GOOD, or for its output, whatever the daemon says.
 use Rattle.std.proofs.Common.{◌≡◌, ℕ, Bool, true, false, Option, Some, None, Result, Ok, Err, List, [], ◌∷◌, refl, sym, ap, subst}
 use Rattle.std.specs.Prelude.{◌≢◌, if◌then◌else◌, nat_lt, position, slice_get}
 use Rattle.sane_fixed.specs.declared.status.Status.{Status}
@@ -25,6 +25,8 @@ use Rattle.scan_job.specs.declared.job.Task.{Task}
 use Rattle.scan_job.specs.declared.job.Task.TheVariants as tasks
 use Rattle.scan_job.specs.declared.outcome.Outcome.{Outcome}
 use Rattle.scan_job.specs.declared.outcome.Outcome.TheVariants.{Running, Done, Ended}
+use Rattle.scan_job.specs.declared.outcome.Why.{Why}
+use Rattle.scan_job.specs.declared.outcome.Why.TheVariants as whys
 use Rattle.client_replies.specs.GivenValues.{given_like, wire_value_in}
 use Rattle.client_replies.specs.declared.progress.JobTarget.{JobTarget}
 use Rattle.client_replies.specs.declared.progress.Progress.{Progress}
@@ -36,15 +38,16 @@ use Rattle.client_replies.specs.ReplyTurns.{stop_by_answer, if_good, after_greet
 use Rattle.client_replies.specs.ProtocolStates.{next_outcome, target_of, shaped_by, after_params_reply, heard_at, answer_to}
 use Rattle.net_jobs.specs.JobTraces.{TraceEvent, Replied, Opened, Came, Finished, Gave, Turned, JobTrace, EventsLead, EventLeads, initial_trace, frame_end_at}
 
-abbrev refuses : Status → Bool
-refuses statuses.Good = false
-refuses status = true
+abbrev refuses : Status → Why → Bool
+refuses statuses.Good why = false
+refuses status whys.Sink = false
+refuses status why = true
 
--- the job does not stop so with GOOD
+-- the job does not stop so with GOOD, nor for its output
 abbrev Refuses : Next → Type 0
 Refuses (Wait progress) = Unit {0}
 Refuses (Finish devices) = Unit {0}
-Refuses (Stop status why) = refuses status ≡ true
+Refuses (Stop status why) = refuses status why ≡ true
 
 if_good_stops : (status : Status) (next : Next) → Refuses next → Refuses (if_good status next)
 if_good_stops statuses.Good next r = r
@@ -229,7 +232,7 @@ frame_refuses task file past (Some status) = refl
 abbrev Names : Outcome → Type 0
 Names Running = Unit {0}
 Names (Done reports) = Unit {0}
-Names (Ended status why) = refuses status ≡ true
+Names (Ended status why) = refuses status why ≡ true
 
 outcome_names : (task : Task) (notes : Notes) (next : Next) → Refuses next → Names (next_outcome task notes next)
 outcome_names task notes (Wait progress) r = tt
@@ -250,15 +253,34 @@ names_by : (target : JobTarget) (first : JobTrace) (events : List TraceEvent) (t
 names_by target first [] trace n r = subst (λ (x : JobTrace). Names x.protocol.outcome) (sym r) n
 names_by target first (event ∷ before) trace n r = names_on target r.0 trace event (names_by target first before r.0 n r.1) r.2
 
-not_good : (status : Status) → refuses status ≡ true → status ≢ statuses.Good
-not_good statuses.Good r e = absurd (let clash : false ≡ true = r in cc)
-not_good status r e = absurd (let clash : true ≡ false = ap refuses e in cc)
+not_good : (status : Status) (why : Why) → refuses status why ≡ true → status ≢ statuses.Good
+not_good statuses.Good why r e = absurd (let clash : false ≡ true = r in cc)
+not_good status why r e = absurd (let clash : status ≡ statuses.Good = e in cc)
 
-named_ends : (outcome : Outcome) → Names outcome → IfEnded outcome (λ status why. status ≢ statuses.Good)
+not_for_output : (status : Status) (why : Why) → refuses status why ≡ true → why ≢ whys.Sink
+not_for_output statuses.Good why r e = absurd (let clash : false ≡ true = r in cc)
+not_for_output status whys.Sink r e = absurd (let clash : false ≡ true = r in cc)
+not_for_output status why r e = absurd (let clash : why ≡ whys.Sink = e in cc)
+
+named_ends : (outcome : Outcome) → Names outcome → IfEnded outcome (λ status why. (status ≢ statuses.Good) × (why ≢ whys.Sink))
 named_ends Running n = tt
 named_ends (Done reports) n = tt
-named_ends (Ended status why) n = not_good status n
+named_ends (Ended status why) n = (not_good status why n, not_for_output status why n)
+
+first_of : (outcome : Outcome) → IfEnded outcome (λ status why. (status ≢ statuses.Good) × (why ≢ whys.Sink)) → IfEnded outcome (λ status why. status ≢ statuses.Good)
+first_of Running n = tt
+first_of (Done reports) n = tt
+first_of (Ended status why) n = n.0
+
+second_of : (outcome : Outcome) → IfEnded outcome (λ status why. (status ≢ statuses.Good) × (why ≢ whys.Sink)) → IfEnded outcome (λ status why. why ≢ whys.Sink)
+second_of Running n = tt
+second_of (Done reports) n = tt
+second_of (Ended status why) n = n.1
 
 -- whatever the daemon says, a job that has ended otherwise has another status than GOOD
 pub course_refuses : (job : Job) (events : List TraceEvent) (trace : JobTrace) → EventsLead (target_of job) (initial_trace job) events trace → IfEnded trace.protocol.outcome (λ status why. status ≢ statuses.Good)
-course_refuses job events trace r = named_ends trace.protocol.outcome (names_by (target_of job) (initial_trace job) events trace tt r)
+course_refuses job events trace r = first_of trace.protocol.outcome (named_ends trace.protocol.outcome (names_by (target_of job) (initial_trace job) events trace tt r))
+
+-- and it has not ended for its output
+pub course_spares : (job : Job) (events : List TraceEvent) (trace : JobTrace) → EventsLead (target_of job) (initial_trace job) events trace → IfEnded trace.protocol.outcome (λ status why. why ≢ whys.Sink)
+course_spares job events trace r = second_of trace.protocol.outcome (named_ends trace.protocol.outcome (names_by (target_of job) (initial_trace job) events trace tt r))

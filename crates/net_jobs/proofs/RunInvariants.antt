@@ -15,7 +15,7 @@ use Rattle.client_replies.specs.declared.progress.Link.TheVariants as links
 use Rattle.client_replies.specs.ProtocolStates.{is_running, is_receiving, is_imaging, is_lost_by}
 use Rattle.net_client.specs.ClientStates.{ClientState, after_client_end, IsNewClient}
 use Rattle.net_jobs.specs.declared.calls.Loss.TheVariants.{DialFailed}
-use Rattle.net_jobs.specs.JobJournal.{AreGives, JobMove, Writes, Fails, Hears, Resumes, Prepares, Dials, Takes, Gives, Loses, given_by, HearsPiece, TakesPiece, LosesLink, after_loss, dialled_by, heard_by, bytes_written_by, HasLoss}
+use Rattle.net_jobs.specs.JobJournal.{StandsBehind, AreGives, JobMove, Writes, Fails, Hears, Resumes, Prepares, Dials, Takes, Gives, Loses, given_by, HearsPiece, TakesPiece, LosesLink, after_loss, dialled_by, heard_by, bytes_written_by, HasLoss}
 use Rattle.net_jobs.specs.JobSteps.{IsDelivery}
 use Rattle.net_jobs.specs.Inside.{AreOfTurn, AreQuiet, Quiet, Delivered, GivesAll, CallNotes, NotesMatch, no_notes, LoopState, Moves, MovesAll}
 use Rattle.net_jobs.specs.JobTraces.{JobTrace}
@@ -24,6 +24,7 @@ use Rattle.net_jobs.specs.Outputs.{files_text}
 use Rattle.net_jobs.proofs.InvariantRecords.{LinkMatchesTrace, ClientFollowsTrace, Falls, GivenFiles, no_files_given, RunInvariant, FullRunInvariant}
 use Rattle.net_jobs.proofs.Giving.{leads_on, calls_on, heard_on_gives, written_on_gives, dialled_on_gives, loss_on_gives, failed_on_gives, lost_on_gives, given_on_gives}
 use Rattle.net_jobs.proofs.Steps.{AllGiven, AreStepsSoFar, LastDelivers, NotDone, StepsSoFar, ToBeGiven, all_given, quiet_not_done, running_not_done, steps_begin, steps_quiet}
+use Rattle.net_jobs.proofs.ToldPorts.{behind_on, delivery_behind, told_begun, told_gives, told_on}
 use Rattle.net_jobs.proofs.Tracing.{did_write}
 use Rattle.net_jobs.proofs.KeepingInvariant.{following, stage_begun, stage_heard, stage_on}
 use Rattle.net_jobs.proofs.DataLoop.{stage_lost, stage_missed, stage_opened, stage_received, stage_let_go, receiving_runs}
@@ -101,7 +102,7 @@ pub going_begun : {C R : Type 0} (views : LinkViews C) (left_of : R → Option (
     → (g : FullRunInvariant views left_of job control coming no_files_given no_notes control coming None c) × (g.stage.history ≡ empty_history) × StepsSoFar g.fresh g.moves c no_files_given
 going_begun views left_of job control coming c f =
     let s = stage_begun left_of job coming c f in
-    (record { moves = []; left = c.out; calls = refl; stage = s.0; left_is = λ e. refl; notes_are = record { loss = refl; write_failed = refl }; fresh = c; is_fresh = f; leads = refl; gave = refl }, s.1, steps_begin c)
+    (record { moves = []; left = c.out; calls = refl; stage = s.0; left_is = λ e. refl; notes_are = record { loss = refl; write_failed = refl }; fresh = c; is_fresh = f; leads = refl; told = told_begun c; gave = refl }, s.1, steps_begin c)
 
 -- a piece is heard while no data connection is open
 stage_hears : {R : Type 0} (left_of : R → Option (List ℕ)) (job : Job) (moves : List JobMove) (read_ wrote : List ℕ) (coming0 coming : Option (List (List ℕ))) (given : GivenFiles) (stream : Option R) (old new : ClientState) (piece : List ℕ)
@@ -168,8 +169,8 @@ noted : (moves : List JobMove) (was now : CallNotes) → now ≡ was → NotesMa
 noted moves was now e n = subst (λ (x : CallNotes). NotesMatch moves x) (sym e) n
 
 pub going_moved : {L R : Type 0} (views : LinkViews L) (left_of : R → Option (List ℕ)) (job : Job) (first : L) (coming0 : Option (List (List ℕ))) (given : GivenFiles) (was now : LoopState L R) (move : JobMove) → Moves views left_of was move now
-    → FullRunInvariant views left_of job first coming0 given was.notes was.links was.coming was.stream was.client → FullRunInvariant views left_of job first coming0 given now.notes now.links now.coming now.stream now.client
-going_moved views left_of job first coming0 given was now (Writes bytes) m g =
+    → (g : FullRunInvariant views left_of job first coming0 given was.notes was.links was.coming was.stream was.client) → StandsBehind move g.moves → FullRunInvariant views left_of job first coming0 given now.notes now.links now.coming now.stream now.client
+going_moved views left_of job first coming0 given was now (Writes bytes) m g b =
     let moves : List JobMove = g.moves in
     let left : was.client.out ≡ bytes ++ [] = sym m.client.all ∙ sym (append-nil bytes) in
     let new_is : now.client ≡ record was.client { out = now.client.out } = m.client.new_is ∙ ap (λ (o : List ℕ). record was.client { out = o }) (sym (ap (λ (v : ClientState). v.out) m.client.new_is)) in
@@ -185,9 +186,10 @@ going_moved views left_of job first coming0 given was now (Writes bytes) m g =
       fresh = g.fresh;
       is_fresh = g.is_fresh;
       leads = (was.client, g.leads, m.client);
+      told = told_on g.stage.history was.client (Writes bytes) now.client g.moves g.stage.serves m.client b g.told;
       gave = g.gave;
     }
-going_moved views left_of job first coming0 given was now (Fails bytes) m g =
+going_moved views left_of job first coming0 given was now (Fails bytes) m g b =
     let moves : List JobMove = g.moves in
     let short : ClientState = record was.client { out = now.client.out } in
     let wrote = stage_wrote left_of job moves (heard_by moves) (bytes_written_by moves) was.client.out bytes m.client.rest coming0 was.coming given was.stream was.client short m.client.front refl (here views left_of job first coming0 given was m.up g) in
@@ -202,9 +204,10 @@ going_moved views left_of job first coming0 given was now (Fails bytes) m g =
       fresh = g.fresh;
       is_fresh = g.is_fresh;
       leads = (was.client, g.leads, m.client);
+      told = told_on g.stage.history was.client (Fails bytes) now.client g.moves g.stage.serves m.client b g.told;
       gave = g.gave;
     }
-going_moved views left_of job first coming0 given was now (Hears piece) m g =
+going_moved views left_of job first coming0 given was now (Hears piece) m g b =
     let moves : List JobMove = g.moves in
     let heard = stage_hears left_of job moves (heard_by moves) (bytes_written_by moves) coming0 was.coming given was.stream was.client now.client piece m.client.0 (here views left_of job first coming0 given was m.up g) in
     let on = stage_on left_of job moves (Hears piece ∷ moves) (heard_by moves ++ piece) (bytes_written_by moves) now.client.out coming0 was.coming given was.stream now.client refl (λ l. l) heard in
@@ -218,9 +221,10 @@ going_moved views left_of job first coming0 given was now (Hears piece) m g =
       fresh = g.fresh;
       is_fresh = g.is_fresh;
       leads = (was.client, g.leads, m.client);
+      told = told_on g.stage.history was.client (Hears piece) now.client g.moves g.stage.serves m.client b g.told;
       gave = g.gave;
     }
-going_moved views left_of job first coming0 given was now Resumes m g =
+going_moved views left_of job first coming0 given was now Resumes m g b =
     let moves : List JobMove = g.moves in
     let heard = stage_hears left_of job moves (heard_by moves) (bytes_written_by moves) coming0 was.coming given was.stream was.client now.client [] m.client.0 (here views left_of job first coming0 given was m.up g) in
     let none = subst (λ (l : List ℕ). RunInvariant left_of job moves l (bytes_written_by moves) now.client.out coming0 was.coming given was.stream now.client) (append-nil (heard_by moves)) heard in
@@ -235,9 +239,10 @@ going_moved views left_of job first coming0 given was now Resumes m g =
       fresh = g.fresh;
       is_fresh = g.is_fresh;
       leads = (was.client, g.leads, m.client);
+      told = told_on g.stage.history was.client Resumes now.client g.moves g.stage.serves m.client b g.told;
       gave = g.gave;
     }
-going_moved views left_of job first coming0 given was now (Prepares port) m g =
+going_moved views left_of job first coming0 given was now (Prepares port) m g b =
     let moves : List JobMove = g.moves in
     let from = subst (λ (v : ClientState). RunInvariant left_of job moves (heard_by moves) (bytes_written_by moves) v.out coming0 was.coming given was.stream v) (sym m.client.same) (here views left_of job first coming0 given was m.up g) in
     let on = stage_on left_of job moves (Prepares port ∷ moves) (heard_by moves) (bytes_written_by moves) now.client.out coming0 was.coming given was.stream now.client refl (λ l. l) from in
@@ -251,9 +256,10 @@ going_moved views left_of job first coming0 given was now (Prepares port) m g =
       fresh = g.fresh;
       is_fresh = g.is_fresh;
       leads = (was.client, g.leads, m.client);
+      told = told_on g.stage.history was.client (Prepares port) now.client g.moves g.stage.serves m.client b g.told;
       gave = g.gave;
     }
-going_moved {L} {R} views left_of job first coming0 given was now (Dials port true) m g =
+going_moved {L} {R} views left_of job first coming0 given was now (Dials port true) m g b =
     let moves : List JobMove = g.moves in
     let opened = stage_opened left_of job moves (heard_by moves) (bytes_written_by moves) coming0 was.coming now.coming given was.stream m.data_is.0 was.client now.client port m.client.running m.client.wanted m.data_is.2 m.client.new_is m.client.serves
     (here views left_of job first coming0 given was m.up g) in
@@ -267,9 +273,10 @@ going_moved {L} {R} views left_of job first coming0 given was now (Dials port tr
       fresh = g.fresh;
       is_fresh = g.is_fresh;
       leads = (was.client, g.leads, m.client);
+      told = told_on g.stage.history was.client (Dials port true) now.client g.moves g.stage.serves m.client b g.told;
       gave = g.gave;
     }
-going_moved views left_of job first coming0 given was now (Dials port false) m g =
+going_moved views left_of job first coming0 given was now (Dials port false) m g b =
     let moves : List JobMove = g.moves in
     let missed = stage_missed left_of job moves (heard_by moves) (bytes_written_by moves) was.client.out coming0 was.coming given was.stream now.stream was.client now.client port m.client.running m.client.wanted m.client.new_is (here views left_of job first coming0 given was m.up g) in
     let left = subst (λ (l : List ℕ). RunInvariant left_of job (Dials port false ∷ moves) (heard_by moves) (bytes_written_by moves) l coming0 was.coming given now.stream now.client) (sym (out_lost links.Image was.client now.client m.client.new_is)) missed.0 in
@@ -283,9 +290,10 @@ going_moved views left_of job first coming0 given was now (Dials port false) m g
       fresh = g.fresh;
       is_fresh = g.is_fresh;
       leads = (was.client, g.leads, m.client);
+      told = told_on g.stage.history was.client (Dials port false) now.client g.moves g.stage.serves m.client b g.told;
       gave = g.gave;
     }
-going_moved {L} {R} views left_of job first coming0 given was now (Takes piece) m g =
+going_moved {L} {R} views left_of job first coming0 given was now (Takes piece) m g b =
     let moves : List JobMove = g.moves in
     let from = subst (λ (o : Option R). RunInvariant left_of job moves (heard_by moves) (bytes_written_by moves) was.client.out coming0 was.coming given o was.client) m.data_is.2 (here views left_of job first coming0 given was m.up g) in
     let took = kept_stream left_of job moves (heard_by moves) (bytes_written_by moves) coming0 was.coming given m.data_is.0 m.data_is.1 was.client now.client piece (is_receiving now.client.outcome now.client.progress) refl m.client.0 m.data_is.3 from in
@@ -300,9 +308,10 @@ going_moved {L} {R} views left_of job first coming0 given was now (Takes piece) 
       fresh = g.fresh;
       is_fresh = g.is_fresh;
       leads = (was.client, g.leads, m.client);
+      told = told_on g.stage.history was.client (Takes piece) now.client g.moves g.stage.serves m.client b g.told;
       gave = g.gave;
     }
-going_moved views left_of job first coming0 given was now (Loses link reason) m g =
+going_moved views left_of job first coming0 given was now (Loses link reason) m g b =
     let moves : List JobMove = g.moves in
     let lost = stage_loses left_of job moves (Loses link reason ∷ moves) (heard_by moves) (bytes_written_by moves) coming0 was.coming given was.stream now.stream was.client now.client link m.client tt refl (here views left_of job first coming0 given was m.up g) in
     record {
@@ -315,9 +324,10 @@ going_moved views left_of job first coming0 given was now (Loses link reason) m 
       fresh = g.fresh;
       is_fresh = g.is_fresh;
       leads = (was.client, g.leads, m.client);
+      told = told_on g.stage.history was.client (Loses link reason) now.client g.moves g.stage.serves m.client b g.told;
       gave = g.gave;
     }
-going_moved views left_of job first coming0 given was now (Gives bytes) m g = absurd m.of_links
+going_moved views left_of job first coming0 given was now (Gives bytes) m g b = absurd m.of_links
 
 -- ---- bytes of the files
 
@@ -346,6 +356,7 @@ gave_on views left_of job first coming0 given more notes links coming stream c n
         fresh = g.fresh;
         is_fresh = g.is_fresh;
         leads = leads_on g.fresh c now gives g.moves g.leads all.leads;
+        told = told_gives c gives now g.moves all.are all.leads g.told;
         gave = files ∙ ap (λ (l : List ℕ). l ++ given_by gives) g.gave ∙ sym (given_on_gives gives g.moves all.are);
       },
       t.1,
@@ -353,31 +364,22 @@ gave_on views left_of job first coming0 given more notes links coming stream c n
       refl,
     )
 
--- ---- a turn
-
-pub going_on : {L R : Type 0} (views : LinkViews L) (left_of : R → Option (List ℕ)) (job : Job) (first : L) (coming0 : Option (List (List ℕ))) (given : GivenFiles) (was now : LoopState L R) (moves : List JobMove) → MovesAll views left_of was moves now
-    → FullRunInvariant views left_of job first coming0 given was.notes was.links was.coming was.stream was.client → FullRunInvariant views left_of job first coming0 given now.notes now.links now.coming now.stream now.client
-going_on {L} {R} views left_of job first coming0 given was now [] same g =
-    subst (λ (s : LoopState L R). FullRunInvariant views left_of job first coming0 given s.notes s.links s.coming s.stream s.client) (sym same) g
-going_on views left_of job first coming0 given was now (move ∷ moves) m g =
-    going_moved views left_of job first coming0 given m.0 now move m.2 (going_on views left_of job first coming0 given was m.0 moves m.1 g)
-
 -- ---- the moves of a turn are steps
 
 moved_adds : {L R : Type 0} (views : LinkViews L) (left_of : R → Option (List ℕ)) (job : Job) (first : L) (coming0 : Option (List (List ℕ))) (given : GivenFiles) (was now : LoopState L R) (move : JobMove) (m : Moves views left_of was move now)
-    (g : FullRunInvariant views left_of job first coming0 given was.notes was.links was.coming was.stream was.client)
-    → ((going_moved views left_of job first coming0 given was now move m g).moves ≡ move ∷ g.moves) × ((going_moved views left_of job first coming0 given was now move m g).fresh ≡ g.fresh)
+    (g : FullRunInvariant views left_of job first coming0 given was.notes was.links was.coming was.stream was.client) (b : StandsBehind move g.moves)
+    → ((going_moved views left_of job first coming0 given was now move m g b).moves ≡ move ∷ g.moves) × ((going_moved views left_of job first coming0 given was now move m g b).fresh ≡ g.fresh)
 unfolding going_moved
-moved_adds views left_of job first coming0 given was now (Writes bytes) m g = (refl, refl)
-moved_adds views left_of job first coming0 given was now (Fails bytes) m g = (refl, refl)
-moved_adds views left_of job first coming0 given was now (Hears piece) m g = (refl, refl)
-moved_adds views left_of job first coming0 given was now Resumes m g = (refl, refl)
-moved_adds views left_of job first coming0 given was now (Prepares port) m g = (refl, refl)
-moved_adds views left_of job first coming0 given was now (Dials port true) m g = (refl, refl)
-moved_adds views left_of job first coming0 given was now (Dials port false) m g = (refl, refl)
-moved_adds views left_of job first coming0 given was now (Takes piece) m g = (refl, refl)
-moved_adds views left_of job first coming0 given was now (Loses link reason) m g = (refl, refl)
-moved_adds views left_of job first coming0 given was now (Gives bytes) m g = absurd m.of_links
+moved_adds views left_of job first coming0 given was now (Writes bytes) m g b = (refl, refl)
+moved_adds views left_of job first coming0 given was now (Fails bytes) m g b = (refl, refl)
+moved_adds views left_of job first coming0 given was now (Hears piece) m g b = (refl, refl)
+moved_adds views left_of job first coming0 given was now Resumes m g b = (refl, refl)
+moved_adds views left_of job first coming0 given was now (Prepares port) m g b = (refl, refl)
+moved_adds views left_of job first coming0 given was now (Dials port true) m g b = (refl, refl)
+moved_adds views left_of job first coming0 given was now (Dials port false) m g b = (refl, refl)
+moved_adds views left_of job first coming0 given was now (Takes piece) m g b = (refl, refl)
+moved_adds views left_of job first coming0 given was now (Loses link reason) m g b = (refl, refl)
+moved_adds views left_of job first coming0 given was now (Gives bytes) m g b = absurd m.of_links
 
 -- how far a job is that made steps alone, and is not done
 record StandsBySteps {L R : Type 0} (views : LinkViews L) (left_of : R → Option (List ℕ)) (job : Job) (first : L) (coming0 : Option (List (List ℕ))) (given : GivenFiles) (now : LoopState L R) : Type 0 where
@@ -386,18 +388,21 @@ record StandsBySteps {L R : Type 0} (views : LinkViews L) (left_of : R → Optio
   not_done : NotDone now.client.outcome
 
 quiet_turn : {L R : Type 0} (views : LinkViews L) (left_of : R → Option (List ℕ)) (job : Job) (first : L) (coming0 : Option (List (List ℕ))) (given : GivenFiles) (was now : LoopState L R) (moves : List JobMove) → AreQuiet moves → MovesAll views left_of was moves now
-    → StandsBySteps views left_of job first coming0 given was → StandsBySteps views left_of job first coming0 given now
-quiet_turn views left_of job first coming0 given was now [] quiet same s = subst (StandsBySteps views left_of job first coming0 given) (sym same) s
+    → (s : StandsBySteps views left_of job first coming0 given was) → (r : StandsBySteps views left_of job first coming0 given now) × (r.going.moves ≡ moves ++ s.going.moves)
+quiet_turn {L} {R} views left_of job first coming0 given was now [] quiet same s = subst (λ (l : LoopState L R). (r : StandsBySteps views left_of job first coming0 given l) × (r.going.moves ≡ s.going.moves)) (sym same) (s, refl)
 quiet_turn views left_of job first coming0 given was now (move ∷ moves) quiet m s =
-    let r = quiet_turn views left_of job first coming0 given was m.0 moves quiet.1 m.1 s in
-    let h = going_moved views left_of job first coming0 given m.0 now move m.2 r.going in
-    let adds = moved_adds views left_of job first coming0 given m.0 now move m.2 r.going in
-    let steps = steps_quiet r.going.fresh r.going.moves m.0.client move now.client given r.steps (r.going.notes_are.write_failed ∙ m.2.up) quiet.0 m.2.client in
-    record {
-      going = h;
-      steps = subst (λ (l : List JobMove). StepsSoFar h.fresh l now.client given) (sym adds.0) (subst (λ (c : ClientState). StepsSoFar c (move ∷ r.going.moves) now.client given) (sym adds.1) steps);
-      not_done = quiet_not_done m.0.client move now.client quiet.0 m.2.client r.not_done;
-    }
+    let r = quiet_turn views left_of job first coming0 given was m.0 moves quiet.2 m.1 s in
+    let b = subst (λ (l : List JobMove). StandsBehind move l) (sym r.1) (behind_on move moves s.going.moves quiet.1) in
+    let h = going_moved views left_of job first coming0 given m.0 now move m.2 r.0.going b in
+    let adds = moved_adds views left_of job first coming0 given m.0 now move m.2 r.0.going b in
+    let steps = steps_quiet r.0.going.fresh r.0.going.moves m.0.client move now.client given r.0.steps (r.0.going.notes_are.write_failed ∙ m.2.up) quiet.0 m.2.client in (
+      record {
+        going = h;
+        steps = subst (λ (l : List JobMove). StepsSoFar h.fresh l now.client given) (sym adds.0) (subst (λ (c : ClientState). StepsSoFar c (move ∷ r.0.going.moves) now.client given) (sym adds.1) steps);
+        not_done = quiet_not_done m.0.client move now.client quiet.0 m.2.client r.0.not_done;
+      },
+      adds.0 ∙ ap (λ (l : List JobMove). move ∷ l) r.1,
+    )
 
 -- how far a job is behind a turn: all that came brought its bytes of the file, or what came last has still to
 pub record HasTurned {L R : Type 0} (views : LinkViews L) (left_of : R → Option (List ℕ)) (job : Job) (first : L) (coming0 : Option (List (List ℕ))) (given : GivenFiles) (came : Bool) (now : LoopState L R) : Type 0 where
@@ -407,9 +412,10 @@ pub record HasTurned {L R : Type 0} (views : LinkViews L) (left_of : R → Optio
 delivers_turn : {L R : Type 0} (views : LinkViews L) (left_of : R → Option (List ℕ)) (job : Job) (first : L) (coming0 : Option (List (List ℕ))) (given : GivenFiles) (came : Bool) (was now : LoopState L R) (move : JobMove) (before : List JobMove) → IsDelivery move → AreQuiet before → came ≡ true → MovesAll views left_of was (move ∷ before) now
     → StandsBySteps views left_of job first coming0 given was → HasTurned views left_of job first coming0 given came now
 delivers_turn views left_of job first coming0 given came was now move before delivers quiet is m s =
-    let r = quiet_turn views left_of job first coming0 given was m.0 before quiet m.1 s in
-    let h = going_moved views left_of job first coming0 given m.0 now move m.2 r.going in
-    let adds = moved_adds views left_of job first coming0 given m.0 now move m.2 r.going in
+    let r = (quiet_turn views left_of job first coming0 given was m.0 before quiet m.1 s).0 in
+    let b = delivery_behind move r.going.moves delivers in
+    let h = going_moved views left_of job first coming0 given m.0 now move m.2 r.going b in
+    let adds = moved_adds views left_of job first coming0 given m.0 now move m.2 r.going b in
     record {
       going = h;
       steps = inr (
@@ -436,7 +442,7 @@ turns_on views left_of job first coming0 given came was now moves turn m runs g 
     from = record { going = g; steps = all_given job.task g.fresh g.moves was.client given runs s; not_done = running_not_done was.client.outcome runs }
 
     by : AreOfTurn came now.client moves → HasTurned views left_of job first coming0 given came now
-    by (Quiet quiet over) = let r = quiet_turn views left_of job first coming0 given was now moves quiet m from in record { going = r.going; steps = inl (r.steps, r.not_done, over) }
+    by (Quiet quiet over) = let r = (quiet_turn views left_of job first coming0 given was now moves quiet m from).0 in record { going = r.going; steps = inl (r.steps, r.not_done, over) }
     by (Delivered move before e delivers quiet is) = delivers_turn views left_of job first coming0 given came was now move before delivers quiet is (subst (λ (l : List JobMove). MovesAll views left_of was l now) e m) from
 
 -- ---- behind it

@@ -24,7 +24,7 @@ use Rattle.net_client.specs.Sending.{optional_request_text}
 use Rattle.net_client.specs.ClientStates.{ClientState, ClientRepresents, IsNewClient, TurnsPage, protocol_of}
 use Rattle.net_jobs.specs.JobTraces.{JobTrace, EventLeads, Turned}
 use Rattle.net_jobs.specs.JobSteps.{FileGoesOn, PageEnds}
-use Rattle.net_jobs.specs.JobJournal.{JobMove, MovesLead, Writes, Fails, given_by, bytes_written_by, heard_by, dialled_by, has_write_failed}
+use Rattle.net_jobs.specs.JobJournal.{PortsAreTold, JobMove, MovesLead, Writes, Fails, given_by, bytes_written_by, heard_by, dialled_by, has_write_failed}
 use Rattle.net_jobs.specs.Inside.{GivesAll, CallNotes, NotesMatch, no_notes, HasTaken, OutputIsUnderWay, IsFiling, TurnsOn, HasFiled, GivesPage}
 use Rattle.net_jobs.specs.RunPromises.{EndsBy, ByLoss, ByMemory, ByGarble, ByLength}
 use Rattle.net_jobs.specs.Links.{LinkViews, Calls}
@@ -32,6 +32,7 @@ use Rattle.net_jobs.proofs.InvariantRecords.{LinkMatchesTrace, ClientFollowsTrac
 use Rattle.net_jobs.specs.Outputs.{files_text, page_outputs_from}
 use Rattle.scan_job.specs.FileOutputs.{TakesBack}
 use Rattle.net_jobs.specs.Batches.{IsPageFile}
+use Rattle.net_jobs.proofs.ToldPorts.{told_short, told_written}
 use Rattle.net_jobs.proofs.Tracing.{did_say}
 use Rattle.net_jobs.proofs.KeepingInvariant.{following, asked_now, stage_on}
 use Rattle.net_jobs.proofs.DataLoop.{behind_some}
@@ -290,6 +291,7 @@ pub record Shut {C R : Type 0} (views : LinkViews C) (left_of : R → Option (Li
   pub last : ClientState
   pub is_fresh : IsNewClient job fresh
   pub leads : MovesLead fresh moves last
+  pub told : PortsAreTold moves
   pub ends : last.outcome ≡ c.outcome
   pub steps : (whole ≡ true) ⊎ (is_ended c.outcome ≡ true) → StepsSoFar fresh moves last given
   pub gave : files_text given.pages ++ given.bytes ≡ given_by moves
@@ -320,6 +322,7 @@ shut_parted {whole = whole} views left_of job first coming0 before was behind co
     last = c;
     is_fresh = d.going.is_fresh;
     leads = d.going.leads;
+    told = d.going.told.told;
     ends = refl;
     steps = steps_at whole job.task d.going.fresh d.going.moves c d.given d.steps;
     gave = d.going.gave;
@@ -343,6 +346,7 @@ shut_parted {whole = whole} views left_of job first coming0 before was behind co
         last = record c { out = [] };
         is_fresh = g.is_fresh;
         leads = (c, g.leads, record { all = refl; new_is = refl });
+        told = told_written c.out g.moves g.told.told;
         ends = refl;
         steps = λ either. steps_quiet g.fresh g.moves c (Writes c.out) (record c { out = [] }) d.given (steps_at whole job.task g.fresh g.moves c d.given d.steps either) (g.notes_are.write_failed ∙ up) tt (record { all = refl; new_is = refl });
         gave = g.gave;
@@ -366,6 +370,7 @@ shut_parted {whole = whole} views left_of job first coming0 before was behind co
         last = record c { out = drop n c.out };
         is_fresh = g.is_fresh;
         leads = (c, g.leads, falls_short c n over short);
+        told = told_short (take n c.out) g.moves g.told.told;
         ends = refl;
         steps = λ either. steps_quiet g.fresh g.moves c (Fails (take n c.out)) (record c { out = drop n c.out }) d.given (steps_at whole job.task g.fresh g.moves c d.given d.steps either) (g.notes_are.write_failed ∙ up) tt (falls_short c n over short);
         gave = g.gave;

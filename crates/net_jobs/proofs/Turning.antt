@@ -1,6 +1,6 @@
 -- The moves of a turn, call by call.
 use Rattle.std.proofs.Common.{◌≡◌, ◌≢◌, ◌∙◌, ◌≤◌, ◌<◌, ℕ, Bool, true, false, not, Option, Some, None, List, [], ◌∷◌, length, take, drop, refl, sym, ap, subst, arith}
-use Rattle.std.specs.Prelude.{if◌then◌else◌, IsTrue}
+use Rattle.std.specs.Prelude.{◌==◌, if◌then◌else◌, IsTrue}
 use Rattle.std.specs.Io.KnownBytes.{Appends, Consumes}
 use Rattle.std.proofs.lemmas.List.{length-take, length-drop, take-append-drop}
 use Rattle.sane_fixed.specs.declared.status.Status.TheVariants as statuses
@@ -10,7 +10,7 @@ use Rattle.client_replies.specs.ProtocolStates.{is_running}
 use Rattle.net_client.specs.ClientStates.{ClientState, HasEarlyReply, after_client_end}
 use Rattle.net_jobs.specs.declared.calls.Loss.{Loss}
 use Rattle.net_jobs.specs.declared.calls.Loss.TheVariants.{UsedUp, DialFailed}
-use Rattle.net_jobs.specs.JobJournal.{JobMove, Writes, Fails, Hears, Resumes, Prepares, Dials, Takes, Loses, HearsPiece, after_loss}
+use Rattle.net_jobs.specs.JobJournal.{IsRequest, JobMove, Writes, Fails, Hears, Resumes, Prepares, Dials, Takes, Loses, HearsPiece, after_loss}
 use Rattle.net_client.specs.ToldPorts.{port_told}
 use Rattle.net_jobs.specs.Links.{IsTold, JobLinks, LinkViews, PortsTold, views_of, with_port}
 use Rattle.net_jobs.specs.Inside.{Heard, Lost, Took, Missed, Made, Refused, Whole, Short, CallNotes, LoopState, MovesAll, AreOfTurn, AreQuiet, Quiet, Delivered, HearsOrLoses, TakesOrLoses, DialsOrLoses, TakesLeave}
@@ -114,7 +114,7 @@ pub turn_dials : {C D R : Type 0} (remaining contents : C → Option (List ℕ))
     → AreQuiet moves → (more : List JobMove) × AreOfTurn false new more × MovesAll (views_of remaining contents ports prepared) left_of first more (loop_at new (record { control = control; dial = then_ }) now made lost fails)
 turn_dials remaining contents ports prepared left_of first moves old new control dial then_ was now stream made lost failed fails port up still asked kept (Made conn made_is brings dials none) m quiet = (
   Dials port true ∷ moves,
-  Quiet (tt, quiet) never_came,
+  Quiet (tt, tt, quiet) never_came,
   (
     loop_at old (record { control = control; dial = dial }) was stream None failed,
     m,
@@ -123,7 +123,7 @@ turn_dials remaining contents ports prepared left_of first moves old new control
 )
 turn_dials remaining contents ports prepared left_of first moves old new control dial then_ was now stream made lost failed fails port up still asked kept (Refused same misses is) m quiet = (
   Dials port false ∷ moves,
-  Quiet (tt, quiet) never_came,
+  Quiet (tt, tt, quiet) never_came,
   (
     loop_at old (record { control = control; dial = dial }) was stream None failed,
     m,
@@ -148,11 +148,16 @@ pub asks_told : (b : Bool) (o : Option ℕ) (port : ℕ) → (if b then o else N
 asks_told true o port e = e
 asks_told false o port e = absurd (let clash : None ≡ Some port = e in cc)
 
+-- what is told is told where something was to go out
+pub asks_behind : (out : List ℕ) (b : Bool) (o : Option ℕ) (port : ℕ) → b ≡ not (length out == 0) → (if b then o else None) ≡ Some port → out ≢ []
+asks_behind out true o port e asks none = let clash : true ≡ false = e ∙ ap (λ (l : List ℕ). not (length l == 0)) none in cc
+asks_behind out false o port e asks none = let clash : None ≡ Some port = asks in cc
+
 pub turn_prepares : {C D R : Type 0} (remaining contents : C → Option (List ℕ)) (ports prepared : D → Option (List ℕ)) (left_of : R → Option (List ℕ)) (first : LoopState (JobLinks C D) R) (moves : List JobMove) (c : ClientState) (control : C) (dial then_ : D) (coming later : Option (List (List ℕ))) (stream : Option R) (failed : Bool) (asks : Option ℕ)
-    → failed ≡ false → is_running c.outcome ≡ true → c.out ≡ [] → ((port : ℕ) → asks ≡ Some port → port_told c.progress ≡ Some port) → IsTold asks (prepared dial) (prepared then_) → ports then_ ≡ ports dial → later ≡ coming
+    → failed ≡ false → is_running c.outcome ≡ true → c.out ≡ [] → ((port : ℕ) → asks ≡ Some port → port_told c.progress ≡ Some port) → ((port : ℕ) → asks ≡ Some port → IsRequest moves) → IsTold asks (prepared dial) (prepared then_) → ports then_ ≡ ports dial → later ≡ coming
     → MovesAll (views_of remaining contents ports prepared) left_of first moves (loop_at c (record { control = control; dial = dial }) coming stream None failed)
     → AreQuiet moves → HasPrepared remaining contents ports prepared left_of first c control then_ later stream failed
-turn_prepares remaining contents ports prepared left_of first moves c control dial then_ coming later stream failed None up running none tells told same none_come m quiet = record {
+turn_prepares remaining contents ports prepared left_of first moves c control dial then_ coming later stream failed None up running none tells behind told same none_come m quiet = record {
   moves = moves;
   quiet = quiet;
   dial = dial;
@@ -161,9 +166,9 @@ turn_prepares remaining contents ports prepared left_of first moves c control di
   ports_are = (same, told);
   coming_is = none_come;
 }
-turn_prepares remaining contents ports prepared left_of first moves c control dial then_ coming later stream failed (Some port) up running none tells told same none_come m quiet = record {
+turn_prepares remaining contents ports prepared left_of first moves c control dial then_ coming later stream failed (Some port) up running none tells behind told same none_come m quiet = record {
   moves = Prepares port ∷ moves;
-  quiet = (tt, quiet);
+  quiet = (tt, behind port refl, quiet);
   dial = then_;
   coming = later;
   leads = (
@@ -191,7 +196,7 @@ turn_hears remaining contents ports prepared left_of first moves old new control
 )
 turn_hears remaining contents ports prepared left_of first moves old new control now dial then_ coming later stream lost failed fails up still told none_come (Lost reason consumed loses is) m quiet = (
   Loses links.Control reason ∷ moves,
-  Quiet (tt, quiet) (λ _. lost_over old new loses.new_is),
+  Quiet (tt, tt, quiet) (λ _. lost_over old new loses.new_is),
   (
     loop_at old (record { control = control; dial = dial }) coming stream None failed,
     m,
@@ -213,7 +218,7 @@ turn_sees views left_of old new at_links coming stream kept conn lost failed fai
 )
 turn_sees views left_of old new at_links coming stream kept conn lost failed fails none_read is_open up still (Missed reason loses is) = (
   Loses links.Image reason ∷ [],
-  Quiet (tt, tt) (λ _. lost_over old new loses.new_is),
+  Quiet (tt, tt, tt) (λ _. lost_over old new loses.new_is),
   (
     loop_at old at_links coming stream None failed,
     refl,
@@ -226,7 +231,7 @@ pub turn_used_up : {L R : Type 0} (views : LinkViews L) (left_of : R → Option 
     → (more : List JobMove) × AreOfTurn false new more × MovesAll views left_of (loop_at old at_links coming stream loss failed) more (loop_at new at_links coming stream lost fails)
 turn_used_up views left_of old new at_links coming stream loss lost failed fails none_read up still is running lost_is = (
   Loses links.Control UsedUp ∷ [],
-  Quiet (tt, tt) never_came,
+  Quiet (tt, tt, tt) never_came,
   (
     loop_at old at_links coming stream loss failed,
     refl,

@@ -1,9 +1,8 @@
 -- What private functions promise: one turn of a job, bytes written and read, files drained, pages filed.
 use Rattle.std.specs.Prelude.{ℕ, zero, suc, Bool, true, false, Option, None, Some, Result, Ok, Err, ◌≡◌, ◌≤◌, List, length, take, drop, [], ◌∷◌, ◌+◌, ◌-◌, ◌≢◌, ◌<◌, if◌then◌else◌, ◌++◌, ⊤, ◌⊎◌, All, IfSome, option_map}
 use Rattle.std.specs.IoError.{error_kind}
+use Rattle.byte_output.specs.Writes.{is_interruption}
 use Rattle.std.specs.declared.io.Error.{Error}
-use Rattle.std.specs.declared.io.ErrorKind.{ErrorKind}
-use Rattle.std.specs.declared.io.ErrorKind.TheVariants.{Interrupted}
 use Rattle.std.specs.Io.KnownBytes.{Appends, Consumes, prepend_known}
 use Rattle.net_client.specs.ClientStates.{ClientState, ClientRepresents, TurnsPage}
 use Rattle.scan_job.specs.declared.job.Job.{Job}
@@ -26,7 +25,7 @@ use Rattle.sane_fixed.specs.declared.status.Status.TheVariants as statuses
 use Rattle.scan_job.specs.declared.outcome.Why.TheVariants as whys
 use Rattle.net_jobs.specs.declared.calls.Loss.{Loss}
 use Rattle.net_jobs.specs.declared.calls.Loss.TheVariants.{ReadFailed, StreamEnded, DialFailed}
-use Rattle.net_jobs.specs.JobJournal.{AreGives, IsPiece, JobMove, Hears, Resumes, MovesLead, Fails, Dials, Takes, Gives, Loses, MoveLeads, HearsPiece, TakesPiece, DialsPort, MissesPort, LosesLink, has_write_failed, given_by}
+use Rattle.net_jobs.specs.JobJournal.{AreGives, IsPiece, JobMove, StandsBehind, Hears, Resumes, MovesLead, Fails, Dials, Takes, Gives, Loses, MoveLeads, HearsPiece, TakesPiece, DialsPort, MissesPort, LosesLink, has_write_failed, given_by}
 use Rattle.net_jobs.specs.JobSteps.{FileRunsOut, IsDelivery, MovesAreSteps, MovesStopWithin, PageEnds, StepsGive}
 use Rattle.net_jobs.specs.JobTraces.{TraceEvent, EndWell}
 use Rattle.net_jobs.specs.JobTraces.TraceEvent.{Opened}
@@ -39,10 +38,6 @@ use Rattle.net_jobs.specs.Outputs.{files_text, page_outputs_from}
 
 -- ---- what a call on a connection comes to, by the result that the stream gave
 
-abbrev pub is_interruption : ErrorKind → Bool
-is_interruption Interrupted = true
-is_interruption kind = false
-
 abbrev pub loss_by_error : Bool → Option Loss
 loss_by_error true = None
 loss_by_error false = Some ReadFailed
@@ -52,16 +47,6 @@ abbrev pub loss_by_read : Result ℕ Error → Option Loss
 loss_by_read (Ok zero) = Some StreamEnded
 loss_by_read (Ok (suc n)) = None
 loss_by_read (Err e) = loss_by_error (is_interruption (error_kind e))
-
-abbrev pub fails_by_error : Bool → Bool
-fails_by_error true = false
-fails_by_error false = true
-
--- so may a write, and one of which nothing is taken has failed
-abbrev pub fails_to_write : Result ℕ Error → Bool
-fails_to_write (Ok zero) = true
-fails_to_write (Ok (suc n)) = false
-fails_to_write (Err e) = fails_by_error (is_interruption (error_kind e))
 
 abbrev pub loss_by_dial : {T E : Type 0} → Result T E → Option Loss
 loss_by_dial (Ok conn) = None
@@ -198,7 +183,7 @@ IsQuiet move = Unit {0}
 
 abbrev pub AreQuiet : List JobMove → Type 0
 AreQuiet [] = Unit {0}
-AreQuiet (move ∷ moves) = IsQuiet move × AreQuiet moves
+AreQuiet (move ∷ moves) = IsQuiet move × StandsBehind move moves × AreQuiet moves
 
 -- the moves of a turn that leads to that client: with its newest something comes, if that is told, or it ends the job
 pub data AreOfTurn (came : Bool) (now : ClientState) (moves : List JobMove) : Type 0 where

@@ -150,6 +150,39 @@ dialled_by [] = []
 dialled_by (Dials port made ∷ moves) = port ∷ dialled_by moves
 dialled_by (move ∷ moves) = dialled_by moves
 
+-- **told once (`PortsAreTold`)**: what makes the data connections is told of a frame's port right behind the request for its
+-- parameters, and of none again before a data connection was asked for.
+--
+-- the newest move writes bytes that were to go out
+abbrev pub IsRequest : List JobMove → Type 0
+IsRequest (Writes bytes ∷ moves) = bytes ≢ []
+IsRequest moves = ⊥
+
+-- what a move stands right behind: a port is told behind a request, and any other move behind any
+abbrev pub StandsBehind : JobMove → List JobMove → Type 0
+StandsBehind (Prepares port) moves = IsRequest moves
+StandsBehind move moves = Unit {0}
+
+abbrev pub PortsFollowRequests : List JobMove → Type 0
+PortsFollowRequests [] = Unit {0}
+PortsFollowRequests (move ∷ moves) = StandsBehind move moves × PortsFollowRequests moves
+
+-- a port was told since a data connection was asked for last
+abbrev pub is_port_told : List JobMove → Bool
+is_port_told [] = false
+is_port_told (Prepares port ∷ moves) = true
+is_port_told (Dials port made ∷ moves) = false
+is_port_told (move ∷ moves) = is_port_told moves
+
+abbrev pub PortsAreToldOnce : List JobMove → Type 0
+PortsAreToldOnce [] = Unit {0}
+PortsAreToldOnce (Prepares port ∷ moves) = (is_port_told moves ≡ false) × PortsAreToldOnce moves
+PortsAreToldOnce (move ∷ moves) = PortsAreToldOnce moves
+
+pub record PortsAreTold (moves : List JobMove) : Type 0 where
+  pub behind : PortsFollowRequests moves
+  pub once : PortsAreToldOnce moves
+
 -- a write to the control connection failed
 abbrev pub has_write_failed : List JobMove → Bool
 has_write_failed [] = false

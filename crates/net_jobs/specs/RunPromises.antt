@@ -22,7 +22,7 @@ use Rattle.scan_job.specs.declared.outcome.Outcome.TheVariants.{Done, Ended}
 use Rattle.scan_job.specs.declared.outcome.Why.TheVariants as whys
 use Rattle.scan_job.specs.declared.report.Reports.{Reports}
 use Rattle.scan_job.specs.declared.stop.Stop.{Stop}
-use Rattle.net_jobs.specs.JobJournal.{JobMove, MovesLead, bytes_written_by, heard_by, given_by, dialled_by, has_write_failed, HasLoss}
+use Rattle.net_jobs.specs.JobJournal.{JobMove, MovesLead, PortsAreTold, bytes_written_by, heard_by, given_by, dialled_by, has_write_failed, HasLoss}
 use Rattle.net_jobs.specs.JobSteps.{MovesAreSteps, MovesStopWithin, given_by_steps}
 use Rattle.net_jobs.specs.JobTraces.{JobTrace, BytesMatchTrace, EndWell, ports_named}
 use Rattle.net_jobs.specs.Links.{JobLinks, LinkViews, Calls, HasBrought, BeginWith}
@@ -59,7 +59,8 @@ abbrev pub AreAskedFor : List ℕ → List ℕ → Type 0
 AreAskedFor asked named = (named ≡ asked) ⊎ ((port : ℕ) × (named ≡ port ∷ asked))
 
 -- What a job did over its streams: its moves, from the new client on, by the client's own contracts; the replies that it read
--- by them, and what it wrote for them; the ports of its data connections, which are those of its START replies; and these
+-- by them, and what it wrote for them; the ports that were told beforehand, each right behind the request for the parameters of its
+-- frame, and once; the ports of its data connections, which are those of its START replies; and these
 -- connections, each of which began with a frame's records but for one that was let go within its frame.
 pub record RanWithTrace {L O : Type 0} (views : LinkViews L) (job : Job) (was now : SeenStreams L O) : Type 0 where
   pub moves : List JobMove
@@ -67,6 +68,7 @@ pub record RanWithTrace {L O : Type 0} (views : LinkViews L) (job : Job) (was no
   pub last : ClientState
   pub fresh : IsNewClient job first
   pub leads : MovesLead first moves last
+  pub told : PortsAreTold moves
   pub rest : List ℕ
   pub left : List ℕ
   pub trace : JobTrace

@@ -3,17 +3,18 @@
 //! No clause of `Read` and `Write` tells that a call failed. So the methods below, of which each makes one call and notes its
 //! result, are the only ones that call a connection of a job, or ask for one; what the loop tells its client of a loss is
 //! bound to these notes by its contracts.
-ghost use Rattle.std.specs.Prelude.{◌≡◌, ◌<◌, ◌≤◌, ◌+◌, ◌^◌, ℕ, true, false, length, take, None, Some, IfOk, OnErr, IsTrue};
+ghost use Rattle.std.specs.Prelude.{◌≡◌, ◌<◌, ◌≤◌, ◌+◌, ◌^◌, ℕ, ◌||◌, not, true, false, length, take, None, Some, IfOk, OnErr, IsTrue};
 ghost use Rattle.std.specs.Io.{ReadsAtMost, WritesAtMost};
 ghost use Rattle.std.specs.Io.KnownBytes.{Appends, ReadConsumes, WriteAppends};
-ghost use Rattle.net_jobs.specs.Inside.{loss_by_read, fails_to_write};
+ghost use Rattle.net_jobs.specs.Inside.{loss_by_read};
 
 use crate::dial::{Dial, DialFault};
-use byte_output::put;
+use byte_output::{OutputTally, fails_to_write, put};
+use scan_job::{Shelf, ShelfFault};
 use std::io::{self, ErrorKind, Read, Write};
 
-/// The most reads of a job, with the interrupted calls on its control connection that are made again; the most turns of its
-/// loop; and the most interrupted writes to its outputs that are made again.
+/// The most reads of a job, with the interrupted calls on its control connection that are made again; and the most turns
+/// of its loop.
 const MOST_CALLS: u64 = 1 << 40;
 
 /// Why nothing more is read of a connection.
@@ -34,7 +35,7 @@ pub enum Loss {
 pub struct CallTally {
     reads: u64,
     turns: u64,
-    again: u64,
+    output: OutputTally,
     loss: Option<Loss>,
     write_failed: bool,
 }
@@ -51,27 +52,20 @@ fn loss_by_read(got: &io::Result<usize>) -> Option<Loss>
     }
 }
 
-/// Whether a write that gave this failed.
-fn fails_to_write(took: &io::Result<usize>) -> bool
-    ensures { result ≡ fails_to_write took.now }
-{
-    match took {
-        Ok(n) => *n == 0,
-        Err(e) => e.kind() != ErrorKind::Interrupted,
-    }
-}
-
 impl CallTally {
-    ghost use Rattle.net_jobs.specs.Inside.{loss_by_read, loss_by_dial, fails_to_write};
+    ghost use Rattle.std.specs.Result.{is_err};
+    ghost use Rattle.scan_job.specs.Shelves.{OpensOutput, Shelves, IsEmpty, IsNewOutput};
+    ghost use Rattle.byte_output.specs.Writes.{fails_to_write};
+    ghost use Rattle.net_jobs.specs.Inside.{loss_by_read, loss_by_dial};
     ghost use Rattle.net_jobs.specs.Links.{DialBrings, with_port};
 
-    /// Before the first call.
-    pub fn new() -> CallTally
+    /// Before the first call on a connection.
+    pub fn new(output: OutputTally) -> CallTally
         ensures { result
             ≡ record {
               reads = 2 ^ 40;
               turns = 2 ^ 40;
-              again = 2 ^ 40;
+              output = output;
               loss = None;
               write_failed = false;
             } }
@@ -79,10 +73,17 @@ impl CallTally {
         CallTally {
             reads: MOST_CALLS,
             turns: MOST_CALLS,
-            again: MOST_CALLS,
+            output,
             loss: None,
             write_failed: false,
         }
+    }
+
+    /// What became of the calls on the outputs.
+    pub fn into_output(self) -> OutputTally
+        ensures { result ≡ self.output }
+    {
+        self.output
     }
 
     /// Takes a turn of the loop, if one is left.
@@ -186,9 +187,35 @@ impl CallTally {
             → Appends (W.contents out.old) (W.contents out.new) bytes.now }
         ensures front { result ≡ false → (n : ℕ) × (n < length bytes.now)
             × Appends (W.contents out.old) (W.contents out.new) (take n bytes.now) }
-        ensures rest { self.new ≡ record self.old { again = self.new.again } }
-        ensures again { self.new.again ≤ self.old.again }
+        ensures failed { result ≡ false → self.new.output.failed ≡ true }
+        ensures kept { result ≡ true → self.new.output.failed ≡ self.old.output.failed }
+        ensures rest { self.new ≡ record self.old { output = self.new.output } }
+        ensures again { self.new.output.again ≤ self.old.output.again }
     {
-        put(out, bytes, &mut self.again)
+        put(out, bytes, &mut self.output)
+    }
+
+    /// Asks a shelf for the output of the file of that number.
+    pub fn open<S: Shelf>(&mut self, shelf: &mut S, number: u32) -> Result<S::Out, ShelfFault>
+        ensures stock { OpensOutput (S.stock shelf.old) number (S.stock shelf.new) }
+        ensures empty { IfOk result (λ out. IsEmpty (S.Out.contents out)) }
+        ensures new { IfOk result (λ out. IsNewOutput (S.stock shelf.new) (S.Out.contents out)) }
+        ensures told { self.new.output ≡ record self.old.output {
+          failed = is_err result || self.old.output.failed;
+        } }
+        ensures rest { self.new ≡ record self.old { output = self.new.output } }
+    {
+        self.output.open(shelf, number)
+    }
+
+    /// Gives a shelf an output back. Says whether it kept it.
+    pub fn close<S: Shelf>(&mut self, shelf: &mut S, out: S::Out) -> bool
+        ensures stock { Shelves (S.stock shelf.old) (S.Out.contents out) result (S.stock shelf.new) }
+        ensures told { self.new.output ≡ record self.old.output {
+          failed = not result || self.old.output.failed;
+        } }
+        ensures rest { self.new ≡ record self.old { output = self.new.output } }
+    {
+        self.output.close(shelf, out)
     }
 }

@@ -4,9 +4,11 @@
 
 mod calls;
 mod dial;
+mod lies;
 mod net_batch;
 mod running;
 
 pub use dial::{Dial, DialFault};
+pub use lies::a_told_port_is_no_lie;
 pub use net_batch::{run_batch, run_batch_with};
 pub use running::{run_job, run_job_with};

@@ -1,8 +1,9 @@
-ghost use Rattle.std.specs.Prelude.{◌≡◌, ◌<◌, ◌≤◌, ◌⊎◌, ◌+◌, ℕ, None, List, Option, true, false, length, option_map, [], Ok, IfOk, IfErr};
+ghost use Rattle.std.specs.Prelude.{◌≡◌, ◌<◌, ◌≤◌, ◌⊎◌, ◌+◌, ℕ, None, List, Option, true, false, length, option_map, [], Ok, Err, IfOk, IfErr};
 ghost use Rattle.std.specs.Fn.{FnOnceReturnsAt};
 ghost use Rattle.scan_job.specs.declared.job.Job.{Job as JobValue};
 ghost use Rattle.scan_job.specs.JobSize.{HasCount};
 ghost use Rattle.scan_job.specs.declared.outcome.Outcome.TheVariants.{Ended};
+ghost use Rattle.scan_job.specs.declared.outcome.Why.TheVariants.{Sink};
 ghost use Rattle.scan_job.specs.Outcomes.{IfDone, IfEnded, IsOver, over_as};
 ghost use Rattle.scan_job.specs.Shelves.{Stock, ReturnedOutput};
 ghost use Rattle.frame_join.specs.FrameHistory.{JoinHistory};
@@ -18,6 +19,7 @@ ghost use Rattle.net_jobs.specs.RunPromises.{seen, streams};
 use crate::calls::CallTally;
 use crate::dial::Dial;
 use crate::running::{MOST_PULLS, go_on, part, piece, stop_of_fault, told_of};
+use byte_output::OutputTally;
 use frame_join::{no_file_is_endless, no_front_is_whole, not_whole_before, whole_shows};
 use net_client::Client;
 use netpbm::no_whole_prefix;
@@ -54,10 +56,11 @@ fn shelve<S: Shelf>(
     ensures front { result ≡ false
         → TakesFront (S.stock shelf.old) (option_map S.Out.contents under.old)
         (S.stock shelf.new) (option_map S.Out.contents under.new) number bytes.now }
+    ensures failed { result ≡ false → tally.new.output.failed ≡ true }
 {
     match under {
         Some(out) => tally.put(out, bytes),
-        None => match shelf.open(number) {
+        None => match tally.open(shelf, number) {
             Ok(mut out) => {
                 let took = tally.put(&mut out, bytes);
                 match mem::replace(under, Some(out)) {
@@ -71,12 +74,15 @@ fn shelve<S: Shelf>(
 }
 
 /// Gives an output back, if there is one. Says whether the shelf kept it.
-fn put_back<S: Shelf>(shelf: &mut S, under: Option<S::Out>) -> bool
-    ensures { GivesBack (S.stock shelf.old) (option_map S.Out.contents under) result
+fn put_back<S: Shelf>(shelf: &mut S, under: Option<S::Out>, tally: &mut CallTally) -> bool
+    ensures back { GivesBack (S.stock shelf.old) (option_map S.Out.contents under) result
         (S.stock shelf.new) }
+    ensures calls { KeepsNotes tally.old tally.new }
+    ensures failed { result ≡ false → tally.new.output.failed ≡ true }
+    ensures kept { result ≡ true → tally.new.output.failed ≡ tally.old.output.failed }
 {
     match under {
-        Some(out) => shelf.close(out).is_ok(),
+        Some(out) => tally.close(shelf, out),
         None => true,
     }
 }
@@ -108,6 +114,10 @@ fn drain<S: Shelf>(
         (S.stock shelf.old) (option_map S.Out.contents under.old)
         → HasFiledShort past client.old k before outputs (given_by gives) client.new
         (S.stock shelf.new) (option_map S.Out.contents under.new)) }
+    ensures failed { result ≡ false
+        → (before : Option Stock) (outputs : List ReturnedOutput) (k : ℕ) (past : JoinHistory)
+        → IsFiling past client.old k before outputs (S.stock shelf.old)
+        (option_map S.Out.contents under.old) → tally.new.output.failed ≡ true }
 {
     no_file_is_endless();
     no_front_is_whole();
@@ -123,7 +133,7 @@ fn drain<S: Shelf>(
             return false;
         }
         if is_page && !client.is_turning() {
-            return put_back(shelf, under.take());
+            return put_back(shelf, under.take(), tally);
         }
     }
     false
@@ -158,6 +168,10 @@ fn fill<S: Shelf>(
         (S.stock shelf.old) (option_map S.Out.contents under.old)
         → HasFiledShort past client.old k before outputs (given_by gives) client.new
         (S.stock shelf.new) (option_map S.Out.contents under.new)) }
+    ensures failed { result ≡ false
+        → (before : Option Stock) (outputs : List ReturnedOutput) (k : ℕ) (past : JoinHistory)
+        → IsFiling past client.old k before outputs (S.stock shelf.old)
+        (option_map S.Out.contents under.old) → tally.new.output.failed ≡ true }
 {
     if !is_scanning {
         return true;
@@ -193,6 +207,10 @@ where
         (seen D.coming S.stock (streams control.old dial.old shelf.old))
         (seen D.coming S.stock (streams control.new dial.new shelf.new))
         (option_map S.Out.contents under.new) (over_as result) (notes_of tally.new) }
+    // It ends for its output only where that failed.
+    ensures output { (job : JobValue) → IsNewClient job client → HasCount job.task
+        → is_scanning ≡ scans job.task → option_map S.Out.contents under.old ≡ None
+        → IfErr result (λ stop. stop.why ≡ Sink → tally.new.output.failed ≡ true) }
     ensures told { IfOk result (λ done. FnOnceReturnsAt F.FnOnce tell done.0 (Ok done.1)) }
 {
     not_whole_before();
@@ -230,6 +248,7 @@ where
 fn closed<T: Drop>(done: Result<(Reports, T), Stop>, is_taken: bool) -> Result<(Reports, T), Stop>
     ensures closed { over_as result ≡ closed_as (over_as done) is_taken }
     ensures same { IfOk result (λ it. done ≡ Ok it) }
+    ensures stop { IfErr result (λ stop. (done ≡ Err stop) ⊎ (is_taken ≡ false)) }
 {
     match done {
         Ok(done) => {
@@ -244,13 +263,14 @@ fn closed<T: Drop>(done: Result<(Reports, T), Stop>, is_taken: bool) -> Result<(
 }
 
 /// Does a job as `run_batch` does it, and makes of its reports what is to be told of it, by `tell`: before the last bytes of its
-/// last file go out. Gives the reports and what was made of them.
+/// last file go out. Gives the reports and what was made of them, and what became of the calls on its outputs.
 pub fn run_batch_with<C, D, S, T, F>(
     alloc: Global,
     job: Job,
     control: &mut C,
     dial: &mut D,
     shelf: &mut S,
+    outputs: &mut OutputTally,
     tell: F,
 ) -> Result<(Reports, T), Stop>
 where
@@ -270,6 +290,9 @@ where
         ⊎ BatchEnded (views_of C.remaining C.contents D.ports D.prepared) job
         (seen D.coming S.stock (streams control.old dial.old shelf.old))
         (seen D.coming S.stock (streams control.new dial.new shelf.new)) stop) }
+    /// A batch ends for its output only where it is noted that one failed: a write to it, or the shelf gave none, or
+    /// refused it.
+    ensures output { IfErr result (λ stop. stop.why ≡ Sink → outputs.new.failed ≡ true) }
     ensures told { IfOk result (λ done. FnOnceReturnsAt F.FnOnce tell done.0 (Ok done.1)) }
 {
     if let Some(fault) = job.fault() {
@@ -283,7 +306,7 @@ where
         Err((fault, _job)) => return Err(stop_of_fault(fault)),
     };
     let mut under = None;
-    let mut tally = CallTally::new();
+    let mut tally = CallTally::new(mem::replace(outputs, OutputTally::new()));
     let done = run_client(
         client,
         control,
@@ -296,7 +319,8 @@ where
         &mut tally,
         tell,
     );
-    let is_taken = put_back(shelf, under);
+    let is_taken = put_back(shelf, under, &mut tally);
+    *outputs = tally.into_output();
     closed(done, is_taken)
 }
 
@@ -337,7 +361,8 @@ pub fn run_batch<C: Read + Write, D: Dial, S: Shelf>(
         (seen D.coming S.stock (streams control.new dial.new shelf.new))
         (record { status = status; why = why })) }
 {
-    match run_batch_with(alloc, job, control, dial, shelf, |_| Ok(())) {
+    let mut outputs = OutputTally::new();
+    match run_batch_with(alloc, job, control, dial, shelf, &mut outputs, |_| Ok(())) {
         Ok((reports, ())) => Outcome::Done(reports),
         Err(stop) => Outcome::Ended(stop.status, stop.why),
     }

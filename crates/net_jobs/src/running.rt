@@ -4,6 +4,7 @@ ghost use Rattle.std.specs.Io.KnownBytes.{Appends, Consumes};
 ghost use Rattle.scan_job.specs.declared.job.Job.{Job as JobValue};
 ghost use Rattle.scan_job.specs.declared.job.Task.TheVariants as tasks;
 ghost use Rattle.scan_job.specs.declared.outcome.Outcome.TheVariants.{Done, Ended};
+ghost use Rattle.scan_job.specs.declared.outcome.Why.TheVariants.{Sink};
 ghost use Rattle.scan_job.specs.declared.report.Reports.{Reports as ReportsValue};
 ghost use Rattle.scan_job.specs.Outcomes.{IfDone, IfEnded, IsOver, over_as};
 ghost use Rattle.frame_join.specs.FrameHistory.{JoinHistory};
@@ -18,12 +19,14 @@ ghost use Rattle.net_jobs.specs.RunPromises.{RanDone, RanEnded, RefusesJob, refu
 
 use crate::calls::CallTally;
 use crate::dial::Dial;
+use byte_output::OutputTally;
 use frame_join::{no_file_is_endless, no_front_is_whole, not_whole_before, whole_shows};
 use net_client::{Client, Link};
 use sane_fixed::{NoMem, Status};
 use scan_job::{Job, JobFault, Outcome, Reports, Stop, Task, Why};
 use std::alloc::{AllocError, Global};
 use std::io::{ErrorKind, Read, Write};
+use std::mem;
 
 /// More than a file has bytes.
 pub(crate) const MOST_PULLS: u64 = 1 << 40;
@@ -320,7 +323,10 @@ fn talk<C: Read + Write, D: Dial>(
 /// Whether what came before it was asked for is to be looked at again: not in two turns in a row, since a daemon that spoke too
 /// early may have said less than a reply.
 fn looks_again(client: &Client, has_looked: &mut bool) -> bool
-    ensures { result ≡ true → HasEarlyReply client.now }
+    ensures early { result ≡ true → HasEarlyReply client.now }
+    ensures once { result ≡ true → has_looked.old ≡ false }
+    ensures looks { has_looked.old ≡ false → HasEarlyReply client.now → result ≡ true }
+    ensures noted { has_looked.new ≡ result }
 {
     let is_early = !*has_looked && client.has_early_reply();
     *has_looked = is_early;
@@ -392,6 +398,8 @@ fn drain<W: Write>(client: &mut Client, room: &mut [u8], out: &mut W, tally: &mu
     ensures short { result ≡ false → (first : Option (List ℕ)) (past : JoinHistory)
         → HoldsGiven past client.old first (W.contents out.old)
         → StopsBehind past.given first (W.contents out.new) }
+    ensures failed { result ≡ false → (first : Option (List ℕ)) (past : JoinHistory)
+        → HoldsGiven past client.old first (W.contents out.old) → tally.new.output.failed ≡ true }
 {
     no_file_is_endless();
     no_front_is_whole();
@@ -429,6 +437,8 @@ fn give<W: Write>(
     ensures short { result ≡ false → (first : Option (List ℕ)) (past : JoinHistory)
         → HoldsGiven past client.old first (W.contents out.old)
         → StopsBehind past.given first (W.contents out.new) }
+    ensures failed { result ≡ false → (first : Option (List ℕ)) (past : JoinHistory)
+        → HoldsGiven past client.old first (W.contents out.old) → tally.new.output.failed ≡ true }
 {
     if !is_scan {
         return true;
@@ -507,6 +517,10 @@ where
         (seen D.coming W.contents (streams control.old dial.old out.old))
         (seen D.coming W.contents (streams control.new dial.new out.new))
         (over_as result) (notes_of tally.new) }
+    // It ends for its output only where that failed.
+    ensures output { (job : JobValue) → IsNewClient job client → is_batch job.task ≡ false
+        → (is_scan ≡ true ↔ job.task ≡ tasks.Scan)
+        → IfErr result (λ stop. stop.why ≡ Sink → tally.new.output.failed ≡ true) }
     ensures told { IfOk result (λ done. FnOnceReturnsAt F.FnOnce tell done.0 (Ok done.1)) }
 {
     not_whole_before();
@@ -541,13 +555,15 @@ where
 }
 
 /// Does a job as `run_job` does it, and makes of its reports what is to be told of it, by `tell`: before the last bytes of its
-/// file go out, so that what there is no memory to tell of leaves no whole file. Gives the reports and what was made of them.
+/// file go out, so that what there is no memory to tell of leaves no whole file. Gives the reports and what was made of them,
+/// and what became of the calls on its output.
 pub fn run_job_with<C, D, W, T, F>(
     alloc: Global,
     job: Job,
     control: &mut C,
     dial: &mut D,
     out: &mut W,
+    outputs: &mut OutputTally,
     tell: F,
 ) -> Result<(Reports, T), Stop>
 where
@@ -568,6 +584,8 @@ where
         ⊎ RanEnded (views_of C.remaining C.contents D.ports D.prepared) job
         (seen D.coming W.contents (streams control.old dial.old out.old))
         (seen D.coming W.contents (streams control.new dial.new out.new)) stop) }
+    /// A job ends for its output only where it is noted that a write to it failed.
+    ensures output { IfErr result (λ stop. stop.why ≡ Sink → outputs.new.failed ≡ true) }
     ensures told { IfOk result (λ done. FnOnceReturnsAt F.FnOnce tell done.0 (Ok done.1)) }
 {
     if job.task.is_batch() {
@@ -579,21 +597,24 @@ where
     let mut ahead = piece(alloc)?;
     let mut room = piece(alloc)?;
     let is_scan = is_scan(job.task);
-    let mut tally = CallTally::new();
-    match Client::new(alloc, job) {
-        Ok(client) => run_client(
-            client,
-            control,
-            dial,
-            out,
-            is_scan,
-            ahead.as_mut_slice(),
-            room.as_mut_slice(),
-            &mut tally,
-            tell,
-        ),
-        Err((fault, _job)) => Err(stop_of_fault(fault)),
-    }
+    let client = match Client::new(alloc, job) {
+        Ok(client) => client,
+        Err((fault, _job)) => return Err(stop_of_fault(fault)),
+    };
+    let mut tally = CallTally::new(mem::replace(outputs, OutputTally::new()));
+    let done = run_client(
+        client,
+        control,
+        dial,
+        out,
+        is_scan,
+        ahead.as_mut_slice(),
+        room.as_mut_slice(),
+        &mut tally,
+        tell,
+    );
+    *outputs = tally.into_output();
+    done
 }
 
 /// Does a job over a control connection, the data connections that are dialed, and an output, which is not flushed. A
@@ -630,9 +651,9 @@ pub fn run_job<C: Read + Write, D: Dial, W: Write>(
     /// job ended before.
     /// Carried by: `done`, `ended` of `run_job`
     ///
-    /// What makes the data connections is told beforehand of no port but that which START's reply named, once the
-    /// frame's parameters are asked for and before they are told.
-    /// Carried by: `done`, `ended` of `run_job`: `PreparesPort` of its moves
+    /// What makes the data connections is told beforehand of no port but that which START's reply named, right behind
+    /// the request for the frame's parameters and before they are told; and of each frame's once.
+    /// Carried by: `done`, `ended` of `run_job`: `PreparesPort` of its moves, and `PortsAreTold`
     ///
     /// Each data connection began with the records of a frame that ended, but for at most one that was let go within
     /// its frame.
@@ -678,7 +699,8 @@ pub fn run_job<C: Read + Write, D: Dial, W: Write>(
         (seen D.coming W.contents (streams control.new dial.new out.new))
         (record { status = status; why = why })) }
 {
-    match run_job_with(alloc, job, control, dial, out, |_| Ok(())) {
+    let mut outputs = OutputTally::new();
+    match run_job_with(alloc, job, control, dial, out, &mut outputs, |_| Ok(())) {
         Ok((reports, ())) => Outcome::Done(reports),
         Err(stop) => Outcome::Ended(stop.status, stop.why),
     }

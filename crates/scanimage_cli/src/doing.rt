@@ -7,8 +7,9 @@ ghost use Rattle.local_job.specs.LocalRun.{LeavesNoFile, ChangesDevice};
 use crate::ending::Ending;
 use crate::printed::Printout;
 use device_api::Device;
-use local_job::{run_local_batch_with, run_local_with};
-use scan_job::{Job, Shelf};
+use local_job::{OutputTally, run_local_batch_with, run_local_with};
+use sane_fixed::Status;
+use scan_job::{Job, Shelf, Why};
 use std::alloc::Global;
 use std::io::Write;
 
@@ -19,6 +20,7 @@ pub fn do_job<W: Write>(
     device: &mut dyn Device,
     job: &Job,
     output: &mut W,
+    outputs: &mut OutputTally,
 ) -> Result<Printout, Ending>
     /// `do_job` gives what is to be printed just where the job is done: an output that tells its bytes then took the
     /// whole file of the picture that the settings in force mean on the scanner's page (where the page's source is
@@ -38,6 +40,10 @@ pub fn do_job<W: Write>(
     /// Carried by: `ended`, `rest` of `do_job`
     ensures ended { IfErr result
         (λ ending. EndsJob (state device.old) job.now (state device.new) ending) }
+    /// That a job on a scanner ended for its output is told only where a call on the output failed.
+    /// Carried by: `output` of `do_job`, `do_batch`
+    ensures output { IfErr result (λ ending. ending ≡ Ending.Ended Status.IoError Why.Sink
+        → outputs.new.failed ≡ true) }
     // Its exit status is not 0.
     ensures failed { IfErr result IsFailure }
     // Of the scanner only options, phase and count of failures changed, and a feeder let go of a page.
@@ -46,7 +52,7 @@ pub fn do_job<W: Write>(
 {
     let name = job.device.as_bytes();
     let task = job.task;
-    let done = run_local_with(alloc, device, job, output, |reports| {
+    let done = run_local_with(alloc, device, job, output, outputs, |reports| {
         Printout::of(alloc, b"", name, task, reports)
     });
     match done {
@@ -62,6 +68,7 @@ pub fn do_batch<S: Shelf>(
     device: &mut dyn Device,
     job: &Job,
     shelf: &mut S,
+    outputs: &mut OutputTally,
 ) -> Result<Printout, Ending>
     /// `do_batch` keeps the same of a batch and the shelf that its pages go to: what is to be printed comes only
     /// where the shelf kept every page.
@@ -72,13 +79,15 @@ pub fn do_batch<S: Shelf>(
     ensures ended { IfErr result (λ ending.
         EndsBatch job.now (record { device = state device.old; stock = S.stock shelf.old })
         (record { device = state device.new; stock = S.stock shelf.new }) ending) }
+    ensures output { IfErr result (λ ending. ending ≡ Ending.Ended Status.IoError Why.Sink
+        → outputs.new.failed ≡ true) }
     // Its exit status is not 0.
     ensures failed { IfErr result IsFailure }
     ensures rest { is_at_rest (state device.new).phase ≡ true }
 {
     let name = job.device.as_bytes();
     let task = job.task;
-    let done = run_local_batch_with(alloc, device, job, shelf, |reports| {
+    let done = run_local_batch_with(alloc, device, job, shelf, outputs, |reports| {
         Printout::of(alloc, b"", name, task, reports)
     });
     match done {

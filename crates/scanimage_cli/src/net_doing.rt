@@ -1,4 +1,4 @@
-ghost use Rattle.std.specs.Prelude.{◌≡◌, IfOk, IfErr, OnErr};
+ghost use Rattle.std.specs.Prelude.{◌≡◌, true, IfOk, IfErr, OnErr};
 ghost use Rattle.scan_job.specs.FileOutputs.{StopsShort};
 ghost use Rattle.net_jobs.specs.Links.{views_of};
 ghost use Rattle.net_jobs.specs.RunPromises.{seen, streams};
@@ -9,9 +9,10 @@ ghost use Rattle.scanimage_cli.specs.Programs.{IsFailure};
 use crate::device_listing::net_prefix;
 use crate::ending::Ending;
 use crate::printed::Printout;
+use local_job::OutputTally;
 use net_backend::{Dial, run_batch_with, run_job_with};
-use sane_fixed::{NoMem, Text};
-use scan_job::{Job, Shelf};
+use sane_fixed::{NoMem, Status, Text};
+use scan_job::{Job, Shelf, Why};
 use std::alloc::Global;
 use std::io::{Read, Write};
 
@@ -33,6 +34,7 @@ pub fn do_net_job<C: Read + Write, D: Dial, W: Write>(
     control: &mut C,
     dial: &mut D,
     output: &mut W,
+    outputs: &mut OutputTally,
 ) -> Result<Printout, Ending>
     /// `do_net_job` gives what is to be printed just where the job is done by the client's rules, for the replies
     /// that it read and the frames that came: an output that tells its bytes then took the whole file of the picture
@@ -49,6 +51,10 @@ pub fn do_net_job<C: Read + Write, D: Dial, W: Write>(
     ensures ended { IfErr result (EndsNetJob
         (stream_views (views_of C.remaining C.contents D.ports D.prepared) D.coming W.contents) job
         (streams control.old dial.old output.old) (streams control.new dial.new output.new)) }
+    /// That a job over the net ended for its output is told only where a call on the output failed.
+    /// Carried by: `output` of `do_net_job`, `do_net_batch`
+    ensures output { IfErr result (λ ending. ending ≡ Ending.Ended Status.IoError Why.Sink
+        → outputs.new.failed ≡ true) }
     // Its exit status is not 0.
     ensures failed { IfErr result IsFailure }
 {
@@ -56,7 +62,7 @@ pub fn do_net_job<C: Read + Write, D: Dial, W: Write>(
         return Err(Ending::no_memory());
     };
     let task = job.task;
-    let done = run_job_with(alloc, job, control, dial, output, |reports| {
+    let done = run_job_with(alloc, job, control, dial, output, outputs, |reports| {
         Printout::of(alloc, prefix.as_slice(), device.as_bytes(), task, reports)
     });
     match done {
@@ -74,6 +80,7 @@ pub fn do_net_batch<C: Read + Write, D: Dial, S: Shelf>(
     control: &mut C,
     dial: &mut D,
     shelf: &mut S,
+    outputs: &mut OutputTally,
 ) -> Result<Printout, Ending>
     /// `do_net_batch` keeps the same of a batch and its shelf, which kept every page.
     /// Carried by: `done`, `ended` of `do_net_batch`
@@ -84,6 +91,8 @@ pub fn do_net_batch<C: Read + Write, D: Dial, S: Shelf>(
     ensures ended { IfErr result (EndsNetBatch
         (stream_views (views_of C.remaining C.contents D.ports D.prepared) D.coming S.stock) job
         (streams control.old dial.old shelf.old) (streams control.new dial.new shelf.new)) }
+    ensures output { IfErr result (λ ending. ending ≡ Ending.Ended Status.IoError Why.Sink
+        → outputs.new.failed ≡ true) }
     // Its exit status is not 0.
     ensures failed { IfErr result IsFailure }
 {
@@ -91,7 +100,7 @@ pub fn do_net_batch<C: Read + Write, D: Dial, S: Shelf>(
         return Err(Ending::no_memory());
     };
     let task = job.task;
-    let done = run_batch_with(alloc, job, control, dial, shelf, |reports| {
+    let done = run_batch_with(alloc, job, control, dial, shelf, outputs, |reports| {
         Printout::of(alloc, prefix.as_slice(), device.as_bytes(), task, reports)
     });
     match done {

@@ -1,24 +1,28 @@
-ghost use Rattle.std.specs.Prelude.{◌≡◌, [], OnOk, IfErr, IsOk};
+ghost use Rattle.std.specs.Prelude.{◌≡◌, [], true, OnOk, OnErr, IfErr, IsOk};
 ghost use Rattle.std.specs.Io.KnownBytes.{Appends};
 
 use crate::ending::Ending;
 use crate::printed::Printout;
-use local_job::{MOST_AGAIN, put};
+use local_job::{OutputTally, put};
 use sane_fixed::Status;
 use scan_job::Why;
 use std::io::Write;
 
 /// Prints a list or a table.
-pub fn print<W: Write>(to: &mut W, lines: &[u8]) -> Result<(), Ending>
+pub fn print<W: Write>(
+    to: &mut W,
+    lines: &[u8],
+    outputs: &mut OutputTally,
+) -> Result<(), Ending>
     /// What is to be printed is printed whole, or the output failed.
     /// Carried by: `whole`, `failed` of `print`
     ensures whole { OnOk result (Appends (W.contents to.old) (W.contents to.new) lines.now) }
     ensures failed { IfErr result (λ ending. ending ≡ Ending.Ended Status.IoError Why.Sink) }
-    // No output fails for nothing.
+    // No output fails for nothing, and where one does that is noted.
     ensures nothing { lines.now ≡ [] → IsOk result }
+    ensures output { OnErr result (outputs.new.failed ≡ true) }
 {
-    let mut again = MOST_AGAIN;
-    if put(to, lines, &mut again) {
+    if put(to, lines, outputs) {
         Ok(())
     } else {
         Err(Ending::failed_output())
@@ -30,16 +34,18 @@ pub fn print_all<O: Write, E: Write>(
     out: &mut O,
     err: &mut E,
     printed: &Printout,
+    outputs: &mut OutputTally,
 ) -> Result<(), Ending>
     /// The table of a job that is done is printed whole.
     /// Carried by: `table`, `failed` of `print_all`
     ensures table { OnOk result
         (Appends (O.contents out.old) (O.contents out.new) printed.now.table.items) }
     ensures failed { IfErr result (λ ending. ending ≡ Ending.Ended Status.IoError Why.Sink) }
-    // No output fails where there is no table.
+    // No output fails where there is no table, and where one does that is noted.
     ensures nothing { printed.now.table.items ≡ [] → IsOk result }
+    ensures output { OnErr result (outputs.new.failed ≡ true) }
 {
-    print(out, &printed.table)?;
+    print(out, &printed.table, outputs)?;
     let _ = err.write_all(&printed.rounded);
     Ok(())
 }

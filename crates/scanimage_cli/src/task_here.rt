@@ -14,6 +14,7 @@ use crate::printing::{print, print_all};
 use crate::program_output::OutputFile;
 use device_api::Device;
 use dispatch::Registry;
+use local_job::OutputTally;
 use sane_fixed::{Status, Text};
 use scan_job::{Job, Task, Why};
 use std::io::Write;
@@ -32,12 +33,16 @@ fn run_job<O: Write>(
     ensures no_file { OnErr result (LeavesNoFile (O.contents out.old) (O.contents out.new)) }
     ensures failed { IfErr result IsFailure }
 {
+    let mut outputs = OutputTally::new();
     match destination {
-        Destination::StandardOutput => do_job(rt.alloc(), device, job, out),
+        Destination::StandardOutput => do_job(rt.alloc(), device, job, out, &mut outputs),
         Destination::Path(path) => {
-            do_job(rt.alloc(), device, job, &mut OutputFile::Unmade(rt, path))
+            let mut file = OutputFile::Unmade(rt, path);
+            do_job(rt.alloc(), device, job, &mut file, &mut outputs)
         }
-        Destination::Folder => do_batch(rt.alloc(), device, job, &mut Folder { rt }),
+        Destination::Folder => {
+            do_batch(rt.alloc(), device, job, &mut Folder { rt }, &mut outputs)
+        }
     }
 }
 
@@ -92,7 +97,7 @@ pub fn run_task<O: Write, E: Write>(
         let Ok(lines) = device_list(rt.alloc(), &[], &devices) else {
             return Err(Ending::no_memory());
         };
-        return print(out, &lines);
+        return print(out, &lines, &mut OutputTally::new());
     }
     let device = device_name(rt, registry, device)?;
     let JobPlan {
@@ -112,5 +117,5 @@ pub fn run_task<O: Write, E: Write>(
         return Err(Ending::Ended(Status::Inval, Why::Setting));
     };
     let printed = run_job(rt, &mut *device, &job, destination, out)?;
-    print_all(out, err, &printed)
+    print_all(out, err, &printed, &mut OutputTally::new())
 }

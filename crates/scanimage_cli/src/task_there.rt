@@ -9,6 +9,7 @@ use crate::planning::{Destination, JobPlan, Remote};
 use crate::printed::Printout;
 use crate::printing::print_all;
 use crate::program_output::OutputFile;
+use local_job::OutputTally;
 use sane_fixed::Text;
 use scan_job::Job;
 use std::io::Write;
@@ -45,14 +46,18 @@ fn run_job<O: Write>(
 {
     let (mut dial, mut control) = made;
     let stream = &mut control.stream;
+    let (alloc, mut outputs) = (rt.alloc(), OutputTally::new());
     match destination {
-        Destination::StandardOutput => do_net_job(rt.alloc(), host, job, stream, &mut dial, out),
+        Destination::StandardOutput => {
+            do_net_job(alloc, host, job, stream, &mut dial, out, &mut outputs)
+        }
         Destination::Path(path) => {
             let mut file = OutputFile::Unmade(rt, path);
-            do_net_job(rt.alloc(), host, job, stream, &mut dial, &mut file)
+            do_net_job(alloc, host, job, stream, &mut dial, &mut file, &mut outputs)
         }
         Destination::Folder => {
-            do_net_batch(rt.alloc(), host, job, stream, &mut dial, &mut Folder { rt })
+            let mut folder = Folder { rt };
+            do_net_batch(alloc, host, job, stream, &mut dial, &mut folder, &mut outputs)
         }
     }
 }
@@ -98,5 +103,5 @@ pub fn run_net_task<O: Write, E: Write>(
     }
     let made = connections(rt, &remote)?;
     let printed = run_job(rt, remote.host.as_bytes(), job, destination, made, out)?;
-    print_all(out, err, &printed)
+    print_all(out, err, &printed, &mut OutputTally::new())
 }

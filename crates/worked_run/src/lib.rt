@@ -31,7 +31,8 @@ pub fn run_once<D: Device>(
     /// Done with these reports and that file went out.
     ensures done { IfSome result (λ told. HasOpenedNone (core D.state daemon.old)
         → IsDoneRun job (core D.state daemon.old) told.0 told.1.items) }
-    /// So all of that is kept, over devices of which a world is made.
+    /// So all of that is kept, over devices of which a world is made; and where the job is a scan, and the pages that came
+    /// for its device are steady, that file is exactly the picture that its settings mean on the page of its start.
     ensures kept { IfSome result (λ told. (devices : List DeviceState)
         → AreFit devices (job ∷ []) (core D.state daemon.old)
         → IsKeptRun devices job (core D.state daemon.old) told.0 told.1.items) }

@@ -1,5 +1,6 @@
 use super::text;
 use flatbed_dev::Flatbed;
+use local_job::OutputTally;
 use page_picture::{MemoryPage, Source, read_page};
 use sane_fixed::{ByteOrder, Status};
 use scan_job::{Job, Task, Why};
@@ -90,8 +91,10 @@ fn an_output_that_fails_once(rt: HostRuntime) {
             fails: *fails,
         };
         let scan = job(&rt, alloc);
-        let done = do_job(alloc, &mut device, &scan, &mut out);
+        let mut outputs = OutputTally::new();
+        let done = do_job(alloc, &mut device, &scan, &mut out, &mut outputs);
         assert!(&rt; exit_of(&done) == *exit);
+        assert!(&rt; outputs.has_failed() == exit.is_some());
         assert!(&rt; out.taken.as_slice() == *file);
         drop(out);
         drop(done);

@@ -31,3 +31,10 @@ returns-then-not-put-clause-short g c = λ failed first past stands no_fault tak
 pub returns-clause-short : goal.returns-clause-short
 returns-clause-short g c = λ failed first past stands no_fault taken.
     absurd (never past first _ c.loop-i._i _ no_fault (omega (arith, c.loop-i-test.false)) c.no_file_is_endless.ensures (c.loop-i.invariant.bytes first past stands taken))
+
+pub returns-then-not-put-clause-failed : goal.returns-then-not-put-clause-failed
+returns-then-not-put-clause-failed g c = λ short first past stands no_fault taken. c.put.ensures.failed c.if-not-put.true
+
+pub returns-clause-failed : goal.returns-clause-failed
+returns-clause-failed g c = λ short first past stands no_fault taken.
+    absurd (never past first _ c.loop-i._i _ no_fault (omega (arith, c.loop-i-test.false)) c.no_file_is_endless.ensures (c.loop-i.invariant.bytes first past stands taken))

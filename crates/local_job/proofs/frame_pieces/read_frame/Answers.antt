@@ -1,4 +1,4 @@
-use Rattle.std.proofs.Common.{◌+◌, rules, arith, ap, refl, Ok, Err}
+use Rattle.std.proofs.Common.{◌≡◌, ◌+◌, rules, arith, ap, refl, Ok, Err}
 use Rattle.device_api.specs.State.{DeviceState, Phase, Reads}
 use Rattle.frame_join.specs.AloneFrame.{most_bytes}
 use Rattle.local_job.proofs.FrameReads.{first_bytes, still_inside, gives, still, more_bytes, cut_off, keeps, so_far, ends, all_or_none, read_cause, piece_cause}
@@ -6,6 +6,7 @@ use Rattle.sane_fixed.specs.declared.status.Status.TheVariants.{Eof, NoDocs}
 use Rattle.std.proofs.lemmas.Result.{err_from_is_err_and}
 use Rattle.local_job.proofs.Lets.{of_nothing}
 use Rattle.local_job.proofs.EmptyTrays.{not_told}
+use Rattle.scan_job.specs.declared.outcome.Why.TheVariants as whys
 use Rattle.local_job.proofs.frame_pieces.read_frame.Goals as goal
 
 pub loop-n-init : goal.loop-n-init
@@ -133,3 +134,15 @@ returns-in_err-take_piece-clause-same g c =
     let now : DeviceState = (goal.Device-dyn g c.loop-n.device.now).state c.loop-n.device.now.1 in
     let new : DeviceState = (goal.Device-dyn g c.loop-n.device.now).state c.read.new.self in
     keeps old now (Ok c.in-Ok.n) new c.read.new.buf c.loop-n.invariant.same c.in-Ok.ensures.0
+
+pub returns-in-Err-2-clause-output : goal.returns-in-Err-2-clause-output
+returns-in-Err-2-clause-output g c = rw c.read_refused.ensures (λ sink pass under begun. absurd (let clash : whys.Answer ≡ whys.Sink = sink in cc))
+
+pub returns-in_err-take_piece-clause-output : goal.returns-in_err-take_piece-clause-output
+returns-in_err-take_piece-clause-output g c =
+    let p = err_from_is_err_and c.from_residual.result c.from_residual.ensures.1 in
+    let old : DeviceState = (goal.Device-dyn g c.args.device.now).state c.args.device.now.1 in
+    rw (p.1, p.2) (λ sink pass under begun.
+    let r = c.loop-n.invariant.read pass begun.at in
+    let so = r.2 under.past under.frame under.first begun.inside begun.empty in
+    c.in_err-take_piece.ensures.output sink under.first (so_far under.past under.frame so.bytes so.feeds.given) (record under.frame { payload = so.bytes }) (still_inside old pass r.0 under.past under.frame under.first _ _ begun.inside.no_fault so))

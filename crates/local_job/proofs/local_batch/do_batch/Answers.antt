@@ -5,6 +5,7 @@ use Rattle.scan_job.specs.JobSize.{HasJobFault}
 use Rattle.local_job.specs.LocalRun.{settings_put}
 use Rattle.local_job.specs.Inside.{put_all}
 use Rattle.local_job.proofs.BatchRuns.{batch_done, ended_by_fault, ended_by_memory, ended_by_pages, ended_by_setting}
+use Rattle.local_job.proofs.OutputEnds.{put_spares}
 use Rattle.local_job.proofs.local_batch.do_batch.Goals as goal
 
 pub returns-then-not-is_taken-clause-stop : goal.returns-then-not-is_taken-clause-stop
@@ -38,3 +39,8 @@ returns-clause-done g c =
     let taken : HasJobFault c.args.job.now None = search rules in
     let put : put_all first.setup (settings_put c.args.job.now.task c.args.job.now.settings.items) ≡ Ok (mid.setup, c.in_ok-settings.settings) = rw (← c.deref.ensures.value, ← c.settings_put.ensures) c.in_ok-settings.ensures.put in
     batch_done first mid new c.args.job.now _ _ _ c.requires.reset taken c.in_ok-settings.ensures.rest put c.in_ok-devices.ensures.told c.in_ok-options.ensures.told (rw (← c.pages_of_task.ensures) c.in_ok-scan_pages.ensures.done)
+
+pub returns-in_err-settings-clause-output : goal.returns-in_err-settings-clause-output
+returns-in_err-settings-clause-output g c =
+    let p = err_from_is_err_and c.from_residual.result c.from_residual.ensures.1 in
+    rw (p.1, p.2) (λ sink. absurd (put_spares _ _ _ c.in_err-settings.ensures.stop sink))

@@ -8,6 +8,7 @@ use Rattle.local_job.specs.FrameReading.{IsScanned}
 use Rattle.local_job.specs.LocalRun.{devices_reported, settings_put, IsTakenJob}
 use Rattle.local_job.specs.Inside.{put_all}
 use Rattle.local_job.proofs.run.do_job.Goals.{then-eq+in_ok-scan_picture, else-eq}
+use Rattle.local_job.proofs.OutputEnds.{put_spares}
 use Rattle.local_job.proofs.run.do_job.Goals as goal
 
 pub returns-clause-done : goal.returns-clause-done
@@ -67,3 +68,8 @@ returns-in_err-scan_picture-clause-runs g c =
     let mid : DeviceState = (goal.Device-dyn g c.args.device.now).state c.put_settings.new.device in
     let new : DeviceState = (goal.Device-dyn g c.args.device.now).state c.scan_picture.new.device in
     kept_scan first mid new c.in_ok-settings.ensures.rest c.in_err-scan_picture.ensures.same
+
+pub returns-in_err-settings-clause-output : goal.returns-in_err-settings-clause-output
+returns-in_err-settings-clause-output g c =
+    let p = err_from_is_err_and c.from_residual.result c.from_residual.ensures.1 in
+    rw (p.1, p.2) (λ sink. absurd (put_spares _ _ _ c.in_err-settings.ensures.stop sink))

@@ -3,6 +3,7 @@ use Rattle.device_api.specs.State.{DeviceState}
 use Rattle.frame_join.specs.FrameHistory.{JoinHistory, after_begin, is_accepted}
 use Rattle.frame_join.specs.JoinStates.{Represents, is_out_of_memory}
 use Rattle.local_job.proofs.JoinedPasses.{begun_well, begin_cause}
+use Rattle.local_job.proofs.OutputEnds.{join_spares}
 use Rattle.local_job.proofs.scan.begin_frame.Goals as goal
 
 pub returns-in-None-clause-begun : goal.returns-in-None-clause-begun
@@ -20,3 +21,6 @@ returns-in-Some-clause-cause g c = λ past is accepted.
     let stands : (after_begin c.params-params.result c.order.result starved past).fault ≡ Some c.in-Some.fault = sym (c.fault.ensures _ stood) ∙ c.in-Some.is in
     let allowed : is_accepted past.ended c.params-params.result c.order.result ≡ true = rw (c.params-params.ensures.0, c.order.ensures) accepted in
     c.stop_of_join.ensures ∙ begin_cause past _ _ _ starved c.in-Some.fault is allowed stands
+
+pub returns-in-Some-clause-output : goal.returns-in-Some-clause-output
+returns-in-Some-clause-output g c = rw c.stop_of_join.ensures (join_spares c.in-Some.fault)

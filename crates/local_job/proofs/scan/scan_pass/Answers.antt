@@ -181,3 +181,46 @@ pub returns-in_err-start_pass-clause-none : goal.returns-in_err-start_pass-claus
 returns-in_err-start_pass-clause-none g c =
     let p = err_from_is_err_and c.from_residual.result c.from_residual.ensures.1 in
     rw (p.1, p.2) c.in_err-start_pass.ensures.none
+
+pub returns-in_err-start_pass-clause-output : goal.returns-in_err-start_pass-clause-output
+returns-in_err-start_pass-clause-output g c =
+    let p = err_from_is_err_and c.from_residual.result c.from_residual.ensures.1 in
+    rw (p.1, p.2) (λ sink first joined. absurd (c.in_err-start_pass.ensures.output sink))
+
+pub returns-in_err-begin_frame-clause-output : goal.returns-in_err-begin_frame-clause-output
+returns-in_err-begin_frame-clause-output g c =
+    let p = err_from_is_err_and c.from_residual-in_err-begin_frame.result c.from_residual-in_err-begin_frame.ensures.1 in
+    rw (p.1, p.2) (λ sink first joined. absurd (c.in_err-begin_frame.ensures.output sink))
+
+pub returns-in_err-read_frame-clause-output : goal.returns-in_err-read_frame-clause-output
+returns-in_err-read_frame-clause-output g c =
+    let old : DeviceState = (goal.Device-dyn g c.args.device.now).state c.args.device.now.1 in
+    let mid : DeviceState = (goal.Device-dyn g c.args.device.now).state c.start_pass.new.device in
+    let pass : ℕ = next_pass old.phase in
+    let is : mid ≡ with_phase old (Reading pass 0) = c.in_ok-start_pass.ensures.started in
+    let at : mid.phase ≡ Reading pass 0 = ap (λ (s : DeviceState). s.phase) is in
+    let some : mid.pages ≢ [] = λ none. c.in_ok-start_pass.ensures.some (sym (ap (λ (s : DeviceState). s.pages) is) ∙ none) in
+    let p = err_from_is_err_and c.from_residual-in_err-read_frame.result c.from_residual-in_err-read_frame.ensures.1 in
+    rw (p.1, p.2) (λ sink first joined.
+    let j : HasJoined mid pass first c.args.join.now (g.W.Outlet.contents c.args.out.now) = on_device old mid (Reading pass 0) pass first _ _ is joined in
+    let past : JoinHistory = underway mid pass j.passes j.given in
+    let frame : Frame = bytes_of_pass mid.setup (page_of mid) pass [] in
+    let stands : Represents past c.begin_frame.new.join = begun_on mid pass j.passes j.given _ at some (c.in_ok-begin_frame.ensures.begun _ (waiting mid pass first _ _ j)) in
+    c.in_err-read_frame.ensures.output sink pass (record { past = past; frame = frame; first = first }) (record { at = at; inside = record { stands = stands; no_fault = refl; under = refl; taken = j.taken }; empty = refl }))
+
+pub returns-clause-output : goal.returns-clause-output
+returns-clause-output g c =
+    let old : DeviceState = (goal.Device-dyn g c.args.device.now).state c.args.device.now.1 in
+    let mid : DeviceState = (goal.Device-dyn g c.args.device.now).state c.start_pass.new.device in
+    let pass : ℕ = next_pass old.phase in
+    let is : mid ≡ with_phase old (Reading pass 0) = c.in_ok-start_pass.ensures.started in
+    let at : mid.phase ≡ Reading pass 0 = ap (λ (s : DeviceState). s.phase) is in
+    let some : mid.pages ≢ [] = λ none. c.in_ok-start_pass.ensures.some (sym (ap (λ (s : DeviceState). s.pages) is) ∙ none) in
+    if_err_map c.end_frame.result (λ stop output sink first joined.
+    let j : HasJoined mid pass first c.args.join.now (g.W.Outlet.contents c.args.out.now) = on_device old mid (Reading pass 0) pass first _ _ is joined in
+    let past : JoinHistory = underway mid pass j.passes j.given in
+    let frame : Frame = bytes_of_pass mid.setup (page_of mid) pass [] in
+    let stands : Represents past c.begin_frame.new.join = begun_on mid pass j.passes j.given _ at some (c.in_ok-begin_frame.ensures.begun _ (waiting mid pass first _ _ j)) in
+    let read = c.in_ok-read_frame.ensures.read pass (record { past = past; frame = frame; first = first }) (record { at = at; inside = record { stands = stands; no_fault = refl; under = refl; taken = j.taken }; empty = refl }) in
+    let r = read.2 in
+    output sink first (so_far past frame r.bytes r.feeds.given) (bytes_of_pass mid.setup (page_of mid) pass r.bytes) (record { stands = r.feeds.stands; no_fault = refl; under = refl; taken = r.feeds.taken })) c.end_frame.ensures.output

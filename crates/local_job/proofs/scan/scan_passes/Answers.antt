@@ -155,3 +155,11 @@ returns-in_err-scan_pass-clause-silent g c =
 
 pub returns-clause-silent : goal.returns-clause-silent
 returns-clause-silent g c = λ none. absurd (c.loop-pass.invariant.gone.some (search rules) none)
+
+pub returns-in_err-scan_pass-clause-output : goal.returns-in_err-scan_pass-clause-output
+returns-in_err-scan_pass-clause-output g c =
+    let old : DeviceState = (goal.Device-dyn g c.args.device.now).state c.args.device.now.1 in
+    let now : DeviceState = (goal.Device-dyn g c.loop-pass.device.now).state c.loop-pass.device.now.1 in
+    let p = err_from_is_err_and c.from_residual.result c.from_residual.ensures.1 in
+    let before : Option (List ℕ) = g.W.Outlet.contents c.args.out.now in
+    rw (p.1, p.2) (λ sink. c.in_err-scan_pass.ensures.output sink before (so_joined old now _ _ before _ _ c.loop-pass.invariant.gone (Appends-nil before)))

@@ -3,6 +3,7 @@ use Rattle.device_api.specs.State.{DeviceState, Starts}
 use Rattle.local_job.proofs.Pictures.{start_begun, start_cause, start_empty, start_keeps, start_pictureless}
 use Rattle.local_job.proofs.Lets.{of_phase}
 use Rattle.local_job.proofs.EmptyTrays.{start_stays}
+use Rattle.local_job.proofs.OutputEnds.{status_spares}
 use Rattle.local_job.proofs.scan.start_pass.Goals as goal
 
 pub returns-in-Ok-clause-some : goal.returns-in-Ok-clause-some
@@ -67,3 +68,6 @@ returns-in-Err-clause-stays g c =
     let new : DeviceState = (goal.Device-dyn g c.args.device.now).state c.start.new.self in
     let starts : Starts old (Err c.in-Err.status) new = search rules in
     start_stays c.in-Err.status old new c.requires starts
+
+pub returns-in-Err-clause-output : goal.returns-in-Err-clause-output
+returns-in-Err-clause-output g c = rw c.stop_by_status.ensures (status_spares c.in-Err.status)

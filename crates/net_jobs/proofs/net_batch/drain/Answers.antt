@@ -72,7 +72,7 @@ returns-then-not-is_turning-clause-drained g c = λ done.
           c.if-n-eq0.false pulls (sym c.is_turning-is_page.ensures ∙ c.if-is_page.true) (sym c.is_turning.ensures ∙ c.if-not-is_turning.true) c.file_number-number.ensures filing.number
           (λ had h. c.shelve.ensures.whole (search rules) before outputs had h)
           (subst (λ (b : Bool). GivesBack (g.S.Shelf.stock c.shelve.new.shelf) (option_map g.S.Out.Write.contents c.shelve.new.under) b (g.S.Shelf.stock c.put_back.new.shelf)) done
-          (subst (λ (o : Option g.row.S-Out.Denot). GivesBack (g.S.Shelf.stock c.shelve.new.shelf) (option_map g.S.Out.Write.contents o) c.put_back.result (g.S.Shelf.stock c.put_back.new.shelf)) c.take.ensures.value c.put_back.ensures))
+          (subst (λ (o : Option g.row.S-Out.Denot). GivesBack (g.S.Shelf.stock c.shelve.new.shelf) (option_map g.S.Out.Write.contents o) c.put_back.result (g.S.Shelf.stock c.put_back.new.shelf)) c.take.ensures.value c.put_back.ensures.back))
           (c.loop-i.invariant.gave.2 before outputs k past filing)) in (
             inr (record {
               begins = out.turning;
@@ -106,7 +106,7 @@ returns-then-not-is_turning-clause-short g c = λ failed.
           c.if-n-eq0.false pulls (sym c.is_turning-is_page.ensures ∙ c.if-is_page.true) (sym c.is_turning.ensures ∙ c.if-not-is_turning.true) c.file_number-number.ensures filing.number
           (λ had h. c.shelve.ensures.whole (search rules) before outputs had h)
           (subst (λ (b : Bool). GivesBack (g.S.Shelf.stock c.shelve.new.shelf) (option_map g.S.Out.Write.contents c.shelve.new.under) b (g.S.Shelf.stock c.put_back.new.shelf)) failed
-          (subst (λ (o : Option g.row.S-Out.Denot). GivesBack (g.S.Shelf.stock c.shelve.new.shelf) (option_map g.S.Out.Write.contents o) c.put_back.result (g.S.Shelf.stock c.put_back.new.shelf)) c.take.ensures.value c.put_back.ensures))
+          (subst (λ (o : Option g.row.S-Out.Denot). GivesBack (g.S.Shelf.stock c.shelve.new.shelf) (option_map g.S.Out.Write.contents o) c.put_back.result (g.S.Shelf.stock c.put_back.new.shelf)) c.take.ensures.value c.put_back.ensures.back))
           (c.loop-i.invariant.gave.2 before outputs k past filing))),
     )
 
@@ -143,3 +143,16 @@ returns-clause-short g c = λ failed. (
   λ before outputs k past filing.
       absurd (never past c.args.client.now c.loop-i.client k c.loop-i._i before outputs _ _ (given_by c.loop-i.invariant.gave.0) filing.scanning (omega (arith, c.loop-i-test.false)) c.no_file_is_endless.ensures (c.loop-i.invariant.gave.2 before outputs k past filing)),
 )
+
+pub returns-then-not-is_turning-clause-calls : goal.returns-then-not-is_turning-clause-calls
+returns-then-not-is_turning-clause-calls g c = (c.put_back.ensures.calls.0 ∙ c.shelve.ensures.calls.0 ∙ c.loop-i.invariant.calls.0, c.put_back.ensures.calls.1 ∙ c.shelve.ensures.calls.1 ∙ c.loop-i.invariant.calls.1)
+
+pub returns-then-not-shelve-clause-failed : goal.returns-then-not-shelve-clause-failed
+returns-then-not-shelve-clause-failed g c = λ short before outputs k past filing. c.shelve.ensures.failed c.if-not-shelve.true
+
+pub returns-then-not-is_turning-clause-failed : goal.returns-then-not-is_turning-clause-failed
+returns-then-not-is_turning-clause-failed g c = λ short before outputs k past filing. c.put_back.ensures.failed short
+
+pub returns-clause-failed : goal.returns-clause-failed
+returns-clause-failed g c = λ short before outputs k past filing.
+    absurd (never past c.args.client.now c.loop-i.client k c.loop-i._i before outputs _ _ (given_by c.loop-i.invariant.gave.0) filing.scanning (omega (arith, c.loop-i-test.false)) c.no_file_is_endless.ensures (c.loop-i.invariant.gave.2 before outputs k past filing))

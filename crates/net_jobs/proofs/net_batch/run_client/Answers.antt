@@ -8,6 +8,7 @@ use Rattle.net_jobs.specs.Inside.{StopsAs, CallNotes, ahead_of, left_ahead}
 use Rattle.net_jobs.proofs.JobEnds.{leaves_links, done_told, err_of, runs_on}
 use Rattle.net_jobs.proofs.RunInvariants.{turns_on, turned_delivers, turned_still}
 use Rattle.net_jobs.proofs.Steps.{to_be_given}
+use Rattle.net_jobs.proofs.OutputEnds.{fails_by, told_spares}
 use Rattle.net_jobs.proofs.Turning.{is_over_by, runs_by}
 use Rattle.net_jobs.proofs.Shelving.{lying_fresh, lying_gave, lying_went, laid_then, shut_parted}
 use Rattle.net_jobs.proofs.Batching.{came_done, came_sunk, came_stopped}
@@ -104,3 +105,23 @@ returns-clause-came g c = λ job fresh count scanning none.
           (λ is. w.fill-then-is_ok.ensures.drained is w.if-not-fill-2.false))).0))
       | else-is_ok-via-else-is_ok w ↦ absurd (let clash : true ≡ false = sym (c.is_ok.ensures.value ∙ ap is_ok c.in_ok-told.was) ∙ w.if-is_ok.false in cc)
     ]
+
+pub returns-then-not-fill-clause-output : goal.returns-then-not-fill-clause-output
+returns-then-not-fill-clause-output g c = λ job fresh count scanning none sink.
+    let p = c.loop-client.invariant.lying job fresh count scanning none in
+    let before = runs_by (is_running c.loop-client.client.outcome) c.is_over.result c.is_over.ensures c.loop-client-test.true in
+    let t = turns_on _ (left_ahead g.D.Conn.Read.remaining) job _ _ p.laid.given c.go_on-came.result _ _ c.go_on-came.ensures.moved.0 c.go_on-came.ensures.moved.1 c.go_on-came.ensures.moved.2 before p.laid.going p.laid.steps in
+    fails_by _ (left_ahead g.D.Conn.Read.remaining) job _ _ _ _ _ _ _ (ahead_of c.go_on-came.new.stream c.go_on-came.new.ahead) c.go_on-came.new.client c.loop-client.client _ p.laid.given p.laid.going.stage.history c.args.is_scanning c.args.is_scanning c.fill.result c.fill.new.tally.output.failed refl scanning count p.laid.shelf
+    t.going c.if-not-fill.true (λ e. (c.fill.ensures.none e).0) (c.fill.ensures.failed c.if-not-fill.true)
+
+pub returns-then-not-fill-2-clause-output : goal.returns-then-not-fill-2-clause-output
+returns-then-not-fill-2-clause-output g c = λ job fresh count scanning none sink.
+    let p = c.loop-client.invariant.lying job fresh count scanning none in
+    fails_by _ (left_ahead g.D.Conn.Read.remaining) job _ _ _ _ _ _ _ (ahead_of c.loop-client.stream c.loop-client.ahead) c.loop-client.client c.loop-client.client _ p.laid.given p.laid.going.stage.history c.args.is_scanning c.args.is_scanning c.fill-then-is_ok.result c.fill-then-is_ok.new.tally.output.failed refl scanning count p.laid.shelf
+    p.laid.going c.if-not-fill-2.true (λ e. (c.fill-then-is_ok.ensures.none e).0) (c.fill-then-is_ok.ensures.failed c.if-not-fill-2.true)
+
+pub returns-in_err-told-clause-output : goal.returns-in_err-told-clause-output
+returns-in_err-told-clause-output g c =
+    let q = err_from_is_err_and c.from_residual.result c.from_residual.ensures.1 in
+    let ends = subst (λ (o : Outcome). StopsAs o c.in_err-told.field-0.0) c.outcome.ensures (err_of c.told_of-told.result c.in_err-told.field-0.0 _ c.in_err-told.was c.told_of-told.ensures.ended) in
+    rw (q.1, q.2) (λ job fresh count scanning none sink. absurd (told_spares _ (left_ahead g.D.Conn.Read.remaining) job _ _ _ _ _ _ (ahead_of c.loop-client.stream c.loop-client.ahead) c.loop-client.client c.in_err-told.field-0.0 (c.loop-client.invariant.lying job fresh count scanning none).laid.going ends sink))

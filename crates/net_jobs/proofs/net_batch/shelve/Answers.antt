@@ -9,8 +9,8 @@ pub returns-in-None-replace-clause-whole : goal.returns-in-None-replace-clause-w
 returns-in-None-replace-clause-whole g c = λ took before outputs had h.
     let none : c.args.under.now ≡ None = sym c.replace.ensures.value ∙ c.in-None-replace.is in
     let all : Appends (g.S.Out.Write.contents c.in-Ok.out) (g.S.Out.Write.contents c.put-took.new.out) c.args.bytes.now = c.put-took.ensures.whole (search (rules, took)) in
-    subst (λ (o : Option g.row.S-Out.Denot). HasTaken before outputs (g.S.Shelf.stock c.open.new.self) (option_map g.S.Out.Write.contents o) c.args.number (had ++ c.args.bytes.now)) (sym c.replace.ensures.after)
-    (first_taken before (g.S.Shelf.stock c.args.shelf.now) (g.S.Shelf.stock c.open.new.self) outputs c.args.number had c.args.bytes.now _ _ _ (ap (λ (o : Option g.row.S-Out.Denot). option_map g.S.Out.Write.contents o) none) c.in-Ok.ensures.stock c.in-Ok.ensures.told all h)
+    subst (λ (o : Option g.row.S-Out.Denot). HasTaken before outputs (g.S.Shelf.stock c.open.new.shelf) (option_map g.S.Out.Write.contents o) c.args.number (had ++ c.args.bytes.now)) (sym c.replace.ensures.after)
+    (first_taken before (g.S.Shelf.stock c.args.shelf.now) (g.S.Shelf.stock c.open.new.shelf) outputs c.args.number had c.args.bytes.now _ _ _ (ap (λ (o : Option g.row.S-Out.Denot). option_map g.S.Out.Write.contents o) none) c.in-Ok.ensures.stock c.in-Ok.ensures.new all h)
 
 pub returns-in-None-replace-clause-front : goal.returns-in-None-replace-clause-front
 returns-in-None-replace-clause-front g c = λ short before outputs had h.
@@ -18,9 +18,9 @@ returns-in-None-replace-clause-front g c = λ short before outputs had h.
     let some = c.put-took.ensures.front short in (
       some.0,
       some.1,
-      subst (λ (o : Option g.row.S-Out.Denot). HasTaken before outputs (g.S.Shelf.stock c.open.new.self) (option_map g.S.Out.Write.contents o) c.args.number (had ++ take some.0 c.args.bytes.now)) (sym c.replace.ensures.after)
-          (first_taken before (g.S.Shelf.stock c.args.shelf.now) (g.S.Shelf.stock c.open.new.self) outputs c.args.number had (take some.0 c.args.bytes.now) _ _ _ (ap (λ (o : Option g.row.S-Out.Denot). option_map g.S.Out.Write.contents o) none)
-          c.in-Ok.ensures.stock c.in-Ok.ensures.told some.2 h),
+      subst (λ (o : Option g.row.S-Out.Denot). HasTaken before outputs (g.S.Shelf.stock c.open.new.shelf) (option_map g.S.Out.Write.contents o) c.args.number (had ++ take some.0 c.args.bytes.now)) (sym c.replace.ensures.after)
+          (first_taken before (g.S.Shelf.stock c.args.shelf.now) (g.S.Shelf.stock c.open.new.shelf) outputs c.args.number had (take some.0 c.args.bytes.now) _ _ _ (ap (λ (o : Option g.row.S-Out.Denot). option_map g.S.Out.Write.contents o) none)
+          c.in-Ok.ensures.stock c.in-Ok.ensures.new some.2 h),
     )
 
 pub returns-in-Err-clause-front : goal.returns-in-Err-clause-front

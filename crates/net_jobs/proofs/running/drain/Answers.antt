@@ -58,3 +58,10 @@ returns-clause-short g c = λ failed first past held.
 
 pub returns-then-not-put-clause-calls : goal.returns-then-not-put-clause-calls
 returns-then-not-put-clause-calls g c = (ap (λ (t : CallTally). notes_of t) c.put.ensures.rest ∙ c.loop-i.invariant.calls.0, ap (λ (t : CallTally). t.turns) c.put.ensures.rest ∙ c.loop-i.invariant.calls.1)
+
+pub returns-then-not-put-clause-failed : goal.returns-then-not-put-clause-failed
+returns-then-not-put-clause-failed g c = λ short first past held. c.put.ensures.failed c.if-not-put.true
+
+pub returns-clause-failed : goal.returns-clause-failed
+returns-clause-failed g c = λ short first past held.
+    absurd (never past first _ (given_by c.loop-i.invariant.gave.0) c.loop-i._i c.args.client.now c.loop-i.client held.scan (omega (arith, c.loop-i-test.false)) c.no_file_is_endless.ensures (c.loop-i.invariant.gave.2 first past held))

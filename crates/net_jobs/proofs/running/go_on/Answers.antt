@@ -33,7 +33,7 @@ returns-then-looks_again-clause-moved g c =
     let failed = ap (λ (t : CallTally). t.write_failed) taken in
     turn_from (views_of g.C.Read.remaining g.C.Write.contents g.D.Dial.ports g.D.Dial.prepared) (left_ahead g.D.Conn.Read.remaining) true c.args.client.now (record { control = c.args.control.now; dial = c.args.dial.now }) (g.D.Dial.coming c.args.dial.now) (ahead_of c.args.stream.now c.args.ahead.now) c.args.tally.now.loss c.take_turn.new.self.loss c.args.tally.now.write_failed c.take_turn.new.self.write_failed _ loss failed
     (turn_resumes (views_of g.C.Read.remaining g.C.Write.contents g.D.Dial.ports g.D.Dial.prepared) (left_ahead g.D.Conn.Read.remaining) c.args.client.now c.feed_control.new.self (record { control = c.args.control.now; dial = c.args.dial.now }) (g.D.Dial.coming c.args.dial.now) (ahead_of c.args.stream.now c.args.ahead.now) c.take_turn.new.self.loss c.take_turn.new.self.write_failed (failed ∙ c.requires.up)
-    (record { running = c.requires.running; quiet = sym c.is_receiving.ensures ∙ c.if-is_receiving.false; heeds = λ past serves. c.feed_control.ensures.heeds c.requires.running past serves }) (c.looks_again.ensures c.if-looks_again.true))
+    (record { running = c.requires.running; quiet = sym c.is_receiving.ensures ∙ c.if-is_receiving.false; heeds = λ past serves. c.feed_control.ensures.heeds c.requires.running past serves }) (c.looks_again.ensures.early c.if-looks_again.true))
 
 pub returns-clause-moved : goal.returns-clause-moved
 returns-clause-moved g c =

@@ -7,6 +7,7 @@ use Rattle.net_jobs.specs.Inside.{StopsAs, CallNotes, ahead_of, left_ahead}
 use Rattle.net_jobs.proofs.JobEnds.{pending_fresh, pending_gave, pending_went, given_more, closed_parted, leaves_links, run_done, run_sunk, run_stopped, runs_on, done_told, err_of, scan_by}
 use Rattle.net_jobs.proofs.RunInvariants.{turns_on, turned_delivers, turned_still}
 use Rattle.net_jobs.proofs.Steps.{to_be_given}
+use Rattle.net_jobs.proofs.OutputEnds.{holding, told_spares}
 use Rattle.net_jobs.proofs.Turning.{is_over_by, runs_by}
 use Rattle.net_jobs.proofs.running.run_client.Goals.{else-came-via-then-came+then-not-is_over+else-not-give, else-came-via-then-came+else-not-is_over, else-came-via-else-came, else-is_ok-via-then-is_ok+else-not-give-2, else-is_ok-via-else-is_ok}
 use Rattle.net_jobs.proofs.running.run_client.Goals as goal
@@ -99,3 +100,23 @@ returns-clause-ran g c = λ job fresh single scan.
           (λ e. ((w.give-then-is_ok.ensures.none e).1, (w.give-then-is_ok.ensures.none e).2)) (λ is_scan. w.give-then-is_ok.ensures.drained is_scan w.if-not-give-2.false))).0))
       | else-is_ok-via-else-is_ok w ↦ absurd (let clash : true ≡ false = sym (c.is_ok.ensures.value ∙ ap is_ok c.in_ok-told.was) ∙ w.if-is_ok.false in cc)
     ]
+
+pub returns-then-not-give-clause-output : goal.returns-then-not-give-clause-output
+returns-then-not-give-clause-output g c = λ job fresh single scan sink.
+    let p = c.loop-client.invariant.pending job fresh single scan in
+    let before = runs_by (is_running c.loop-client.client.outcome) c.is_over.result c.is_over.ensures c.loop-client-test.true in
+    let t = turns_on _ (left_ahead g.D.Conn.Read.remaining) job _ _ p.drained.given c.go_on-came.result _ _ c.go_on-came.ensures.moved.0 c.go_on-came.ensures.moved.1 c.go_on-came.ensures.moved.2 before p.drained.going p.drained.steps in
+    c.give.ensures.failed c.if-not-give.true _ t.going.stage.history (holding _ (left_ahead g.D.Conn.Read.remaining) job _ _ _ _ _ _ _ (ahead_of c.go_on-came.new.stream c.go_on-came.new.ahead) c.go_on-came.new.client p.drained.given
+    (scan.0 (scan_by c.args.is_scan c.give.result (λ e. (c.give.ensures.none e).0) c.if-not-give.true)) p.drained.taken t.going)
+
+pub returns-then-not-give-2-clause-output : goal.returns-then-not-give-2-clause-output
+returns-then-not-give-2-clause-output g c = λ job fresh single scan sink.
+    let p = c.loop-client.invariant.pending job fresh single scan in
+    c.give-then-is_ok.ensures.failed c.if-not-give-2.true _ p.drained.going.stage.history (holding _ (left_ahead g.D.Conn.Read.remaining) job _ _ _ _ _ _ _ (ahead_of c.loop-client.stream c.loop-client.ahead) c.loop-client.client p.drained.given
+    (scan.0 (scan_by c.args.is_scan c.give-then-is_ok.result (λ e. (c.give-then-is_ok.ensures.none e).0) c.if-not-give-2.true)) p.drained.taken p.drained.going)
+
+pub returns-in_err-told-clause-output : goal.returns-in_err-told-clause-output
+returns-in_err-told-clause-output g c =
+    let q = err_from_is_err_and c.from_residual.result c.from_residual.ensures.1 in
+    let ends = subst (λ (o : Outcome). StopsAs o c.in_err-told.field-0.0) c.outcome.ensures (err_of c.told_of-told.result c.in_err-told.field-0.0 _ c.in_err-told.was c.told_of-told.ensures.ended) in
+    rw (q.1, q.2) (λ job fresh single scan sink. absurd (told_spares _ (left_ahead g.D.Conn.Read.remaining) job _ _ _ _ _ _ (ahead_of c.loop-client.stream c.loop-client.ahead) c.loop-client.client c.in_err-told.field-0.0 (c.loop-client.invariant.pending job fresh single scan).drained.going ends sink))
