@@ -39,13 +39,3 @@ pub record IsFeederOfLine (line : ConfigLine) (order : ByteOrder) (device : Devi
   pub sources : List SourceState
   pub pages : HasPageSources line sources
   pub is_new : device ≡ new_device kinds.Feeder (device_name line.kind line.index) sources order
-
--- a new scanner of the line's own kind
-abbrev pub IsDeviceOfLine : DeviceKind → ConfigLine → ByteOrder → DeviceState → Type 0
-IsDeviceOfLine kinds.Feeder line order device = IsFeederOfLine line order device
-IsDeviceOfLine kind line order device = IsScannerOfLine kind line order device
-
--- **scanners of the lines (`AreDevicesOfLines`, `IsDeviceOfLine`)**: one new scanner for each line of a config, in their
--- order, of the line's kind, with its name and its pages.
-abbrev pub AreDevicesOfLines : ByteOrder → List ConfigLine → List DeviceState → Type 0
-AreDevicesOfLines order lines devices = AllZip (λ line device. IsDeviceOfLine line.kind line order device) lines devices

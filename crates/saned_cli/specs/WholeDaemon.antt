@@ -2,8 +2,6 @@
 use Rattle.std.specs.Prelude.{ℕ, ◌≡◌, ◌≢◌, None, Option, List, [], ◌∷◌}
 use Rattle.device_api.specs.State.{DeviceState}
 use Rattle.dispatch.specs.Table.{fresh_table}
-use Rattle.dispatch.specs.declared.config_line.ConfigLine.{ConfigLine}
-use Rattle.config_pages.specs.Devices.{AreDevicesOfLines}
 use Rattle.md5_auth.specs.Challenges.{HasGiven}
 use Rattle.md5_auth.specs.UserLines.{TellsUsers}
 use Rattle.md5_auth.specs.declared.users.Entry.{Entry}
@@ -36,15 +34,13 @@ pub record IsServedBy (plan : DaemonPlan) (daemon : Core) : Type 0 where
   pub end : ServeEnd
   pub served : HasServed (record { sessions = plan.options.sessions; idle_turns = plan.options.idle_turns }) (record { daemon = daemon; listeners = began }) (record { daemon = last; listeners = listened }) end
 
--- **has served for its words (`HasServedFor`, `IsDaemonOf`, `IsServedBy`)**: the words have a plan, and the daemon of it, of the
--- scanners of the lines of a config, in the plan's order of bytes, and of some users, has served to the plan's end of sessions or
--- idle turns; where the plan names no users, they are those of an empty text.
+-- **has served for its words (`HasServedFor`, `IsDaemonOf`, `IsServedBy`)**: the words have a plan, and the daemon of it, of some
+-- devices and users, has served to the plan's end of sessions or idle turns; where the plan names no users, they are those of an
+-- empty text.
 pub record HasServedFor (words : List (List ℕ)) : Type 0 where
   pub plan : DaemonPlan
   pub is_plan : IsDaemonPlanOf words plan
-  pub lines : List ConfigLine
   pub devices : List DeviceState
-  pub scanners : AreDevicesOfLines plan.options.byte_order lines devices
   pub users : List Entry
   pub no_users : plan.options.users ≡ None → TellsUsers [] users
   pub first : Core

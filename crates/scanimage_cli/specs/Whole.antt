@@ -1,10 +1,7 @@
 -- What the program scanimage does, from the words of its command line to what its standard streams hold.
 use Rattle.std.specs.Prelude.{ℕ, ◌≡◌, None, List, []}
-use Rattle.sane_fixed.specs.declared.byte_order.ByteOrder.TheVariants.{Big}
 use Rattle.device_api.specs.State.{DeviceState}
-use Rattle.dispatch.specs.declared.config_line.ConfigLine.{ConfigLine}
 use Rattle.dispatch.specs.Table.{Table, fresh_table}
-use Rattle.config_pages.specs.Devices.{AreDevicesOfLines}
 use Rattle.scanimage_cli.specs.Plans.{IsPlanOf}
 use Rattle.scanimage_cli.specs.Programs.{StandardStreams, IsDoneHere, IsDoneThere}
 use Rattle.scanimage_cli.specs.declared.planning.JobPlan.{JobPlan}
@@ -23,14 +20,10 @@ pub record IsCarriedOut (plan : Plan) (table : Table) (was now : StandardStreams
   pub no_password : plan.password_file ≡ None → password ≡ []
   pub does : IsDoneAt plan.location table plan.job password was now
 
--- **has run (`HasRunFor`, `IsCarriedOut`, `IsDoneAt`)**: the words have a plan, and it is carried out: here, on one of the scanners
--- of the lines of a config, or at the host; without a config there are no lines, and without a password file the password is
--- empty.
+-- **has run (`HasRunFor`, `IsCarriedOut`, `IsDoneAt`)**: the words have a plan, and it is carried out: on one of some devices here,
+-- or at the host; without a password file the password is empty.
 pub record HasRunFor (words : List (List ℕ)) (was now : StandardStreams) : Type 0 where
   pub plan : Plan
   pub is_plan : IsPlanOf words plan
-  pub lines : List ConfigLine
-  pub no_config : plan.config ≡ None → lines ≡ []
   pub devices : List DeviceState
-  pub scanners : AreDevicesOfLines Big lines devices
   pub carried : IsCarriedOut plan (fresh_table devices) was now
