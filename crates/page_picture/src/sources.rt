@@ -16,6 +16,7 @@ mod raster_rows;
 mod read_fault;
 mod read_room;
 mod scaling;
+mod third_numbers;
 mod upper_rows;
 mod uppers_fit;
 
