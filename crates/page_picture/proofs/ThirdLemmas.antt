@@ -1,6 +1,8 @@
 -- Every third number of a row: the bytes of three sixteens that stand at these places.
-use Rattle.std.proofs.Common.{◌≡◌, ℕ, zero, suc, ◌+◌, ◌-◌, ◌*◌, ◌<◌, ◌≤◌, List, [], ◌∷◌, ◌++◌, inl, inr, length, arith, ap, ◌∙◌}
-use Rattle.std.specs.Prelude.{slice_index}
+use Rattle.std.proofs.Common.{◌≡◌, ℕ, zero, suc, ◌+◌, ◌-◌, ◌*◌, ◌/◌, ◌%◌, ◌<◌, ◌≤◌, List, [], ◌∷◌, ◌++◌, inl, inr, length, arith, ap, sym, ◌∙◌}
+use Rattle.std.specs.Prelude.{slice_index, nat_lt, if◌then◌else◌, false}
+use Rattle.std.proofs.lemmas.Bool.Decides.{nat_tests}
+use Rattle.page_picture.specs.Inside.{third_byte}
 use Rattle.std.proofs.lemmas.Bool.{cases_lt}
 use Rattle.std.proofs.lemmas.List.{get_or_append_left, get_or-append_right}
 
@@ -60,3 +62,23 @@ third_seconds both third f front back (suc (suc (suc (suc (suc zero))))) less = 
 third_seconds both third f front back (suc (suc (suc (suc (suc (suc zero)))))) less = back 5 (omega arith)
 third_seconds both third f front back (suc (suc (suc (suc (suc (suc (suc zero))))))) less = back 11 (omega arith)
 third_seconds both third f front back (suc (suc (suc (suc (suc (suc (suc (suc n)))))))) less = absurd (omega arith)
+
+-- the bytes of every third number of two bytes, from both bytes of each
+pub third_words_are : (maxval at : ℕ) (bytes part : List ℕ) → 256 ≤ maxval → ((x : ℕ) → 2 * x < length part → slice_index part (2 * x) ≡ slice_index bytes (2 * at + 6 * x)) → ((x : ℕ) → 2 * x < length part → slice_index part (2 * x + 1) ≡ slice_index bytes (2 * at + 6 * x + 1))
+    → (j : ℕ) → j < length part → slice_index part j ≡ third_byte maxval bytes at j
+third_words_are maxval at bytes part wide first second j less =
+    let x = j / 2 in
+    let begins : 2 * x < length part = omega (arith, less) in
+    let two : nat_lt maxval 256 ≡ false = grind (arith, nat_tests, wide) in
+    let is : slice_index part j ≡ slice_index bytes (2 * at + 6 * (j / 2) + j % 2) =
+    elim (cases_lt (j % 2) 1) as (λ _. slice_index part j ≡ slice_index bytes (2 * at + 6 * (j / 2) + j % 2)) [
+      | inl low ↦
+          let place : j ≡ 2 * x = omega (arith, low) in
+          let from : 2 * at + 6 * x ≡ 2 * at + 6 * (j / 2) + j % 2 = omega (arith, low) in
+          ap (slice_index part) place ∙ (first x begins ∙ ap (slice_index bytes) from)
+      | inr high ↦
+          let place : j ≡ 2 * x + 1 = omega (arith, high) in
+          let from : 2 * at + 6 * x + 1 ≡ 2 * at + 6 * (j / 2) + j % 2 = omega (arith, high) in
+          ap (slice_index part) place ∙ (second x begins ∙ ap (slice_index bytes) from)
+    ] in
+    is ∙ ap (λ t. if t then slice_index bytes (at + 3 * j) else slice_index bytes (2 * at + 6 * (j / 2) + j % 2)) (sym two)

@@ -15,12 +15,14 @@ fn third_bytes(bytes: &[u8], at: usize) -> u8x16
 {
     // In their sixteens no two of them stand at the same place, so that they are chosen first and then moved at once.
     let chosen = sixteen(bytes, at)
-        .shuffle(sixteen(bytes, at + 16), [
-            0, 1, 18, 3, 4, 21, 6, 7, 24, 9, 10, 27, 12, 13, 30, 15,
-        ])
-        .shuffle(sixteen(bytes, at + 32), [
-            0, 17, 2, 3, 20, 5, 6, 23, 8, 9, 26, 11, 12, 29, 14, 15,
-        ]);
+        .shuffle(
+            sixteen(bytes, at + 16),
+            [0, 1, 18, 3, 4, 21, 6, 7, 24, 9, 10, 27, 12, 13, 30, 15],
+        )
+        .shuffle(
+            sixteen(bytes, at + 32),
+            [0, 17, 2, 3, 20, 5, 6, 23, 8, 9, 26, 11, 12, 29, 14, 15],
+        );
     chosen.swizzle([0, 3, 6, 9, 12, 15, 2, 5, 8, 11, 14, 1, 4, 7, 10, 13])
 }
 
@@ -36,12 +38,14 @@ fn third_words(bytes: &[u8], at: usize) -> u8x16
 {
     // As those of a byte each.
     let chosen = sixteen(bytes, at)
-        .shuffle(sixteen(bytes, at + 16), [
-            0, 1, 18, 19, 4, 5, 6, 7, 24, 25, 10, 11, 12, 13, 30, 31,
-        ])
-        .shuffle(sixteen(bytes, at + 32), [
-            0, 1, 2, 3, 20, 21, 6, 7, 8, 9, 26, 27, 12, 13, 14, 15,
-        ]);
+        .shuffle(
+            sixteen(bytes, at + 16),
+            [0, 1, 18, 19, 4, 5, 6, 7, 24, 25, 10, 11, 12, 13, 30, 31],
+        )
+        .shuffle(
+            sixteen(bytes, at + 32),
+            [0, 1, 2, 3, 20, 21, 6, 7, 8, 9, 26, 27, 12, 13, 14, 15],
+        );
     chosen.swizzle([0, 1, 6, 7, 12, 13, 2, 3, 8, 9, 14, 15, 4, 5, 10, 11])
 }
 
