@@ -59,6 +59,13 @@ pub fn flatbed(mode: Mode, packing: Packing, br_x: i32, br_y: i32) -> Setup
     setup(DeviceKind::Flatbed, mode, packing, br_x, br_y)
 }
 
+/// A three-pass scanner's.
+pub fn three_pass(packing: Packing, br_x: i32, br_y: i32) -> Setup
+    ensures { IsSetup result }
+{
+    setup(DeviceKind::ThreePass, Mode::Color, packing, br_x, br_y)
+}
+
 fn memory(alloc: Global, file: &[u8], dpi: u32) -> Option<MemoryPage> {
     Some(MemoryPage::new(read_page(alloc, file, dpi).ok()?))
 }
@@ -167,6 +174,27 @@ pub fn shows(
     assert!(rt; is_read_as(alloc, &mut source, setup, bytes, &mut [9u8; 10]));
     assert!(rt; is_read_as(alloc, &mut source, setup, bytes, &mut [9u8; 20]));
     assert!(rt; is_read_as(alloc, &mut source, setup, bytes, &mut [9u8; 100]));
+}
+
+/// The frame of a pass on a page in a file is these bytes, by reads of seven bytes and by one of all.
+pub fn shows_pass(
+    rt: &impl Abort,
+    alloc: Global,
+    setup: &Setup,
+    page: (&[u8], u32),
+    pass: u32,
+    bytes: &[u8],
+)
+    requires { IsSetup setup.now }
+{
+    let (file, dpi) = page;
+    let mut source = opened(alloc, file, dpi).expect(rt, "a page file");
+    let want = (bytes, None, Ok(ReadEnd::End));
+    assert!(rt; is_frame(alloc, &mut source, setup, pass, want));
+    match frame_read_by(alloc, &mut source, setup, pass, &mut [9u8; 250]) {
+        Ok(Some((got, _, end))) => assert!(rt; got.as_slice() == bytes && end == ReadEnd::End),
+        _ => panic!(rt; "no frame"),
+    }
 }
 
 #[test]
