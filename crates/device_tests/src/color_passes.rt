@@ -32,7 +32,9 @@ fn samples(rt: &impl Abort, alloc: Global, page: &Page, setup: &Setup, k: u32) -
     requires { IsSetup setup.now }
 {
     let mut bytes = Vec::new(alloc);
-    if k < 3 && let Some((width, height)) = extent(page, &setup.scene) {
+    if k < 3
+        && let Some((width, height)) = extent(page, &setup.scene)
+    {
         for y in 0..height {
             for x in 0..width {
                 put(rt, setup, sample(page, &setup.scene, x, y, k), &mut bytes);
@@ -82,7 +84,13 @@ fn passes_of_a_byte(rt: HostRuntime) {
 
 #[test]
 fn passes_of_two_bytes(rt: HostRuntime) {
-    expect_windows(&rt, rt.alloc(), &three_pass(Packing::Words, 1, 2), 65535, 50);
+    expect_windows(
+        &rt,
+        rt.alloc(),
+        &three_pass(Packing::Words, 1, 2),
+        65535,
+        50,
+    );
 }
 
 /// Whose bytes are not those of the file.
