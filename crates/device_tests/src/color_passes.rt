@@ -1,12 +1,12 @@
 //! Frames of one color of page files of each width up to three sixteens and one: each byte is that of the picture's sample,
 //! whatever way it goes.
 
-ghost use Rattle.std.specs.Prelude.{◌≤◌};
+ghost use Rattle.std.specs.Prelude.{◌≡◌, ◌<◌};
 ghost use Rattle.scan_frames.specs.Frames.{IsSetup};
 
 use crate::byte_rows::{file, turned};
 use crate::frames::{mm, shows_pass, three_pass};
-use page_picture::{Page, extent, read_page, sample};
+use page_picture::{Mode, Page, extent, read_page, sample};
 use sane_fixed::ByteOrder;
 use scan_frames::{Packing, Setup};
 use std::alloc::Global;
@@ -29,7 +29,8 @@ fn put(rt: &impl Abort, setup: &Setup, value: u16, bytes: &mut Vec<u8>) {
 
 /// The samples of the picture in one channel, line by line, with zeros for the pixels that are lost.
 fn samples(rt: &impl Abort, alloc: Global, page: &Page, setup: &Setup, k: u32) -> Vec<u8>
-    requires { IsSetup setup.now }
+    requires setup { IsSetup setup.now }
+    requires color { setup.now.scene.mode ≡ Mode.Color }
 {
     let mut bytes = Vec::new(alloc);
     if k < 3
@@ -49,7 +50,8 @@ fn samples(rt: &impl Abort, alloc: Global, page: &Page, setup: &Setup, k: u32) -
 
 /// The three passes of a window.
 fn expect_passes(rt: &impl Abort, alloc: Global, setup: &Setup, text: &[u8])
-    requires { IsSetup setup.now }
+    requires setup { IsSetup setup.now }
+    requires color { setup.now.scene.mode ≡ Mode.Color }
 {
     let page = read_page(alloc, text, 26).expect(rt, "a page");
     for k in 0..3u32 {
@@ -62,7 +64,8 @@ fn expect_passes(rt: &impl Abort, alloc: Global, setup: &Setup, text: &[u8])
 
 /// All windows of pages of each width below some that end with the page, with lost pixels and without.
 fn expect_windows(rt: &impl Abort, alloc: Global, setup: &Setup, maxval: u32, below: usize)
-    requires { IsSetup setup.now }
+    requires setup { IsSetup setup.now }
+    requires color { setup.now.scene.mode ≡ Mode.Color }
 {
     for width in 1..below {
         let text = file(rt, alloc, "P6", maxval, width, width.saturating_mul(3));

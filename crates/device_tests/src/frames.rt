@@ -1,4 +1,4 @@
-ghost use Rattle.std.specs.Prelude.{◌<◌, length};
+ghost use Rattle.std.specs.Prelude.{◌≡◌, ◌<◌, length};
 ghost use Rattle.scan_frames.specs.Frames.{IsSetup};
 
 use crate::calls::answers_of;
@@ -21,7 +21,8 @@ pub fn mm(n: i32) -> Fixed {
 
 /// At 26 dots per inch a mm is one dot.
 fn setup(kind: DeviceKind, mode: Mode, packing: Packing, br_x: i32, br_y: i32) -> Setup
-    ensures { IsSetup result }
+    ensures setup { IsSetup result }
+    ensures mode { result.scene.mode ≡ mode }
 {
     let mut gamma = [0u8; 256];
     for i in 0..256usize {
@@ -61,7 +62,8 @@ pub fn flatbed(mode: Mode, packing: Packing, br_x: i32, br_y: i32) -> Setup
 
 /// A three-pass scanner's.
 pub fn three_pass(packing: Packing, br_x: i32, br_y: i32) -> Setup
-    ensures { IsSetup result }
+    ensures setup { IsSetup result }
+    ensures color { result.scene.mode ≡ Mode.Color }
 {
     setup(DeviceKind::ThreePass, Mode::Color, packing, br_x, br_y)
 }

@@ -63,7 +63,7 @@ pub trait PageSource: Drop {
         ///
         /// It answers a fault only where it can fail at all, which a page in memory cannot, and where its count of
         /// failures rose or stood at its greatest.
-        /// Carried by: `next_row`, `rewind` of `PageSource`; `next_bytes` of `ByteRows`
+        /// Carried by: `next_row`, `rewind` of `PageSource`; `next_bytes`, `next_channel` of `ByteRows`
         ensures { GivesRow (source self.old) result (source self.new) row.new };
 
     /// Starts the rows anew from the top, also after a fault.
