@@ -1,4 +1,4 @@
-ghost use Rattle.std.specs.Prelude.{◌<◌, length};
+ghost use Rattle.std.specs.Prelude.{◌≡◌, ◌<◌, length};
 ghost use Rattle.scan_frames.specs.Frames.{IsSetup};
 
 use crate::calls::answers_of;
@@ -21,7 +21,8 @@ pub fn mm(n: i32) -> Fixed {
 
 /// At 26 dots per inch a mm is one dot.
 fn setup(kind: DeviceKind, mode: Mode, packing: Packing, br_x: i32, br_y: i32) -> Setup
-    ensures { IsSetup result }
+    ensures setup { IsSetup result }
+    ensures mode { result.scene.mode ≡ mode }
 {
     let mut gamma = [0u8; 256];
     for i in 0..256usize {
@@ -57,6 +58,14 @@ pub fn flatbed(mode: Mode, packing: Packing, br_x: i32, br_y: i32) -> Setup
     ensures { IsSetup result }
 {
     setup(DeviceKind::Flatbed, mode, packing, br_x, br_y)
+}
+
+/// A three-pass scanner's.
+pub fn three_pass(packing: Packing, br_x: i32, br_y: i32) -> Setup
+    ensures setup { IsSetup result }
+    ensures color { result.scene.mode ≡ Mode.Color }
+{
+    setup(DeviceKind::ThreePass, Mode::Color, packing, br_x, br_y)
 }
 
 fn memory(alloc: Global, file: &[u8], dpi: u32) -> Option<MemoryPage> {
@@ -167,6 +176,27 @@ pub fn shows(
     assert!(rt; is_read_as(alloc, &mut source, setup, bytes, &mut [9u8; 10]));
     assert!(rt; is_read_as(alloc, &mut source, setup, bytes, &mut [9u8; 20]));
     assert!(rt; is_read_as(alloc, &mut source, setup, bytes, &mut [9u8; 100]));
+}
+
+/// The frame of a pass on a page in a file is these bytes, by reads of seven bytes and by one of all.
+pub fn shows_pass(
+    rt: &impl Abort,
+    alloc: Global,
+    setup: &Setup,
+    page: (&[u8], u32),
+    pass: u32,
+    bytes: &[u8],
+)
+    requires { IsSetup setup.now }
+{
+    let (file, dpi) = page;
+    let mut source = opened(alloc, file, dpi).expect(rt, "a page file");
+    let want = (bytes, None, Ok(ReadEnd::End));
+    assert!(rt; is_frame(alloc, &mut source, setup, pass, want));
+    match frame_read_by(alloc, &mut source, setup, pass, &mut [9u8; 250]) {
+        Ok(Some((got, _, end))) => assert!(rt; got.as_slice() == bytes && end == ReadEnd::End),
+        _ => panic!(rt; "no frame"),
+    }
 }
 
 #[test]

@@ -10,6 +10,8 @@ mod byte_rows;
 #[cfg(test)]
 mod calls;
 #[cfg(test)]
+mod color_passes;
+#[cfg(test)]
 mod flatbed;
 #[cfg(test)]
 mod frames;

@@ -3,6 +3,7 @@ pub mod PageLemmas
 pub mod ScanLemmas
 pub mod RowLemmas
 pub mod ShownLemmas
+pub mod ThirdLemmas
 pub mod RunLemmas
 pub mod ScalingLemmas
 pub mod EightLemmas

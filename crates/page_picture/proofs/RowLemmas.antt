@@ -16,7 +16,7 @@ use Rattle.netpbm.specs.Raster.{NoneAbove, SomeAbove, raster_size, sample_count}
 use Rattle.page_picture.specs.declared.sources.open_fault.OpenFault.{OpenFault}
 use Rattle.page_picture.specs.declared.sources.open_fault.OpenFault.TheVariants.{Device}
 use Rattle.page_picture.specs.PageFile.{IsPageFormat}
-use Rattle.page_picture.specs.Inside.{file_row_size, row_count, GivesPartOf, GivesRowOf, HasRows, IsPageHeader, IsRaster, ReadsRaster, ShowsRow, unused_bytes}
+use Rattle.page_picture.specs.Inside.{file_row_size, row_count, GivesPartOf, GivesRowOf, HasRows, IsPageHeader, IsRaster, ReadsRaster, ShowsRow, unused_bytes, GivesThirdsOf, third_byte}
 
 -- what holds wherever the fault is the reader's
 pub of_device : {A : Type 0} (r : Result A OpenFault) (X : Type 0) → X → IfErr r (λ fault. fault ≡ Device → X)
@@ -248,6 +248,16 @@ gives_part h at left bytes more part e size each =
       size = let both = ap length e ∙ length-append bytes more in omega arith;
       after_is = sym (ap (drop (file_row_size h)) e ∙ ap (λ n. drop n (bytes ++ more)) (sym size) ∙ drop-append_seam bytes more);
       part_is = λ i less. each i less ∙ ap (λ row. number_in h.maxval row (at + i) * 65535 / h.maxval / 256) (sym front);
+    }
+
+-- the same, and these are the bytes of every third of its numbers
+pub gives_thirds : (h : Header) (at : ℕ) (left bytes more part : List ℕ) → left ≡ bytes ++ more → length bytes ≡ file_row_size h → ((j : ℕ) → j < length part → slice_index part j ≡ third_byte h.maxval bytes at j) → GivesThirdsOf h at left more part
+gives_thirds h at left bytes more part e size each =
+    let front : take (file_row_size h) left ≡ bytes = ap (take (file_row_size h)) e ∙ ap (λ n. take n (bytes ++ more)) (sym size) ∙ take-append_seam bytes more in
+    record {
+      size = let both = ap length e ∙ length-append bytes more in omega arith;
+      after_is = sym (ap (drop (file_row_size h)) e ∙ ap (λ n. drop n (bytes ++ more)) (sym size) ∙ drop-append_seam bytes more);
+      part_is = λ j less. each j less ∙ ap (λ row. third_byte h.maxval row at j) (sym front);
     }
 
 -- the next rows of a whole raster stand at the front of what is left

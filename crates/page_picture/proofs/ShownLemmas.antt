@@ -1,6 +1,7 @@
 -- The page that is shown row by row is the page of the whole file.
-use Rattle.std.proofs.Common.{◌≡◌, ℕ, ◌+◌, ◌*◌, ◌/◌, ◌<◌, ◌≤◌, ◌^◌, inl, inr, List, [], ◌∷◌, ◌++◌, arith, length, take, drop, refl, sym, ap, ◌∙◌, subst}
-use Rattle.std.specs.Prelude.{slice_index, Some}
+use Rattle.std.proofs.Common.{◌≡◌, ℕ, ◌+◌, ◌*◌, ◌/◌, ◌%◌, ◌<◌, ◌≤◌, ◌^◌, inl, inr, List, [], ◌∷◌, ◌++◌, arith, length, take, drop, refl, sym, ap, ◌∙◌, subst}
+use Rattle.std.specs.Prelude.{slice_index, Some, ◌==◌, ◌≢◌, if◌then◌else◌, true, false}
+use Rattle.std.proofs.lemmas.Bool.Decides.{nat_tests}
 use Rattle.std.proofs.Math.Seq.{take-append_seam}
 use Rattle.std.proofs.lemmas.Nat.{div-mul-add, mul-add-lt}
 use Rattle.std.proofs.Math.Nat.{div-le_of_le-mul}
@@ -16,12 +17,14 @@ use Rattle.page_picture.specs.declared.page_file.PageFault.TheVariants.{BadMagic
 use Rattle.page_picture.specs.declared.sources.open_fault.OpenFault.{OpenFault}
 use Rattle.page_picture.specs.declared.sources.open_fault.OpenFault.TheVariants.{Page, Device}
 use Rattle.page_picture.specs.Page.{IsShaped, IsPageView, IsRow, page_sample_at}
-use Rattle.page_picture.specs.Source.{byte_place}
+use Rattle.page_picture.specs.Source.{byte_place, bytes_in, sample_byte}
+use Rattle.page_picture.specs.declared.sources.SampleBytes.{SampleBytes}
+use Rattle.page_picture.specs.declared.sources.SampleBytes.TheVariants.{Upper, Both}
 use Rattle.page_picture.specs.declared.scene.Mode.{Mode}
 use Rattle.page_picture.specs.declared.scene.Mode.TheVariants.{Gray, Color}
 use Rattle.page_picture.specs.PageFile.{BeginsPage, IsDpi, IsPageFormat, TellsPage}
 use Rattle.page_picture.specs.PageReading.{source}
-use Rattle.page_picture.specs.Inside.{ArePageSamples, page_number, HasSamplesOf, IsPageHeader, IsRaster, ShowsRow, page_shown, samples_shown, row_count, file_row_size, HasHeaderFault, HasOpenFaultAfter}
+use Rattle.page_picture.specs.Inside.{ArePageSamples, page_number, HasChannels, HasSamplesOf, third_byte, IsPageHeader, IsRaster, ShowsRow, page_shown, samples_shown, row_count, file_row_size, HasHeaderFault, HasOpenFaultAfter}
 use Rattle.page_picture.specs.Opening.{HasOpenFault}
 use Rattle.page_picture.proofs.PageLemmas.{tells_page}
 use Rattle.page_picture.proofs.RowLemmas.{drop-row, number_in_row, row_size-count}
@@ -117,6 +120,78 @@ shown_bytes h dpi y mode first raster bytes more part page less e size own room 
     ∙ ap (λ v. v / 256) (sym (number_of mode h bytes first x k own channel)
     ∙ (sym (numbers_at (page_number h bytes) (3 * h.width) (3 * (first + x) + k) (omega arith))
     ∙ is.each (first + x) k column channel))
+
+-- ---- the bytes of one channel
+
+-- a sample of a row in color, by the number that the file has for it
+sample_shown : (h : Header) (dpi y first x k : ℕ) (raster bytes more : List ℕ) → IsPageHeader h → h.format ≡ Ppm → y < h.height → drop (y * file_row_size h) raster ≡ bytes ++ more → length bytes ≡ file_row_size h → first + x < h.width → k < 3
+    → page_sample_at (page_shown h dpi raster) (first + x) y k ≡ number_in h.maxval bytes (3 * first + k + 3 * x) * 65535 / h.maxval
+sample_shown h dpi y first x k raster bytes more page ppm less e size column channel =
+    let row = concat_up_to (λ j. page_number h bytes j ∷ []) (3 * h.width) in
+    let shows : ShowsRow h bytes row = record { each = numbers_at (page_number h bytes) (3 * h.width) } in
+    let is = shown_row h dpi y raster bytes more row page less e size shows in
+    let place : 3 * first + 0 + (3 * x + k) ≡ 3 * first + k + 3 * x = omega arith in
+    sym (is.each (first + x) k column channel)
+    ∙ (numbers_at (page_number h bytes) (3 * h.width) (3 * (first + x) + k) (omega arith)
+    ∙ (number_of Color h bytes first x k ppm channel ∙ ap (λ i. number_in h.maxval bytes i * 65535 / h.maxval) place))
+
+-- the upper byte of a sample whose number is that byte
+upper_of_byte : (b : ℕ) → b < 256 → b ≡ b * 65535 / 255 / 256
+upper_of_byte b small = omega (arith, small)
+
+-- the bytes of a sample whose number has these two
+both_of_word : (p q j : ℕ) → p < 256 → q < 256 → (if j % 2 == 0 then p else q) ≡ (if j % 2 == 0 then (256 * p + q) * 65535 / 65535 / 256 else (256 * p + q) * 65535 / 65535 % 256)
+both_of_word p q j small few =
+    elim (j % 2 == 0) as (λ t. (if t then p else q) ≡ (if t then (256 * p + q) * 65535 / 65535 / 256 else (256 * p + q) * 65535 / 65535 % 256)) [
+      | true ↦ omega (arith, small, few)
+      | false ↦ omega (arith, small, few)
+    ]
+
+pub shown_thirds : (h : Header) (dpi y : ℕ) (which : SampleBytes) (channel first : ℕ) (raster bytes more part : List ℕ) → IsPageHeader h → y < h.height → drop (y * file_row_size h) raster ≡ bytes ++ more → length bytes ≡ file_row_size h → HasChannels which h → channel < 3
+    → length part % bytes_in which ≡ 0 → bytes_in which * first + length part ≤ bytes_in which * h.width → ((i : ℕ) → slice_index part i < 256)
+    → ((j : ℕ) → j < length part → slice_index part j ≡ third_byte h.maxval bytes (3 * first + channel) j)
+    → (j : ℕ) → j < length part → slice_index part j ≡ sample_byte which (λ x. page_sample_at (page_shown h dpi raster) (first + x) y channel) j
+shown_thirds h dpi y Upper channel first raster bytes more part page less e size own few whole room small same j inside =
+    let at = 3 * first + channel in
+    let one : slice_index part j ≡ slice_index bytes (at + 3 * j) = same j inside ∙ ap (λ m. third_byte m bytes at j) own.1 in
+    let b = slice_index part j in
+    let sample = sample_shown h dpi y first j channel raster bytes more page own.0 less e size (omega (arith, room, inside)) few in
+    upper_of_byte b (small j)
+    ∙ ap (λ v. v / 256) (ap (λ v. v * 65535 / 255) one ∙ (ap (λ m. number_in m bytes (at + 3 * j) * 65535 / m) (sym own.1) ∙ sym sample))
+shown_thirds h dpi y Both channel first raster bytes more part page less e size own few whole room small same j inside =
+    let at = 3 * first + channel in
+    let x = j / 2 in
+    let i = at + 3 * x in
+    let p = slice_index part (2 * x) in
+    let q = slice_index part (2 * x + 1) in
+    let ends : 2 * x + 1 < length part = omega (arith, whole, inside) in
+    let begins : 2 * x < length part = omega (arith, ends) in
+    let upper : p ≡ slice_index bytes (2 * i) =
+    let first_half : 2 * at + 6 * (2 * x / 2) + 2 * x % 2 ≡ 2 * i = omega arith in
+    same (2 * x) begins ∙ (ap (λ m. third_byte m bytes at (2 * x)) own.1 ∙ ap (slice_index bytes) first_half) in
+    let lower : q ≡ slice_index bytes (2 * i + 1) =
+    let second_half : 2 * at + 6 * ((2 * x + 1) / 2) + (2 * x + 1) % 2 ≡ 2 * i + 1 = omega arith in
+    same (2 * x + 1) ends ∙ (ap (λ m. third_byte m bytes at (2 * x + 1)) own.1 ∙ ap (slice_index bytes) second_half) in
+    let number : (256 * p + q) * 65535 / 65535 ≡ page_sample_at (page_shown h dpi raster) (first + x) y channel =
+    ap (λ v. v * 65535 / 65535) (ap (λ v. 256 * v + q) upper ∙ ap (λ v. 256 * slice_index bytes (2 * i) + v) lower)
+    ∙ (ap (λ m. number_in m bytes i * 65535 / m) (sym own.1)
+    ∙ sym (sample_shown h dpi y first x channel raster bytes more page own.0 less e size (omega (arith, room, begins)) few)) in
+    own_byte part j
+    ∙ (both_of_word p q j (small (2 * x)) (small (2 * x + 1))
+    ∙ ap (λ v. if j % 2 == 0 then v / 256 else v % 256) number)
+  where
+    own_byte : (part : List ℕ) (j : ℕ) → slice_index part j ≡ (if j % 2 == 0 then slice_index part (2 * (j / 2)) else slice_index part (2 * (j / 2) + 1))
+    own_byte part j =
+        elim (j % 2 == 0) as (λ t. (j % 2 == 0) ≡ t → slice_index part j ≡ (if t then slice_index part (2 * (j / 2)) else slice_index part (2 * (j / 2) + 1))) [
+          | true ↦ λ is.
+              let even : j % 2 ≡ 0 = grind (arith, nat_tests, is) in
+              let place : j ≡ 2 * (j / 2) = omega (arith, even) in
+              ap (slice_index part) place
+          | false ↦ λ is.
+              let odd : j % 2 ≢ 0 = grind (arith, nat_tests, is) in
+              let place : j ≡ 2 * (j / 2) + 1 = omega (arith, odd) in
+              ap (slice_index part) place
+        ] refl
 
 -- the next row begins where the one before ended
 pub rest_after_row : (given size : ℕ) (raster bytes more : List ℕ) → drop (given * size) raster ≡ bytes ++ more → length bytes ≡ size → more ≡ drop ((given + 1) * size) raster

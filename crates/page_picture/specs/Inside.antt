@@ -1,5 +1,5 @@
 -- What private functions alone promise.
-use Rattle.std.specs.Prelude.{ℕ, ◌+◌, ◌*◌, ◌≡◌, ◌≤◌, ◌&&◌, nat_le, if◌then◌else◌, Bool, List, ◌∷◌, Option, Some, None, drop, ◌^◌, ◌<◌, true, false, length, ◌/◌, slice_index, ◌-◌, ◌++◌, take, []}
+use Rattle.std.specs.Prelude.{ℕ, ◌+◌, ◌*◌, ◌≡◌, ◌≤◌, ◌&&◌, nat_le, if◌then◌else◌, Bool, List, ◌∷◌, Option, Some, None, drop, ◌^◌, ◌<◌, true, false, length, ◌/◌, slice_index, ◌-◌, ◌++◌, ◌%◌, nat_lt, take, []}
 use Rattle.std.specs.Char.{is_ascii_digit, digit_value}
 use Rattle.netpbm.specs.FileText.{concat_up_to}
 use Rattle.netpbm.specs.HeaderReading.{field_at, end_at, format_of, ◌>>=◌}
@@ -15,6 +15,8 @@ use Rattle.page_picture.specs.declared.page_file.PageFault.{PageFault}
 use Rattle.page_picture.specs.declared.page_file.PageFault.TheVariants.{BadMagic, BadHeader, SampleTooLarge, Short, Trailing, BadDpi, NoMem}
 use Rattle.page_picture.specs.declared.scene.Mode.{Mode}
 use Rattle.page_picture.specs.declared.scene.Mode.TheVariants.{Gray, Color}
+use Rattle.page_picture.specs.declared.sources.SampleBytes.{SampleBytes}
+use Rattle.page_picture.specs.declared.sources.SampleBytes.TheVariants.{Upper, Both}
 use Rattle.page_picture.specs.declared.sources.open_fault.OpenFault.{OpenFault}
 use Rattle.page_picture.specs.declared.sources.open_fault.OpenFault.TheVariants.{Page, Device}
 
@@ -130,6 +132,16 @@ abbrev pub HasSamplesOf : Mode → Header → Type 0
 HasSamplesOf Gray h = h.format ≡ Pgm
 HasSamplesOf Color h = h.format ≡ Ppm
 
+-- the file has three samples for each place, and the bytes of a sample are those of its number
+abbrev pub HasChannels : SampleBytes → Header → Type 0
+HasChannels Upper h = (h.format ≡ Ppm) × (h.maxval ≡ 255)
+HasChannels Both h = (h.format ≡ Ppm) × (h.maxval ≡ 65535)
+
+-- byte j of every third of a row's numbers from the `at`-th on, of a byte each or of two
+abbrev pub third_byte : ℕ → List ℕ → ℕ → ℕ → ℕ
+third_byte maxval bytes at j =
+    if nat_lt maxval 256 then slice_index bytes (at + 3 * j) else slice_index bytes (2 * at + 6 * (j / 2) + j % 2)
+
 -- these are the samples that the bytes of one row show
 pub record ShowsRow (h : Header) (bytes row : List ℕ) : Type 0 where
   pub each : (j : ℕ) → j < 3 * h.width → slice_index row j ≡ page_number h bytes j
@@ -150,6 +162,13 @@ pub record GivesPartOf (h : Header) (at : ℕ) (before after part : List ℕ) : 
   pub size : file_row_size h ≤ length before
   pub after_is : after ≡ drop (file_row_size h) before
   pub part_is : (i : ℕ) → i < length part → slice_index part i ≡ number_in h.maxval (take (file_row_size h) before) (at + i) * 65535 / h.maxval / 256
+
+-- of the bytes that were not used yet those of one row were, and these are those of every third of its numbers, from there
+-- on
+pub record GivesThirdsOf (h : Header) (at : ℕ) (before after part : List ℕ) : Type 0 where
+  pub size : file_row_size h ≤ length before
+  pub after_is : after ≡ drop (file_row_size h) before
+  pub part_is : (j : ℕ) → j < length part → slice_index part j ≡ third_byte h.maxval (take (file_row_size h) before) at j
 
 -- so many rows stand at the front of these bytes, fewer than 2^40, and no number of the first is above the greatest
 pub record HasRows (h : Header) (rows : ℕ) (bytes : List ℕ) : Type 0 where

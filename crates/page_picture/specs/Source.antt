@@ -1,16 +1,18 @@
 -- A source of a page's rows, as contracts see it, and what each of its calls does.
-use Rattle.std.specs.Prelude.{ℕ, ◌+◌, ◌-◌, ◌*◌, ◌/◌, ◌^◌, ◌<◌, ◌≡◌, ◌⊎◌, Bool, true, false, List, length, slice_index, Result, Ok, Err}
+use Rattle.std.specs.Prelude.{ℕ, ◌+◌, ◌-◌, ◌*◌, ◌/◌, ◌%◌, ◌^◌, ◌<◌, ◌≡◌, ◌==◌, ◌⊎◌, if◌then◌else◌, Bool, true, false, List, length, slice_index, Result, Ok, Err}
 use Rattle.page_picture.specs.Page.{PageView, IsRow, page_sample_at}
 use Rattle.page_picture.specs.declared.scene.Mode.{Mode}
 use Rattle.page_picture.specs.declared.scene.Mode.TheVariants.{Gray, Color}
+use Rattle.page_picture.specs.declared.sources.SampleBytes.{SampleBytes}
+use Rattle.page_picture.specs.declared.sources.SampleBytes.TheVariants.{Upper, Both}
 use Rattle.page_picture.specs.declared.sources.SourceFault.{SourceFault}
 
--- **page source (`SourceState`, `SourceAndBytes`, `GivesRow`, `GivesRowBytes`, `Rewinds`)**: a page, how many of its rows
+-- **page source (`SourceState`, `SourceAndBytes`, `GivesRow`, `GivesRowBytes`, `GivesChannel`, `Rewinds`)**: a page, how many of its rows
 -- were given since the last rewind, whether the source is steady (it gives the page's rows at each pass), whether it is
 -- infallible (it can never fail), and how often it failed. A call of `next_row` gives the next row, which is the page's
 -- where the source is steady, or none after the last, or fails; a failure is counted, or the count stands at its greatest.
 -- A call of `next_bytes` gives the upper byte of each of the next row's samples, from a place on, or does nothing, or
--- fails.
+-- fails; a call of `next_channel` gives the bytes of those of one channel alone.
 pub record SourceState : Type 0 where
   pub page : PageView
   pub given : ℕ
@@ -62,6 +64,29 @@ abbrev pub GivesRowBytes : Mode → ℕ → SourceAndBytes → Result Bool Sourc
 GivesRowBytes mode first was (Ok true) now = GivesNextBytes mode first was.source now.source now.bytes
 GivesRowBytes mode first was (Ok false) now = (now.source ≡ was.source) × (now.bytes ≡ was.bytes)
 GivesRowBytes mode first was (Err _) now = Fails was.source now.source
+
+-- how many bytes of a sample are given
+abbrev pub bytes_in : SampleBytes → ℕ
+bytes_in Upper = 1
+bytes_in Both = 2
+
+-- byte j of the samples at 0, at 1 and so on: of each the upper one, or both, the upper one first
+abbrev pub sample_byte : SampleBytes → (ℕ → ℕ) → ℕ → ℕ
+sample_byte Upper at j = at j / 256
+sample_byte Both at j = if j % 2 == 0 then at (j / 2) / 256 else at (j / 2) % 256
+
+-- the bytes of one channel of the next row were given, from place `first` on: each is that of the page's sample
+pub record GivesNextChannel (which : SampleBytes) (channel first : ℕ) (old new : SourceState) (bytes : List ℕ) : Type 0 where
+  pub more : old.given < old.page.height
+  pub after : new ≡ record old { given = old.given + 1 }
+  pub shows : old.steady ≡ true → (j : ℕ) → j < length bytes
+      → slice_index bytes j ≡ sample_byte which (λ x. page_sample_at old.page (first + x) old.given channel) j
+
+-- the bytes of one channel of the next row, or nothing where the page gives none or no row is left, or a failure
+abbrev pub GivesChannel : SampleBytes → ℕ → ℕ → SourceAndBytes → Result Bool SourceFault → SourceAndBytes → Type 0
+GivesChannel which channel first was (Ok true) now = GivesNextChannel which channel first was.source now.source now.bytes
+GivesChannel which channel first was (Ok false) now = (now.source ≡ was.source) × (now.bytes ≡ was.bytes)
+GivesChannel which channel first was (Err _) now = Fails was.source now.source
 
 -- from the top again, or a failure
 abbrev pub Rewinds : {Done : Type 0} → SourceState → Result Done SourceFault → SourceState → Type 0

@@ -19,6 +19,7 @@ pub use page_file::{PageFault, read_page};
 pub use rereadable::Rereadable;
 pub use scene::{DeviceKind, Mode, Scene};
 pub use sources::{
-    ByteRows, FailingPage, MemoryPage, OpenFault, PageSource, PnmPage, Source, SourceFault,
+    ByteRows, FailingPage, MemoryPage, OpenFault, PageSource, PnmPage, SampleBytes, Source,
+    SourceFault,
 };
 pub use tones::{greatest, in_channel, sample, toned};

@@ -1,8 +1,8 @@
 //! Where a virtual scanner reads the rows of its page from.
 
-ghost use Rattle.std.specs.Prelude.{◌≡◌, ◌≤◌, ◌+◌, ◌*◌, true, length};
+ghost use Rattle.std.specs.Prelude.{◌≡◌, ◌≤◌, ◌<◌, ◌+◌, ◌*◌, ◌%◌, true, length};
 ghost use Rattle.page_picture.specs.Page.{IsShaped, IsPageView};
-ghost use Rattle.page_picture.specs.Source.{SourceState, GivesRow, GivesRowBytes, Rewinds, byte_place};
+ghost use Rattle.page_picture.specs.Source.{SourceState, GivesRow, GivesRowBytes, GivesChannel, Rewinds, byte_place, bytes_in};
 
 mod eights;
 mod failing_page;
@@ -16,6 +16,7 @@ mod raster_rows;
 mod read_fault;
 mod read_room;
 mod scaling;
+mod third_numbers;
 mod upper_rows;
 mod uppers_fit;
 
@@ -62,7 +63,7 @@ pub trait PageSource: Drop {
         ///
         /// It answers a fault only where it can fail at all, which a page in memory cannot, and where its count of
         /// failures rose or stood at its greatest.
-        /// Carried by: `next_row`, `rewind` of `PageSource`; `next_bytes` of `ByteRows`
+        /// Carried by: `next_row`, `rewind` of `PageSource`; `next_bytes`, `next_channel` of `ByteRows`
         ensures { GivesRow (source self.old) result (source self.new) row.new };
 
     /// Starts the rows anew from the top, also after a fault.
@@ -72,7 +73,17 @@ pub trait PageSource: Drop {
         ensures { Rewinds (source self.old) result (source self.new) };
 }
 
-/// A page of whose rows the upper bytes of the samples may be had alone: depths 1 and 8 show no more of them.
+/// Which bytes of a sample are given.
+#[derive(Clone, Copy, Debug, PartialEq, Eq)]
+pub enum SampleBytes {
+    /// The upper one alone.
+    Upper,
+    /// Both, the upper one first.
+    Both,
+}
+
+/// A page of whose rows the upper bytes of the samples may be had alone: depths 1 and 8 show no more of them. So may the
+/// bytes of one channel, which are all that a pass of one color shows.
 pub trait ByteRows: PageSource {
     /// Writes the upper bytes of the next row, from place `first` on: one for each place in gray, three in color. False where
     /// the page gives none of that kind, and after the last row; nothing was done then. All of them must lie within the row.
@@ -83,6 +94,26 @@ pub trait ByteRows: PageSource {
         /// it has done nothing; when it gives none no clause says.
         /// Carried by: `ByteRows`, at `MemoryPage`, `FailingPage`, `PnmPage`, `Source`
         ensures { GivesRowBytes mode first
+            (record { source = Self.source self.old; bytes = bytes.old }) result
+            (record { source = Self.source self.new; bytes = bytes.new }) };
+
+    /// Writes the bytes of one channel of the next row's samples, from place `first` on. False where the page gives none of
+    /// that kind, and after the last row; nothing was done then. All of them must be whole samples that lie within the row.
+    fn next_channel(
+        &mut self,
+        which: SampleBytes,
+        channel: u32,
+        first: u32,
+        bytes: &mut [u8],
+    ) -> Result<bool, SourceFault>
+        requires channel { channel < 3 }
+        requires whole { length bytes.old % bytes_in which ≡ 0 }
+        requires inside { bytes_in which * first + length bytes.old
+            ≤ bytes_in which * (Self.source self.old).page.width }
+        /// A page source that gives the bytes of one channel of a row gives those of the next row's samples; where it
+        /// gives none, it has done nothing; when it gives none no clause says.
+        /// Carried by: `next_channel` of `ByteRows`, at `MemoryPage`, `FailingPage`, `PnmPage`, `Source`
+        ensures { GivesChannel which channel first
             (record { source = Self.source self.old; bytes = bytes.old }) result
             (record { source = Self.source self.new; bytes = bytes.new }) };
 }

@@ -1,6 +1,6 @@
 //! Rows of each width up to two eights and one, whose samples are worked on eight at once and one by one.
 
-use page_picture::{ByteRows, Mode, OpenFault, PageFault, PageSource, PnmPage};
+use page_picture::{ByteRows, Mode, OpenFault, PageFault, PageSource, PnmPage, SampleBytes};
 use std::alloc::Global;
 use std::io::Cursor;
 use std::process::Abort;
@@ -209,6 +209,106 @@ fn no_bytes_of_another_kind(rt: HostRuntime) {
             Err((fault, _)) => panic!(&rt; "{fault:?} at {text:?}"),
         };
         assert!(rt; gives_none(&mut page, mode));
+        let mut row = [0u16; 3];
+        assert!(rt; page.size() == (1, 1));
+        assert!(rt; page.next_row(&mut row) == Ok(true));
+        drop(page);
+    }
+}
+
+/// Whether the bytes of so many places of one channel of the next row are given, from a place on.
+fn gives_channel<S: ByteRows>(
+    rt: &impl Abort,
+    page: &mut S,
+    which: SampleBytes,
+    channel: u32,
+    first: u32,
+    bytes: &mut [u8],
+) -> bool {
+    let (width, _) = page.size();
+    assert!(rt; channel < 3);
+    match which {
+        SampleBytes::Upper => {
+            assert!(rt; (first as usize).saturating_add(bytes.len()) <= width as usize);
+            page.next_channel(SampleBytes::Upper, channel, first, bytes) == Ok(true)
+        }
+        SampleBytes::Both => {
+            assert!(rt; bytes.len() % 2 == 0);
+            assert!(rt; (2 * first as usize).saturating_add(bytes.len()) <= 2 * width as usize);
+            page.next_channel(SampleBytes::Both, channel, first, bytes) == Ok(true)
+        }
+    }
+}
+
+/// The bytes of one channel of a row in color, of so many places from one on.
+fn expect_channel<S: ByteRows>(
+    rt: &impl Abort,
+    alloc: Global,
+    page: &mut S,
+    which: SampleBytes,
+    channel: u32,
+    first: u32,
+    count: usize,
+) {
+    let (size, maxval) = match which {
+        SampleBytes::Upper => (1usize, 255),
+        SampleBytes::Both => (2, 65535),
+    };
+    let all = (page.size().0 as usize).saturating_mul(3);
+    let mut bytes = vec![in alloc; 9u8; size.saturating_mul(count)].expect(rt, "memory");
+    assert!(rt; page.rewind() == Ok(()));
+    assert!(rt; gives_channel(rt, page, which, channel, first, &mut bytes));
+    for (j, byte) in bytes.iter().enumerate() {
+        let place = (first as usize).saturating_add(j / size);
+        let number = number(maxval, place.saturating_mul(3).saturating_add(channel as usize), all);
+        let is_upper = size == 2 && j % 2 == 0;
+        let wanted = if is_upper { number / 256 } else { number % 256 };
+        assert!(rt; u32::from(*byte) == wanted, "{j} of {count} from {first}");
+    }
+    assert!(rt; !gives_channel(rt, page, which, channel, 0, &mut []));
+    drop(bytes);
+}
+
+/// Each channel of rows of each width up to three sixteens and one, from each place on: all that follows, and half of it.
+#[test]
+fn channels_of_every_width(rt: HostRuntime) {
+    for (which, maxval) in [(SampleBytes::Upper, 255), (SampleBytes::Both, 65535)] {
+        for width in 1..50usize {
+            let text = file(&rt, rt.alloc(), "P6", width, maxval, width.saturating_mul(3), 0);
+            let mut page = match PnmPage::open(rt.alloc(), Cursor::new(text.as_slice()), 50) {
+                Ok(page) => page,
+                Err((fault, _)) => panic!(&rt; "{fault:?} at {width}"),
+            };
+            for first in 0..width {
+                let rest = width.saturating_sub(first);
+                let place = u32::try_from(first).unwrap_or(0);
+                for channel in 0..3u32 {
+                    expect_channel(&rt, rt.alloc(), &mut page, which, channel, place, rest);
+                    expect_channel(&rt, rt.alloc(), &mut page, which, channel, place, rest / 2);
+                }
+            }
+            drop(page);
+            drop(text);
+        }
+    }
+}
+
+/// A page of another kind, or of another greatest value, gives no channel's bytes, and its row is still there.
+#[test]
+fn no_channel_of_another_kind(rt: HostRuntime) {
+    for (text, which) in [
+        (b"P5\n1 1\n255\n\x07".as_slice(), SampleBytes::Upper),
+        (b"P5\n1 1\n65535\n\x07\x07", SampleBytes::Both),
+        (b"P6\n1 1\n254\n\x07\x07\x07", SampleBytes::Upper),
+        (b"P6\n1 1\n255\n\x07\x07\x07", SampleBytes::Both),
+        (b"P6\n1 1\n65535\n\x07\x07\x07\x07\x07\x07", SampleBytes::Upper),
+        (b"P6\n1 1\n65534\n\x07\x07\x07\x07\x07\x07", SampleBytes::Both),
+    ] {
+        let mut page = match PnmPage::open(rt.alloc(), Cursor::new(text), 50) {
+            Ok(page) => page,
+            Err((fault, _)) => panic!(&rt; "{fault:?} at {text:?}"),
+        };
+        assert!(rt; !gives_channel(&rt, &mut page, which, 0, 0, &mut []));
         let mut row = [0u16; 3];
         assert!(rt; page.size() == (1, 1));
         assert!(rt; page.next_row(&mut row) == Ok(true));

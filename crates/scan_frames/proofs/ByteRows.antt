@@ -1,5 +1,5 @@
 -- Lines that show the bytes of a row.
-use Rattle.std.proofs.Common.{◌≡◌, ℕ, ◌<◌, ◌≤◌, ◌+◌, ◌-◌, ◌*◌, ◌/◌, Bool, true, false, List, [], ◌++◌, length, drop, get_or, arith, refl, sym, ap, ◌∙◌, subst}
+use Rattle.std.proofs.Common.{◌≡◌, ℕ, ◌<◌, ◌≤◌, ◌+◌, ◌-◌, ◌*◌, ◌/◌, ◌%◌, Bool, true, false, List, [], ◌++◌, length, drop, get_or, arith, refl, sym, ap, ◌∙◌, subst}
 use Rattle.std.specs.Prelude.{nat_lt, ◌==◌, slice_index, if◌then◌else◌}
 use Rattle.std.proofs.Common.{length-append, length-drop}
 use Rattle.std.proofs.lemmas.Bool.Decides.{nat_tests}
@@ -7,7 +7,11 @@ use Rattle.netpbm.specs.FileText.{binary, bits_byte}
 use Rattle.std.proofs.lemmas.List.{get_or-drop, get_or_append_left, get_or-append_right}
 use Rattle.page_picture.specs.Page.{PageView, page_sample_at}
 use Rattle.page_picture.specs.Columns.{Columns, IsRun, columns_of, place_at}
-use Rattle.page_picture.specs.Source.{SourceState}
+use Rattle.page_picture.specs.Source.{SourceState, bytes_in, sample_byte}
+use Rattle.page_picture.specs.declared.sources.SampleBytes.{SampleBytes}
+use Rattle.page_picture.specs.declared.sources.SampleBytes.TheVariants.{Upper, Both}
+use Rattle.sane_fixed.specs.declared.byte_order.ByteOrder.{ByteOrder}
+use Rattle.sane_fixed.specs.declared.byte_order.ByteOrder.TheVariants.{Big}
 use Rattle.page_picture.specs.Seen.{column_seen, row_seen, seen_at, dot_at}
 use Rattle.page_picture.specs.Tone.{tone, brightness, in_channel}
 use Rattle.page_picture.specs.Meaning.{sample_of}
@@ -26,7 +30,7 @@ use Rattle.scan_frames.specs.Samples.{HasZeros}
 use Rattle.scan_frames.specs.Tables.{AreComposed}
 use Rattle.scan_frames.proofs.Lines.{line_from_samples, line_is, binary_same, tone_bytes}
 use Rattle.scan_frames.proofs.Grays.{tone_of_bits}
-use Rattle.scan_frames.specs.Inside.{IsPlain, PutsGrays, PutsColors, PutsGrayBits, MakesOfRow, black, black_in, blacks_in}
+use Rattle.scan_frames.specs.Inside.{IsPlain, IsSame, HasSample, PutsGrays, PutsColors, PutsGrayBits, PutsChannel, ShowsChannel, AreAsTheyAre, MakesOfRow, black, black_in, blacks_in}
 use Rattle.scan_frames.proofs.Scans.{brightness-same, some_channels, three_channels}
 use Rattle.scan_frames.proofs.Seen.{on_page}
 use Rattle.scan_frames.proofs.Zeros.{bits_past}
@@ -62,26 +66,59 @@ channel_bytes depth tables k v packing =
       | false ↦ elim (depth == 8) as (λ b. P false b) [ true ↦ λ e. refl | false ↦ λ e. cc ]
     ]) packing
 
--- the sample of a byte of color that no table changes
-pub color_on_page : (page : PageView) (scene : Scene) (tables : List (List ℕ)) (x y k place row : ℕ) → packing_of scene.depth ≡ Bytes → scene.mode ≡ Color → AreComposed scene tables → IsPlain tables → column_seen scene page.dpi x ≡ place → place < page.width → row_seen scene page.dpi y ≡ row → row < page.height → k < 3
+-- the sample of a byte of color that its channel's table does not change
+byte_on_page : (page : PageView) (scene : Scene) (tables : List (List ℕ)) (x y k place row : ℕ) → packing_of scene.depth ≡ Bytes → scene.mode ≡ Color → AreComposed scene tables → IsSame (get_or tables k []) → column_seen scene page.dpi x ≡ place → place < page.width → row_seen scene page.dpi y ≡ row → row < page.height → k < 3
     → page_sample_at page place row k / 256 < 256 → sample_of page scene x y k ≡ page_sample_at page place row k / 256
-color_on_page page scene tables x y k place row packing mode composed plain column inside height on less small =
+byte_on_page page scene tables x y k place row packing mode composed same column inside height on less small =
     let v = page_sample_at page place row k in
     sample_on_page page scene x y k place row column inside height on less
     ∙ ap (λ (m : Mode). in_channel m scene.depth scene.channel_gamma k (tone scene.depth scene.gamma (brightness m (λ i. page_sample_at page place row i) k))) mode
     ∙ ap (in_channel Color scene.depth scene.channel_gamma k) (tone_bytes scene.depth scene.gamma v packing)
     ∙ channel_bytes scene.depth scene.channel_gamma k (slice_index scene.gamma (v / 256)) packing
     ∙ sym (composed k (v / 256) less small)
-    ∙ plain k (v / 256) less small
+    ∙ same (v / 256) small
+
+-- the sample of a byte of color that no table changes
+pub color_on_page : (page : PageView) (scene : Scene) (tables : List (List ℕ)) (x y k place row : ℕ) → packing_of scene.depth ≡ Bytes → scene.mode ≡ Color → AreComposed scene tables → IsPlain tables → column_seen scene page.dpi x ≡ place → place < page.width → row_seen scene page.dpi y ≡ row → row < page.height → k < 3
+    → page_sample_at page place row k / 256 < 256 → sample_of page scene x y k ≡ page_sample_at page place row k / 256
+color_on_page page scene tables x y k place row packing mode composed plain column inside height on less small =
+    byte_on_page page scene tables x y k place row packing mode composed (λ v few. plain k v less few) column inside height on less small
+
+-- samples of two bytes are of depth 16
+depth_of_words : (depth : ℕ) → packing_of depth ≡ Words → depth ≡ 16
+depth_of_words depth packing =
+    let P : Bool → Bool → Type 0 = λ a b. (if a then Words else (if b then Bytes else Bits)) ≡ Words → a ≡ true in
+    let is : (depth == 16) ≡ true = (elim (depth == 16) as (λ a. P a (depth == 8)) [
+      | true ↦ λ e. refl
+      | false ↦ elim (depth == 8) as (λ b. P false b) [ true ↦ λ e. cc | false ↦ λ e. cc ]
+    ]) packing in
+    grind (arith, nat_tests, is)
+
+-- the sample of a color of two bytes
+tone_words : (depth : ℕ) (table : List ℕ) (tables : List (List ℕ)) (k v : ℕ) → packing_of depth ≡ Words → in_channel Color depth tables k (tone depth table v) ≡ v
+tone_words depth table tables k v packing =
+    subst (λ (d : ℕ). in_channel Color d tables k (tone d table v) ≡ v) (sym (depth_of_words depth packing)) refl
+
+word_on_page : (page : PageView) (scene : Scene) (x y k place row : ℕ) → packing_of scene.depth ≡ Words → scene.mode ≡ Color → column_seen scene page.dpi x ≡ place → place < page.width → row_seen scene page.dpi y ≡ row → row < page.height → k < 3
+    → sample_of page scene x y k ≡ page_sample_at page place row k
+word_on_page page scene x y k place row packing mode column inside height on less =
+    sample_on_page page scene x y k place row column inside height on less
+    ∙ ap (λ (m : Mode). in_channel m scene.depth scene.channel_gamma k (tone scene.depth scene.gamma (brightness m (λ i. page_sample_at page place row i) k))) mode
+    ∙ tone_words scene.depth scene.gamma scene.channel_gamma k (page_sample_at page place row k) packing
+
+-- a line that shows the picture at each place
+samples_shown : (setup : Setup) (page : PageView) (pass y : ℕ) (line : List ℕ) (p : Packing) → packing_of setup.scene.depth ≡ p → (p ≡ Bits → ⊥) → length line ≡ bytes_per_line setup pass → HasZeros (packing_of setup.scene.depth) (channels_within (format_at setup pass) * width_of setup) line
+    → ((x k : ℕ) → x < width_of setup → k < channels_within (format_at setup pass) → HasSample p setup.order line (channels_within (format_at setup pass) * x + k) (sample_of page setup.scene x y (channel_in (format_at setup pass) k))) → line ≡ line_bytes setup page pass y
+samples_shown setup page pass y line p packing not size zeros each =
+    let format = format_at setup pass in
+    let at : ℕ → ℕ → ℕ = λ x k. sample_of page setup.scene x y (channel_in format k) in
+    subst (λ (p : Packing). line ≡ line_of p setup.order (channels_within format) (width_of setup) at (bytes_per_line setup pass)) (sym packing)
+    (line_from_samples p setup.order format (width_of setup) at line (bytes_per_line setup pass) size not each (subst (λ (p : Packing). HasZeros p (channels_within format * width_of setup) line) packing zeros))
 
 -- a line of bytes that shows the picture at each place
 pub shown_line : (setup : Setup) (page : PageView) (pass y : ℕ) (line : List ℕ) → packing_of setup.scene.depth ≡ Bytes → length line ≡ bytes_per_line setup pass → HasZeros (packing_of setup.scene.depth) (channels_within (format_at setup pass) * width_of setup) line
     → ((x k : ℕ) → x < width_of setup → k < channels_within (format_at setup pass) → slice_index line (channels_within (format_at setup pass) * x + k) ≡ sample_of page setup.scene x y (channel_in (format_at setup pass) k)) → line ≡ line_bytes setup page pass y
-shown_line setup page pass y line packing size zeros each =
-    let format = format_at setup pass in
-    let at : ℕ → ℕ → ℕ = λ x k. sample_of page setup.scene x y (channel_in format k) in
-    subst (λ (p : Packing). line ≡ line_of p setup.order (channels_within format) (width_of setup) at (bytes_per_line setup pass)) (sym packing)
-    (line_from_samples Bytes setup.order format (width_of setup) at line (bytes_per_line setup pass) size (λ e. cc) each (subst (λ (p : Packing). HasZeros p (channels_within format * width_of setup) line) packing zeros))
+shown_line setup page pass y line packing size zeros each = samples_shown setup page pass y line Bytes packing (λ e. cc) size zeros each
 
 -- ---- a line whose front was put
 
@@ -155,6 +192,76 @@ color_made s t setup pass first tables columns part line n packing mode rgb comp
           ∙ (sym (color_on_page s.page setup.scene tables x y k (first + x) s.given packing mode composed plain column inside height put.more few (subst (λ v. v < 256) shown (small (3 * x + k))))
           ∙ ap (λ (f : FrameFormat). sample_of s.page setup.scene x y (channel_in f k)) (sym rgb))));
     }
+
+-- ---- one channel
+
+-- the bytes of a sample of two
+both_first : (at : ℕ → ℕ) (x : ℕ) → sample_byte Both at (2 * x) ≡ at x / 256
+both_first at x =
+    let whole : 2 * x % 2 ≡ 0 = omega arith in
+    let even : (2 * x % 2 == 0) ≡ true = grind (arith, nat_tests, whole) in
+    let place : 2 * x / 2 ≡ x = omega arith in
+    ap (λ t. if t then at (2 * x / 2) / 256 else at (2 * x / 2) % 256) even ∙ ap (λ i. at i / 256) place
+
+both_second : (at : ℕ → ℕ) (x : ℕ) → sample_byte Both at (2 * x + 1) ≡ at x % 256
+both_second at x =
+    let rest : (2 * x + 1) % 2 ≡ 1 = omega arith in
+    let odd : ((2 * x + 1) % 2 == 0) ≡ false = grind (arith, nat_tests, rest) in
+    let place : (2 * x + 1) / 2 ≡ x = omega arith in
+    ap (λ t. if t then at ((2 * x + 1) / 2) / 256 else at ((2 * x + 1) / 2) % 256) odd ∙ ap (λ i. at i % 256) place
+
+-- a line of one channel whose bytes are those of the next row
+pub channel_made : (s t : SourceState) (setup : Setup) (pass : ℕ) (tables : List (List ℕ)) (which : SampleBytes) (channel first : ℕ) (columns : Columns) (line : List ℕ) → ShowsChannel setup pass tables which channel → AreComposed setup.scene tables
+    → columns ≡ columns_of setup.scene s.page.width s.page.dpi → IsRun columns → first ≡ columns.left → ((x : ℕ) → x < columns.count → place_at columns x ≡ first + x) → length line ≡ bytes_per_line setup pass → ((i : ℕ) → slice_index line i < 256)
+    → HasZeros (packing_of setup.scene.depth) (channels_within (format_at setup pass) * columns.count) line → PutsChannel s which channel first columns.count t line → MakesOfRow s setup pass t line
+channel_made s t setup pass tables which channel first columns line shows composed of run left places size small zeros put = record {
+  more = put.more;
+  after = put.after;
+  bytes = λ steady y height. by_bytes which shows.shown put.here steady y height;
+}
+  where
+    format : FrameFormat
+    format = format_at setup pass
+
+    count : columns.count ≡ width_of setup
+    count = ap (λ (c : Columns). c.count) of
+
+    behind : HasZeros (packing_of setup.scene.depth) (channels_within format * width_of setup) line
+    behind = subst (λ n. HasZeros (packing_of setup.scene.depth) (channels_within format * n) line) count zeros
+
+    place : (x k : ℕ) → k < channels_within format → channels_within format * x + k ≡ x
+    place x k less = ap (λ n. n * x + k) shows.one ∙ (let none : k < 1 = subst (λ n. k < n) shows.one less in omega (arith, none))
+
+    own : (k : ℕ) → k < channels_within format → channel ≡ channel_in format k
+    own k less = shows.channel_is ∙ ap (channel_in format) (let none : k < 1 = subst (λ n. k < n) shows.one less in omega (arith, none))
+
+    inside : (x : ℕ) → x < width_of setup → first + x < s.page.width
+    inside x less = let end = run.inside in let wide : columns.width ≡ s.page.width = ap (λ (c : Columns). c.width) of in omega (arith, end, wide, less, left, count)
+
+    seen : (x : ℕ) → x < width_of setup → column_seen setup.scene s.page.dpi x ≡ first + x
+    seen x less = column_of_run setup.scene s.page x (first + x) (sym (ap (λ (c : Columns). place_at c x) of) ∙ places x (omega (arith, less, count))) (inside x less)
+
+    by_bytes : (which : SampleBytes) → AreAsTheyAre setup tables which channel → (s.steady ≡ true → (j : ℕ) → j < bytes_in which * columns.count → slice_index line j ≡ sample_byte which (λ x. page_sample_at s.page (first + x) s.given channel) j)
+        → s.steady ≡ true → (y : ℕ) → row_seen setup.scene s.page.dpi y ≡ s.given → line ≡ line_bytes setup s.page pass y
+    by_bytes Upper as_is here steady y height = samples_shown setup s.page pass y line Bytes as_is.0 (λ e. cc) size behind (λ x k less only.
+        let is = here steady x (omega (arith, less, count)) in
+        ap (slice_index line) (place x k only)
+        ∙ (is
+        ∙ (sym (byte_on_page s.page setup.scene tables x y channel (first + x) s.given as_is.0 shows.mode composed as_is.1 (seen x less) (inside x less) height put.more shows.few (subst (λ v. v < 256) is (small x)))
+        ∙ ap (sample_of s.page setup.scene x y) (own k only))))
+    by_bytes Both as_is here steady y height = samples_shown setup s.page pass y line Words as_is.0 (λ e. cc) size behind (λ x k less only.
+        let at : ℕ → ℕ = λ x. page_sample_at s.page (first + x) s.given channel in
+        let v = page_sample_at s.page (first + x) s.given channel in
+        let halves : HasSample Words Big line x v = (
+          here steady (2 * x) (omega (arith, less, count)) ∙ both_first at x,
+          here steady (2 * x + 1) (omega (arith, less, count)) ∙ both_second at x,
+        ) in
+        let value : v ≡ sample_of s.page setup.scene x y (channel_in format k) =
+        sym (word_on_page s.page setup.scene x y channel (first + x) s.given as_is.0 shows.mode (seen x less) (inside x less) height put.more shows.few)
+        ∙ ap (sample_of s.page setup.scene x y) (own k only) in
+        subst (λ (o : ByteOrder). HasSample Words o line (channels_within format * x + k) (sample_of s.page setup.scene x y (channel_in format k))) (sym as_is.1)
+        (subst (λ (i : ℕ). HasSample Words Big line i (sample_of s.page setup.scene x y (channel_in format k))) (sym (place x k only))
+        (subst (λ (w : ℕ). HasSample Words Big line x w) value halves)))
 
 -- ---- bits of bytes
 

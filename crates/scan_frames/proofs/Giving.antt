@@ -11,7 +11,7 @@ use Rattle.page_picture.specs.Shows.{channels_within}
 use Rattle.page_picture.specs.Source.{SourceState, CountsFailure}
 use Rattle.scan_frames.specs.declared.setup.Setup.{Setup}
 use Rattle.scan_frames.specs.declared.setup.Packing.{Packing}
-use Rattle.scan_frames.specs.declared.setup.Packing.TheVariants.{Bytes}
+use Rattle.scan_frames.specs.declared.setup.Packing.TheVariants.{Bits, Bytes, Words}
 use Rattle.scan_frames.specs.Line.{packing_of, line_size}
 use Rattle.scan_frames.specs.Frames.{height_of, width_of, format_at, bytes_per_line, line_bytes, payload, pass_length}
 use Rattle.scan_frames.specs.Samples.{HasZeros}
@@ -125,13 +125,16 @@ gives_of_line s t setup old mid new n buf room has gives =
 -- ---- a whole line, given where it was made
 
 -- in a line of samples of a byte each, which loses no pixel, nothing stands behind them
-pub no_filler : (setup : Setup) (pass count : ℕ) (line : List ℕ) → setup.scene.depth ≡ 8 → setup.loss ≡ 0 → count ≡ width_of setup → length line ≡ bytes_per_line setup pass → HasZeros (packing_of setup.scene.depth) (channels_within (format_at setup pass) * count) line
-no_filler setup pass count line depth loss wide size =
+pub no_filler : (setup : Setup) (pass count : ℕ) (line : List ℕ) → setup.loss ≡ 0 → count ≡ width_of setup → length line ≡ bytes_per_line setup pass → HasZeros (packing_of setup.scene.depth) (channels_within (format_at setup pass) * count) line
+no_filler setup pass count line loss wide size =
     let m = channels_within (format_at setup pass) in
-    let bytes : packing_of setup.scene.depth ≡ Bytes = ap packing_of depth in
     let all : width_of setup + setup.loss ≡ count = omega arith in
-    let long : length line ≡ m * count = size ∙ (ap (λ (p : Packing). line_size p m (width_of setup + setup.loss)) bytes ∙ ap (λ (n : ℕ). m * n) all) in
-    subst (λ (p : Packing). HasZeros p (m * count) line) (sym bytes) (λ j h. get_or_past line j 0 (omega arith))
+    by_packing (packing_of setup.scene.depth) (size ∙ ap (line_size (packing_of setup.scene.depth) m) all)
+  where
+    by_packing : (p : Packing) → length line ≡ line_size p (channels_within (format_at setup pass)) count → HasZeros p (channels_within (format_at setup pass) * count) line
+    by_packing Bits long = tt
+    by_packing Bytes long = λ j h. get_or_past line j 0 (omega arith)
+    by_packing Words long = λ j h. get_or_past line j 0 (omega arith)
 
 -- a frame between two lines, with another last line, where the next line shows another row
 not_needed : (s t : SourceState) (setup : Setup) (f g : FrameProgress) → IsFrame s setup f → IsFrame t setup g → t.page ≡ s.page → f.left ≡ 0 → (row_of setup s.page f.made ≡ row_of setup s.page (f.made + 1) → ⊥)

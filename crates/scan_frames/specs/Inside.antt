@@ -4,14 +4,18 @@ use Rattle.netpbm.specs.FileText.{binary, bits_byte}
 use Rattle.page_picture.specs.Columns.{Columns, place_at, columns_of}
 use Rattle.page_picture.specs.Page.{PageView, page_sample_at}
 use Rattle.page_picture.specs.Seen.{dot_at}
-use Rattle.page_picture.specs.Source.{SourceState}
+use Rattle.page_picture.specs.Shows.{channels_within}
+use Rattle.page_picture.specs.Source.{SourceState, bytes_in, sample_byte}
 use Rattle.page_picture.specs.Tone.{brightness, in_channel, tone}
-use Rattle.page_picture.specs.declared.scene.Mode.TheVariants.{Gray}
+use Rattle.page_picture.specs.declared.scene.Mode.TheVariants.{Gray, Color}
 use Rattle.page_picture.specs.declared.scene.Scene.{Scene}
+use Rattle.page_picture.specs.declared.sources.SampleBytes.{SampleBytes}
+use Rattle.page_picture.specs.declared.sources.SampleBytes.TheVariants.{Upper, Both}
 use Rattle.sane_fixed.specs.declared.byte_order.ByteOrder.{ByteOrder}
+use Rattle.sane_fixed.specs.declared.byte_order.ByteOrder.TheVariants.{Big}
 use Rattle.sane_fixed.specs.declared.frame_format.FrameFormat.{FrameFormat}
-use Rattle.scan_frames.specs.Frames.{channel_in, bytes_per_line, payload, line_bytes}
-use Rattle.scan_frames.specs.Line.{half}
+use Rattle.scan_frames.specs.Frames.{channel_in, format_at, bytes_per_line, payload, line_bytes}
+use Rattle.scan_frames.specs.Line.{half, packing_of}
 use Rattle.scan_frames.specs.PassReading.{FrameProgress, FrameAndSource, IsFrame, given_in, row_of}
 use Rattle.scan_frames.specs.Rows.{IsWhiteBehind, TakesRows}
 use Rattle.scan_frames.specs.Samples.{IsZeroFrom}
@@ -182,10 +186,9 @@ pub record GivesOfLine (setup : Setup) (was : FrameAndSource) (n : ℕ) (now : F
   pub given : HasGivenOfFrame was.source setup was.frame n now.source now.frame buf
 
 -- the next line may be made apart from the line that a frame keeps: its row is the next, and no further line shows it, and
--- all its bytes are samples of a byte each
+-- no byte stands behind its samples
 pub record MayBeMadeApart (setup : Setup) (page : PageView) (f : FrameProgress) : Type 0 where
   pub no_loss : setup.loss ≡ 0
-  pub depth : setup.scene.depth ≡ 8
   pub next : row_of setup page f.made ≡ f.taken
   pub alone : row_of setup page f.made ≢ row_of setup page (f.made + 1)
 
@@ -204,6 +207,26 @@ pub record PutsColors (s : SourceState) (first : ℕ) (t : SourceState) (line : 
   pub after : t ≡ record s { given = s.given + 1 }
   pub here : s.steady ≡ true → (x k : ℕ) → k < 3 → 3 * x + k < length line
       → slice_index line (3 * x + k) ≡ page_sample_at s.page (first + x) s.given k / 256
+
+-- a line of a pass shows these bytes of one channel of the page as they are
+abbrev pub AreAsTheyAre : Setup → List (List ℕ) → SampleBytes → ℕ → Type 0
+AreAsTheyAre setup tables Upper channel = (packing_of setup.scene.depth ≡ Bytes) × IsSame (get_or tables channel [])
+AreAsTheyAre setup tables Both channel = (packing_of setup.scene.depth ≡ Words) × (setup.order ≡ Big)
+
+-- the pass is one of one color, whose channel of the page this is, and its lines show these bytes of it as they are
+pub record ShowsChannel (setup : Setup) (pass : ℕ) (tables : List (List ℕ)) (which : SampleBytes) (channel : ℕ) : Type 0 where
+  pub mode : setup.scene.mode ≡ Color
+  pub one : channels_within (format_at setup pass) ≡ 1
+  pub channel_is : channel ≡ channel_in (format_at setup pass) 0
+  pub few : channel < 3
+  pub shown : AreAsTheyAre setup tables which channel
+
+-- the next row was taken, and the bytes of one channel of `count` of its places from `first` on were put
+pub record PutsChannel (s : SourceState) (which : SampleBytes) (channel first count : ℕ) (t : SourceState) (line : List ℕ) : Type 0 where
+  pub more : s.given < s.page.height
+  pub after : t ≡ record s { given = s.given + 1 }
+  pub here : s.steady ≡ true → (j : ℕ) → j < bytes_in which * count
+      → slice_index line j ≡ sample_byte which (λ x. page_sample_at s.page (first + x) s.given channel) j
 
 -- **black bytes (`black`, `black_in`, `blacks_in`)**: one for an entry of a gamma table that is black at depth 1, which is
 -- one below 128, and zero for any other; of eight bytes a byte, the leftmost as its most significant bit, with zeros behind

@@ -256,7 +256,7 @@ fn give(buffers: &mut Buffers, buf: &mut [u8]) -> usize
 }
 
 /// Whether the next line may be made apart from the one that the frame keeps: its row is the next, no further line shows it,
-/// and all its bytes are samples of a byte each.
+/// and no byte stands behind its samples.
 fn may_be_made_apart<S: PageSource>(buffers: &Buffers, source: &S, setup: &Setup) -> bool
     requires setup { IsSetup setup.now }
     requires more { buffers.now.made < 65536 }
@@ -266,7 +266,6 @@ fn may_be_made_apart<S: PageSource>(buffers: &Buffers, source: &S, setup: &Setup
 {
     let row = row_of(source, setup, buffers.made);
     setup.loss == 0
-        && setup.scene.depth == 8
         && row == u64::from(buffers.taken)
         && row != row_of(source, setup, buffers.made + 1)
 }

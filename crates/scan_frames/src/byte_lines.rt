@@ -1,21 +1,21 @@
-//! Lines of depths 1 and 8 made of rows of bytes, so that no sample of two bytes stands between a page's file and them.
+//! Lines made of the bytes of a row, so that no samples stand between a page's file and them.
 
-ghost use Rattle.std.specs.Prelude.{◌≡◌, ◌≤◌, ◌<◌, ◌+◌, ◌*◌, ℕ, Ok, true, false, length, slice_index, OnOk, OnErr};
+ghost use Rattle.std.specs.Prelude.{◌≡◌, ◌≤◌, ◌<◌, ◌+◌, ◌*◌, ℕ, Ok, true, false, length, slice_index, IfSome, OnOk, OnErr};
 ghost use Rattle.page_picture.specs.Columns.{columns_of};
 ghost use Rattle.page_picture.specs.Shows.{channels_within};
-ghost use Rattle.page_picture.specs.Source.{Fails};
+ghost use Rattle.page_picture.specs.Source.{Fails, bytes_in};
 ghost use Rattle.scan_frames.specs.Line.{packing_of};
 ghost use Rattle.scan_frames.specs.Frames.{bytes_per_line, format_at};
-ghost use Rattle.scan_frames.specs.Inside.{PutsGrays, PutsColors, PutsGrayBits, MakesOfRow, sample_end};
+ghost use Rattle.scan_frames.specs.Inside.{PutsGrays, PutsColors, PutsGrayBits, PutsChannel, ShowsChannel, MakesOfRow, sample_end};
 ghost use Rattle.scan_frames.specs.Samples.{HasZeros};
 ghost use Rattle.scan_frames.specs.Tables.{AreComposed};
 
 use crate::byte_bits::put_bits_of;
 use crate::line::{is_plain, is_same};
-use crate::pass::format_at;
+use crate::pass::{channel_in, channels_within, format_at};
 use crate::setup::{Packing, Setup, packing_of};
-use page_picture::{ByteRows, ColumnMap, Mode, SourceFault};
-use sane_fixed::FrameFormat;
+use page_picture::{ByteRows, ColumnMap, Mode, SampleBytes, SourceFault};
+use sane_fixed::{ByteOrder, FrameFormat};
 
 /// Makes of each byte what a table has for it.
 fn apply_table(table: &[u8; 256], line: &mut [u8])
@@ -95,6 +95,55 @@ fn put_gray_bits<S: ByteRows>(
     Ok(true)
 }
 
+/// The bytes of which channel of the page a line of a pass of one color shows as they are: at depth 8 where no table changes
+/// them, at depth 16 where the upper byte of a sample comes first.
+fn channel_shown(setup: &Setup, pass: u32, tables: &[[u8; 256]; 3]) -> Option<(SampleBytes, u32)>
+    ensures { IfSome result (λ shown. ShowsChannel setup.now pass tables.now shown.0 shown.1) }
+{
+    let format = format_at(setup, pass);
+    if channels_within(format) != 1 {
+        return None;
+    }
+    let channel = channel_in(format, 0);
+    match (setup.scene.mode, packing_of(setup.scene.depth), setup.order) {
+        (Mode::Color, Packing::Bytes, _) if is_same(&tables[channel as usize]) => {
+            Some((SampleBytes::Upper, channel))
+        }
+        (Mode::Color, Packing::Words, ByteOrder::Big) => Some((SampleBytes::Both, channel)),
+        _ => None,
+    }
+}
+
+/// Puts the bytes of one channel of `count` places of the next row from `first` on. False where the source has none of them;
+/// nothing was done then.
+fn put_channel_bytes<S: ByteRows>(
+    source: &mut S,
+    which: SampleBytes,
+    channel: u32,
+    first: u32,
+    count: usize,
+    line: &mut [u8],
+) -> Result<bool, SourceFault>
+    requires channel { channel < 3 }
+    requires within { first + count ≤ (S.source source.old).page.width }
+    requires room { bytes_in which * count ≤ length line.old }
+    ensures put { result ≡ Ok true → PutsChannel (S.source source.old) which channel first count
+        (S.source source.new) line.new }
+    ensures none { result ≡ Ok false → (S.source source.new ≡ S.source source.old)
+        × (line.new ≡ line.old) }
+    ensures failed { OnErr result (Fails (S.source source.old) (S.source source.new)) }
+    ensures behind { (j : ℕ) → bytes_in which * count ≤ j
+        → slice_index line.new j ≡ slice_index line.old j }
+{
+    // The limits of a page.
+    let _size = source.size();
+    let end = match which {
+        SampleBytes::Upper => count,
+        SampleBytes::Both => 2 * count,
+    };
+    source.next_channel(which, channel, first, &mut line[..end])
+}
+
 /// Makes a line of the bytes of the next row, where it shows just these: its places lie one beside the other on the page,
 /// and in color no table changes them. False where it does not, or the source has none; nothing was done then.
 pub fn byte_line<S: ByteRows>(
@@ -140,6 +189,11 @@ pub fn byte_line<S: ByteRows>(
         (Packing::Bits, Mode::Gray, _) => {
             put_gray_bits(source, &setup.scene.gamma, first, count, line)
         }
-        _ => Ok(false),
+        _ => match channel_shown(setup, pass, tables) {
+            Some((which, channel)) => {
+                put_channel_bytes(source, which, channel, first, count, line)
+            }
+            None => Ok(false),
+        },
     }
 }

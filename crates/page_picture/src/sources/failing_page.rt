@@ -4,7 +4,7 @@ ghost use Rattle.page_picture.specs.Failing.{CountsCall};
 
 use crate::page::Page;
 use crate::scene::Mode;
-use crate::sources::{ByteRows, PageSource, SourceFault};
+use crate::sources::{ByteRows, PageSource, SampleBytes, SourceFault};
 use std::marker::Model;
 
 /// A page in memory of which one call of `next_row` and `rewind` fails.
@@ -122,6 +122,16 @@ impl ByteRows for FailingPage {
     fn next_bytes(
         &mut self,
         _mode: Mode,
+        _first: u32,
+        _bytes: &mut [u8],
+    ) -> Result<bool, SourceFault> {
+        Ok(false)
+    }
+
+    fn next_channel(
+        &mut self,
+        _which: SampleBytes,
+        _channel: u32,
         _first: u32,
         _bytes: &mut [u8],
     ) -> Result<bool, SourceFault> {

@@ -1,5 +1,7 @@
 use crate::scene::Mode;
-use crate::sources::{ByteRows, FailingPage, MemoryPage, PageSource, PnmPage, SourceFault};
+use crate::sources::{
+    ByteRows, FailingPage, MemoryPage, PageSource, PnmPage, SampleBytes, SourceFault,
+};
 use std::fs::File;
 
 /// The page sources that devices hold.
@@ -68,6 +70,20 @@ impl ByteRows for Source {
             Source::Memory(page) => page.next_bytes(mode, first, bytes),
             Source::Failing(page) => page.next_bytes(mode, first, bytes),
             Source::Pnm(page) => page.next_bytes(mode, first, bytes),
+        }
+    }
+
+    fn next_channel(
+        &mut self,
+        which: SampleBytes,
+        channel: u32,
+        first: u32,
+        bytes: &mut [u8],
+    ) -> Result<bool, SourceFault> {
+        match self {
+            Source::Memory(page) => page.next_channel(which, channel, first, bytes),
+            Source::Failing(page) => page.next_channel(which, channel, first, bytes),
+            Source::Pnm(page) => page.next_channel(which, channel, first, bytes),
         }
     }
 }

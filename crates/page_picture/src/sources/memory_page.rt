@@ -2,7 +2,7 @@ ghost use Rattle.std.specs.Prelude.{◌≡◌};
 
 use crate::page::Page;
 use crate::scene::Mode;
-use crate::sources::{ByteRows, PageSource, SourceFault};
+use crate::sources::{ByteRows, PageSource, SampleBytes, SourceFault};
 use std::marker::Model;
 
 /// A page in memory: it never fails.
@@ -72,6 +72,16 @@ impl ByteRows for MemoryPage {
     fn next_bytes(
         &mut self,
         _mode: Mode,
+        _first: u32,
+        _bytes: &mut [u8],
+    ) -> Result<bool, SourceFault> {
+        Ok(false)
+    }
+
+    fn next_channel(
+        &mut self,
+        _which: SampleBytes,
+        _channel: u32,
         _first: u32,
         _bytes: &mut [u8],
     ) -> Result<bool, SourceFault> {

@@ -1,6 +1,7 @@
-ghost use Rattle.std.specs.Prelude.{ℕ, ◌≡◌, ◌≤◌, ◌<◌, ◌+◌, ◌-◌, ◌*◌, ◌/◌, ◌^◌, ◌++◌, length, slice_index, slice_range, true, false, Ok, min, max, IfOk, IfErr, MatchBool, OnOk, OnErr};
+ghost use Rattle.std.specs.Prelude.{ℕ, ◌≡◌, ◌≤◌, ◌<◌, ◌+◌, ◌-◌, ◌*◌, ◌/◌, ◌%◌, ◌^◌, ◌++◌, length, slice_index, slice_range, true, false, Ok, min, max, IfOk, IfErr, MatchBool, OnOk, OnErr};
+ghost use Rattle.netpbm.specs.Pnm.{sample_bytes};
 ghost use Rattle.netpbm.specs.Raster.{NoneAbove, SomeAbove, sample_count};
-ghost use Rattle.page_picture.specs.Inside.{FailsWithin, IsPageHeader, IsRaster, ReadsRaster, ShowsRow, GivesPartOf, GivesRowOf, HasRows, unused_bytes, row_count, row_header, file_row_size, HasOpenFaultAfter, IsOfFile};
+ghost use Rattle.page_picture.specs.Inside.{FailsWithin, IsPageHeader, IsRaster, ReadsRaster, ShowsRow, GivesPartOf, GivesRowOf, GivesThirdsOf, HasRows, unused_bytes, row_count, row_header, file_row_size, third_byte, HasOpenFaultAfter, IsOfFile};
 
 use crate::page_file::PageFault;
 use crate::rereadable::Rereadable;
@@ -9,6 +10,7 @@ use crate::sources::fitting::all_fit;
 use crate::sources::open_fault::OpenFault;
 use crate::sources::read_fault::{MOST_READS, ReadFault};
 use crate::sources::scaling::{ByteScaling, Scaling};
+use crate::sources::third_numbers::{put_third_bytes, put_third_words};
 use crate::sources::upper_rows::put_upper_bytes;
 use netpbm::{Header, PnmFormat, raster_size, sample_count};
 
@@ -439,6 +441,60 @@ pub fn read_row_bytes<R: Rereadable>(
     }
     let from = take_row(reader, header, rows, held, bytes)?;
     put_upper_bytes(header.maxval, &bytes[from..from + size], at, part);
+    Ok(())
+}
+
+/// Writes the bytes of every third of a row's numbers, from the `at`-th on.
+fn put_thirds(maxval: u32, bytes: &[u8], at: usize, part: &mut [u8])
+    requires few { at ≤ 65536 }
+    requires whole { length part.old % sample_bytes maxval ≡ 0 }
+    requires inside { sample_bytes maxval * at + 3 * length part.old
+        ≤ length bytes.now + 2 * sample_bytes maxval }
+    ensures { (j : ℕ) → j < length part.old
+        → slice_index part.new j ≡ third_byte maxval bytes.now at j }
+{
+    if maxval < 256 {
+        put_third_bytes(bytes, at, part);
+    } else {
+        put_third_words(bytes, 2 * at, part);
+    }
+}
+
+/// Writes the bytes of every third of the next row's numbers, from the `at`-th on, as `read_row` writes samples.
+pub fn read_row_thirds<R: Rereadable>(
+    reader: &mut R,
+    header: &Header,
+    rows: u32,
+    held: &mut u32,
+    bytes: &mut [u8],
+    at: usize,
+    part: &mut [u8],
+) -> Result<(), ReadFault>
+    requires page { IsPageHeader header.now }
+    requires room { file_row_size header.now ≤ length bytes.old }
+    requires rows { 1 ≤ rows }
+    requires held { held.old ≤ rows }
+    requires within { held.old * file_row_size header.now ≤ length bytes.old }
+    requires few { at ≤ 65536 }
+    requires whole { length part.old % sample_bytes header.now.maxval ≡ 0 }
+    requires inside { sample_bytes header.now.maxval * at + 3 * length part.old
+        ≤ file_row_size header.now + 2 * sample_bytes header.now.maxval }
+    ensures kept { R.is_kept reader.new ≡ R.is_kept reader.old }
+    ensures text { R.text reader.new ≡ R.text reader.old }
+    ensures held { held.new ≤ rows }
+    ensures next { OnOk result (held.new + 1 ≤ rows) }
+    ensures within { held.new * file_row_size header.now ≤ length bytes.new }
+    ensures read { OnOk result (R.is_kept reader.old ≡ true → GivesThirdsOf header.now at
+        (unused_bytes (file_row_size header.now) held.old bytes.old (R.left reader.old))
+        (unused_bytes (file_row_size header.now) held.new bytes.new (R.left reader.new)) part.new) }
+    ensures failed { OnErr result (R.is_kept reader.old ≡ true
+        → HasRows header.now rows
+        (unused_bytes (file_row_size header.now) held.old bytes.old (R.left reader.old))
+        → R.faults reader.old < R.faults reader.new) }
+{
+    let size = raster_size(&row_header(header));
+    let from = take_row(reader, header, rows, held, bytes)?;
+    put_thirds(header.maxval, &bytes[from..from + size], at, part);
     Ok(())
 }
 

@@ -23,7 +23,7 @@ fn greater(bytes: u8x16, others: u8x16) -> u8x16
 
 /// The sixteen bytes from byte `at` on.
 #[inline(always)]
-fn sixteen(bytes: &[u8], at: usize) -> u8x16
+pub fn sixteen(bytes: &[u8], at: usize) -> u8x16
     requires { at + 16 ≤ length bytes.now }
     ensures size { length result ≡ 16 }
     ensures each { (i : ℕ) → i < 16 → slice_index result i ≡ slice_index bytes.now (at + i) }

@@ -7,7 +7,7 @@ use Rattle.scan_frames.proofs.buffers.give_whole_line.Goals as goal
 pub byte_line-requires-clause-zeros : goal.byte_line-requires-clause-zeros
 byte_line-requires-clause-zeros g c =
     let old = c.args.buffers.now in
-    no_filler c.args.setup.now old.pass old.columns.count _ c.if-not-may_be_made_apart.ensures.depth c.if-not-may_be_made_apart.ensures.no_loss (ap (λ (o : Columns). o.count) c.requires.frame.columns) (search rules)
+    no_filler c.args.setup.now old.pass old.columns.count _ c.if-not-may_be_made_apart.ensures.no_loss (ap (λ (o : Columns). o.count) c.requires.frame.columns) (search rules)
 
 pub returns-then-is_made-clause-given : goal.returns-then-is_made-clause-given
 returns-then-is_made-clause-given g c = λ made.

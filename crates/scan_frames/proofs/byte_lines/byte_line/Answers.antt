@@ -1,8 +1,8 @@
 use Rattle.std.proofs.Common.{◌≡◌, ◌*◌, rules, refl, sym, ap, length, drop, ◌++◌, subst}
 use Rattle.sane_fixed.specs.declared.frame_format.FrameFormat.TheVariants.{Rgb as RgbFrame}
-use Rattle.scan_frames.specs.Inside.{MakesOfRow, PutsGrayBits}
+use Rattle.scan_frames.specs.Inside.{MakesOfRow, PutsChannel, PutsGrayBits}
 use Rattle.scan_frames.specs.Frames.{format_at}
-use Rattle.scan_frames.proofs.ByteRows.{bits_made, color_made, gray_made}
+use Rattle.scan_frames.proofs.ByteRows.{bits_made, channel_made, color_made, gray_made}
 use Rattle.scan_frames.proofs.Lines.{gray_format}
 use Rattle.scan_frames.proofs.byte_lines.byte_line.Goals as goal
 
@@ -40,3 +40,17 @@ returns-in-Bits-Gray-default-clause-made g c = λ made.
     let first = c.in-Some.first in
     let put : PutsGrayBits s setup.scene.gamma first columns.count t line = subst (λ n. PutsGrayBits s setup.scene.gamma first n t line) c.places-count.ensures.size (c.put_gray_bits.ensures.put made) in
     bits_made s t setup c.args.pass first columns line (search rules) c.in-Bits-Gray-default.is-1 c.requires.columns (search rules) (search rules) c.in-Some.ensures.each (search rules) put
+
+pub returns-in-Some-channel_shown-clause-made : goal.returns-in-Some-channel_shown-clause-made
+returns-in-Some-channel_shown-clause-made g c = λ made.
+    let s = g.S.PageSource.source c.args.source.now in
+    let t = g.S.PageSource.source c.put_channel_bytes.new.source in
+    let setup = c.args.setup.now in
+    let columns = c.args.columns.now in
+    let line = c.put_channel_bytes.new.line in
+    let first = c.in-Some.first in
+    let which = c.in-Some-channel_shown.which in
+    let channel = c.in-Some-channel_shown.channel in
+    let put : PutsChannel s which channel first columns.count t line = subst (λ n. PutsChannel s which channel first n t line) c.places-count.ensures.size (c.put_channel_bytes.ensures.put made) in
+    channel_made s t setup c.args.pass c.args.tables.now which channel first columns line c.in-Some-channel_shown.ensures c.requires.tables
+    c.requires.columns (search rules) (search rules) c.in-Some.ensures.each (search rules) (λ i. (c.type_inv.line i).fits) (search rules) put

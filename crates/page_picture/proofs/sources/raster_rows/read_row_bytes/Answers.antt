@@ -1,4 +1,4 @@
-use Rattle.std.proofs.Common.{◌≡◌, ◌+◌, ◌*◌, ◌/◌, ◌++◌, ◌∙◌, ◌≤◌, rules, ap, sym, subst, length}
+use Rattle.std.proofs.Common.{◌≡◌, ◌+◌, ◌++◌, ◌∙◌, ◌≤◌, rules, ap, sym, subst, length}
 use Rattle.std.specs.Prelude.{slice_range}
 use Rattle.page_picture.specs.Inside.{file_row_size, unused_bytes}
 use Rattle.page_picture.proofs.RowLemmas.{gives_part, length-row_at}

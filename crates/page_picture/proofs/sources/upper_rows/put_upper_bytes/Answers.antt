@@ -1,4 +1,4 @@
-use Rattle.std.proofs.Common.{◌≤◌, ◌<◌, ◌+◌, ◌*◌, ◌/◌, ◌∙◌, ℕ, length, ap, sym, subst, arith}
+use Rattle.std.proofs.Common.{◌≤◌, ◌+◌, ◌*◌, ◌/◌, ◌∙◌, ℕ, length, ap, sym, subst, arith}
 use Rattle.page_picture.proofs.EightLemmas.{byte_of_part, word_of_part}
 use Rattle.page_picture.proofs.sources.upper_rows.put_upper_bytes.Goals as goal
 

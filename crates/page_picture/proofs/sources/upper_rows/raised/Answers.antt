@@ -1,4 +1,4 @@
-use Rattle.std.proofs.Common.{◌*◌, ◌%◌, ◌<◌, ◌∙◌, get_or, arith}
+use Rattle.std.proofs.Common.{◌*◌, ◌%◌, ◌∙◌, arith}
 use Rattle.page_picture.proofs.EightLemmas.{splat_lane, length-splat}
 use Rattle.page_picture.proofs.sources.upper_rows.raised.Goals as goal
 
