@@ -130,11 +130,13 @@ impl ByteRows for FailingPage {
 
     fn next_channel(
         &mut self,
-        _which: SampleBytes,
+        which: SampleBytes,
         _channel: u32,
         _first: u32,
         _bytes: &mut [u8],
     ) -> Result<bool, SourceFault> {
-        Ok(false)
+        match which {
+            SampleBytes::Upper | SampleBytes::Both => Ok(false),
+        }
     }
 }

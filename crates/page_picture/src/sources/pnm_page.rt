@@ -5,6 +5,7 @@ ghost use Rattle.page_picture.specs.PnmState.{LosesRows};
 ghost use Rattle.page_picture.specs.Inside.{FailsWithin, IsPageHeader, IsRaster, file_row_size, HasOpenFaultAfter, IsOfFile};
 
 mod byte_samples;
+mod channel_samples;
 
 use crate::page_file::PageFault;
 use crate::rereadable::Rereadable;

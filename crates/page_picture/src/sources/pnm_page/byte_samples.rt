@@ -3,12 +3,12 @@
 ghost use Rattle.std.specs.Prelude.{◌≡◌, ◌≤◌, ◌<◌, ◌+◌, ◌*◌, ◌%◌, true, false, length, OnErr};
 ghost use Rattle.page_picture.specs.Source.{GivesRowBytes, GivesChannel, byte_place, bytes_in};
 ghost use Rattle.page_picture.specs.PnmState.{LosesRows};
-ghost use Rattle.page_picture.specs.Inside.{HasChannels, HasSamplesOf};
+ghost use Rattle.page_picture.specs.Inside.{HasSamplesOf};
 
 use crate::rereadable::Rereadable;
 use crate::scene::Mode;
 use crate::sources::pnm_page::PnmPage;
-use crate::sources::raster_rows::{read_row_bytes, read_row_thirds};
+use crate::sources::raster_rows::read_row_bytes;
 use crate::sources::{ByteRows, SampleBytes, SourceFault};
 use netpbm::{Header, PnmFormat};
 
@@ -19,19 +19,6 @@ fn has_samples_of(header: &Header, mode: Mode) -> bool
 {
     match (mode, header.format) {
         (Mode::Gray, PnmFormat::Pgm) | (Mode::Color, PnmFormat::Ppm) => true,
-        _ => false,
-    }
-}
-
-/// Whether the file has three samples for each place, and the bytes of a sample are those of its number.
-fn has_channels(header: &Header, which: SampleBytes) -> bool
-    ensures own { result ≡ true → HasChannels which header.now }
-    ensures other { result ≡ false → HasChannels which header.now → ⊥ }
-{
-    match (which, header.format, header.maxval) {
-        (SampleBytes::Upper, PnmFormat::Ppm, 255) | (SampleBytes::Both, PnmFormat::Ppm, 65535) => {
-            true
-        }
         _ => false,
     }
 }
@@ -103,29 +90,6 @@ impl<R: Rereadable + Drop> ByteRows for PnmPage<R> {
         ensures failed { OnErr result (self.old.shown.steady ≡ true
             → self.old.is_lost ≡ false → self.old.faults < self.new.faults) }
     {
-        if self.is_lost {
-            return Err(self.fail());
-        }
-        if self.given >= self.header.height || !has_channels(&self.header, which) {
-            return Ok(false);
-        }
-        self.is_lost = true;
-        let rows = self.header.height - self.given;
-        match read_row_thirds(
-            &mut self.reader,
-            &self.header,
-            rows,
-            &mut self.held,
-            &mut self.bytes,
-            3 * first as usize + channel as usize,
-            bytes,
-        ) {
-            Ok(()) => {
-                self.is_lost = false;
-                self.given += 1;
-                Ok(true)
-            }
-            Err(_) => Err(self.fail()),
-        }
+        self.give_channel(which, channel, first, bytes)
     }
 }

@@ -2,7 +2,7 @@ use Rattle.std.proofs.Common.{◌≡◌, ◌-◌, ◌*◌, rules, arith, refl, s
 use Rattle.page_picture.specs.Inside.{file_row_size, unused_bytes}
 use Rattle.page_picture.proofs.RowLemmas.{has_rows}
 use Rattle.page_picture.proofs.ShownLemmas.{shown_thirds}
-use Rattle.page_picture.proofs.sources.pnm_page.byte_samples.PnmPageByteRows.next_channel.Goals as goal
+use Rattle.page_picture.proofs.sources.pnm_page.PnmPage.give_channel.Goals as goal
 
 pub returns-in-Ok-clause-bytes : goal.returns-in-Ok-clause-bytes
 returns-in-Ok-clause-bytes g c =
