@@ -61,6 +61,7 @@ impl OutputTally {
 
     /// Writes once.
     pub fn write<W: Write>(&mut self, to: &mut W, bytes: &[u8]) -> io::Result<usize>
+        // As the one call.
         ensures bound { WritesAtMost result bytes.now }
         ensures bytes { WriteAppends (W.contents to.old) (W.contents to.new) result bytes.now }
         /// That an output failed is noted only by the call that did: a write that gave an error other than an

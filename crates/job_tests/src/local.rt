@@ -19,7 +19,11 @@ const RESOLUTION: u32 = 3;
 pub(crate) const TWO_ROWS: &[u8] = b"P5\n1 2\n255\n\x07\x09";
 
 /// The settings that show the two-row page as it is.
-pub(crate) const ONE_BY_TWO: &[(&[u8], &[u8])] = &[(b"resolution", b"26"), (b"br-x", b"1"), (b"br-y", b"2")];
+pub(crate) const ONE_BY_TWO: &[(&[u8], &[u8])] = &[
+    (b"resolution", b"26"),
+    (b"br-x", b"1"),
+    (b"br-y", b"2"),
+];
 
 /// Its whole file, of 33 bytes.
 pub(crate) const TWO_ROWS_FILE: &[u8] = b"P5\n# SANE data follows\n1 2\n255\n\x07\x09";
@@ -53,12 +57,7 @@ fn pairs(rt: &impl Abort, alloc: Global, settings: &[(&[u8], &[u8])]) -> Vec<(Te
 }
 
 /// A job of these settings, in their order.
-pub(crate) fn job(
-    rt: &impl Abort,
-    alloc: Global,
-    settings: &[(&[u8], &[u8])],
-    task: Task,
-) -> Job {
+pub(crate) fn job(rt: &impl Abort, alloc: Global, settings: &[(&[u8], &[u8])], task: Task) -> Job {
     Job {
         settings: pairs(rt, alloc, settings),
         user: text(rt, alloc, b"user"),

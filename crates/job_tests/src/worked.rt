@@ -13,7 +13,9 @@ use worked_run::run_once;
 /// A daemon of the flatbed with the two-row page, of which nothing was asked yet.
 fn daemon(rt: &impl Abort, alloc: Global) -> Daemon<Flatbed> {
     let mut devices = Vec::new(alloc);
-    devices.push(flatbed_on(rt, alloc, TWO_ROWS, 26)).expect(rt, "memory");
+    devices
+        .push(flatbed_on(rt, alloc, TWO_ROWS, 26))
+        .expect(rt, "memory");
     let registry = match Registry::new(alloc, devices) {
         Ok(registry) => registry,
         Err(_) => panic!(rt; "no registry"),

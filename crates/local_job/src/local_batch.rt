@@ -84,6 +84,7 @@ pub fn run_local_batch_with<S: Shelf, T: Drop, F: FnOnce(&Reports) -> Result<T, 
     tell: F,
 ) -> Result<(Reports, T), Stop>
     requires { F.IsAlwaysCallable tell }
+    // As `run_local_batch`.
     ensures done { IfOk result (λ done.
         IsBatchDone job.now (record { device = state device.old; stock = S.stock shelf.old })
         (record { device = state device.new; stock = S.stock shelf.new }) done.0) }

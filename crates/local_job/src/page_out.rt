@@ -41,11 +41,7 @@ impl<S: Shelf> Outlet for PageOut<'_, S> {
 }
 
 /// Has the shelf take an output back, if there is one. Says whether it did not refuse.
-pub fn give_back<S: Shelf>(
-    shelf: &mut S,
-    out: Option<S::Out>,
-    outputs: &mut OutputTally,
-) -> bool
+pub fn give_back<S: Shelf>(shelf: &mut S, out: Option<S::Out>, outputs: &mut OutputTally) -> bool
     ensures none { out ≡ None → result ≡ true }
     ensures back { GivesBack (S.stock shelf.old)
         (option_map S.Out.contents out) result (S.stock shelf.new) }

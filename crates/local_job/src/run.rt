@@ -125,6 +125,7 @@ pub fn run_local_with<W: Write, T: Drop, F: FnOnce(&Reports) -> Result<T, NoMem>
     tell: F,
 ) -> Result<(Reports, T), Stop>
     requires { F.IsAlwaysCallable tell }
+    // As `run_local`.
     ensures done { IfOk result
         (λ done. IsDone job.now (record { device = state device.old; output = W.contents out.old })
         (record { device = state device.new; output = W.contents out.new }) done.0) }

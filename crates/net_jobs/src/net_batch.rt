@@ -280,6 +280,7 @@ where
     T: Drop,
     F: FnOnce(&Reports) -> Result<T, NoMem> + Drop,
     requires { F.IsAlwaysCallable tell }
+    // As `run_batch`.
     ensures done { IfOk result (λ done. BatchDone
         (views_of C.remaining C.contents D.ports D.prepared) job
         (seen D.coming S.stock (streams control.old dial.old shelf.old))

@@ -573,6 +573,7 @@ where
     T: Drop,
     F: FnOnce(&Reports) -> Result<T, NoMem> + Drop,
     requires tell { F.IsAlwaysCallable tell }
+    // As `run_job`.
     ensures done { IfOk result (λ done. RanDone
         (views_of C.remaining C.contents D.ports D.prepared) job
         (seen D.coming W.contents (streams control.old dial.old out.old))

@@ -9,11 +9,7 @@ use scan_job::Why;
 use std::io::Write;
 
 /// Prints a list or a table.
-pub fn print<W: Write>(
-    to: &mut W,
-    lines: &[u8],
-    outputs: &mut OutputTally,
-) -> Result<(), Ending>
+pub fn print<W: Write>(to: &mut W, lines: &[u8], outputs: &mut OutputTally) -> Result<(), Ending>
     /// What is to be printed is printed whole, or the output failed.
     /// Carried by: `whole`, `failed` of `print`
     ensures whole { OnOk result (Appends (W.contents to.old) (W.contents to.new) lines.now) }

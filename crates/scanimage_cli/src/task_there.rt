@@ -57,7 +57,15 @@ fn run_job<O: Write>(
         }
         Destination::Folder => {
             let mut folder = Folder { rt };
-            do_net_batch(alloc, host, job, stream, &mut dial, &mut folder, &mut outputs)
+            do_net_batch(
+                alloc,
+                host,
+                job,
+                stream,
+                &mut dial,
+                &mut folder,
+                &mut outputs,
+            )
         }
     }
 }
