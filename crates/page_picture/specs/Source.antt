@@ -7,7 +7,7 @@ use Rattle.page_picture.specs.declared.sources.SampleBytes.{SampleBytes}
 use Rattle.page_picture.specs.declared.sources.SampleBytes.TheVariants.{Upper, Both}
 use Rattle.page_picture.specs.declared.sources.SourceFault.{SourceFault}
 
--- **page source (`SourceState`, `SourceAndBytes`, `GivesRow`, `GivesRowBytes`, `GivesChannel`, `Rewinds`)**: a page, how many of its rows
+-- **page source (`SourceState`, `SourceAndBytes`, `GivesRow`, `GivesRowBytes`, `ChannelBytes`, `GivesChannel`, `Rewinds`)**: a page, how many of its rows
 -- were given since the last rewind, whether the source is steady (it gives the page's rows at each pass), whether it is
 -- infallible (it can never fail), and how often it failed. A call of `next_row` gives the next row, which is the page's
 -- where the source is steady, or none after the last, or fails; a failure is counted, or the count stands at its greatest.
@@ -75,18 +75,24 @@ abbrev pub sample_byte : SampleBytes → (ℕ → ℕ) → ℕ → ℕ
 sample_byte Upper at j = at j / 256
 sample_byte Both at j = if j % 2 == 0 then at (j / 2) / 256 else at (j / 2) % 256
 
--- the bytes of one channel of the next row were given, from place `first` on: each is that of the page's sample
-pub record GivesNextChannel (which : SampleBytes) (channel first : ℕ) (old new : SourceState) (bytes : List ℕ) : Type 0 where
+-- bytes of one channel of a row: which of each sample, and from which place on
+pub record ChannelBytes : Type 0 where
+  pub which : SampleBytes
+  pub channel : ℕ
+  pub first : ℕ
+
+-- these bytes of the next row were given: each is that of the page's sample
+pub record GivesNextChannel (of : ChannelBytes) (old new : SourceState) (bytes : List ℕ) : Type 0 where
   pub more : old.given < old.page.height
   pub after : new ≡ record old { given = old.given + 1 }
   pub shows : old.steady ≡ true → (j : ℕ) → j < length bytes
-      → slice_index bytes j ≡ sample_byte which (λ x. page_sample_at old.page (first + x) old.given channel) j
+      → slice_index bytes j ≡ sample_byte of.which (λ x. page_sample_at old.page (of.first + x) old.given of.channel) j
 
 -- the bytes of one channel of the next row, or nothing where the page gives none or no row is left, or a failure
-abbrev pub GivesChannel : SampleBytes → ℕ → ℕ → SourceAndBytes → Result Bool SourceFault → SourceAndBytes → Type 0
-GivesChannel which channel first was (Ok true) now = GivesNextChannel which channel first was.source now.source now.bytes
-GivesChannel which channel first was (Ok false) now = (now.source ≡ was.source) × (now.bytes ≡ was.bytes)
-GivesChannel which channel first was (Err _) now = Fails was.source now.source
+abbrev pub GivesChannel : ChannelBytes → SourceAndBytes → Result Bool SourceFault → SourceAndBytes → Type 0
+GivesChannel of was (Ok true) now = GivesNextChannel of was.source now.source now.bytes
+GivesChannel of was (Ok false) now = (now.source ≡ was.source) × (now.bytes ≡ was.bytes)
+GivesChannel of was (Err _) now = Fails was.source now.source
 
 -- from the top again, or a failure
 abbrev pub Rewinds : {Done : Type 0} → SourceState → Result Done SourceFault → SourceState → Type 0

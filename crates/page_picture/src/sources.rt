@@ -113,7 +113,7 @@ pub trait ByteRows: PageSource {
         /// A page source that gives the bytes of one channel of a row gives those of the next row's samples; where it
         /// gives none, it has done nothing; when it gives none no clause says.
         /// Carried by: `next_channel` of `ByteRows`, at `MemoryPage`, `FailingPage`, `PnmPage`, `Source`
-        ensures { GivesChannel which channel first
+        ensures { GivesChannel (record { which = which; channel = channel; first = first })
             (record { source = Self.source self.old; bytes = bytes.old }) result
             (record { source = Self.source self.new; bytes = bytes.new }) };
 }

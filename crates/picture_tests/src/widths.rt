@@ -260,7 +260,11 @@ fn expect_channel<S: ByteRows>(
     assert!(rt; gives_channel(rt, page, which, channel, first, &mut bytes));
     for (j, byte) in bytes.iter().enumerate() {
         let place = (first as usize).saturating_add(j / size);
-        let number = number(maxval, place.saturating_mul(3).saturating_add(channel as usize), all);
+        let number = number(
+            maxval,
+            place.saturating_mul(3).saturating_add(channel as usize),
+            all,
+        );
         let is_upper = size == 2 && j % 2 == 0;
         let wanted = if is_upper { number / 256 } else { number % 256 };
         assert!(rt; u32::from(*byte) == wanted, "{j} of {count} from {first}");
@@ -274,7 +278,15 @@ fn expect_channel<S: ByteRows>(
 fn channels_of_every_width(rt: HostRuntime) {
     for (which, maxval) in [(SampleBytes::Upper, 255), (SampleBytes::Both, 65535)] {
         for width in 1..50usize {
-            let text = file(&rt, rt.alloc(), "P6", width, maxval, width.saturating_mul(3), 0);
+            let text = file(
+                &rt,
+                rt.alloc(),
+                "P6",
+                width,
+                maxval,
+                width.saturating_mul(3),
+                0,
+            );
             let mut page = match PnmPage::open(rt.alloc(), Cursor::new(text.as_slice()), 50) {
                 Ok(page) => page,
                 Err((fault, _)) => panic!(&rt; "{fault:?} at {width}"),
@@ -301,8 +313,14 @@ fn no_channel_of_another_kind(rt: HostRuntime) {
         (b"P5\n1 1\n65535\n\x07\x07", SampleBytes::Both),
         (b"P6\n1 1\n254\n\x07\x07\x07", SampleBytes::Upper),
         (b"P6\n1 1\n255\n\x07\x07\x07", SampleBytes::Both),
-        (b"P6\n1 1\n65535\n\x07\x07\x07\x07\x07\x07", SampleBytes::Upper),
-        (b"P6\n1 1\n65534\n\x07\x07\x07\x07\x07\x07", SampleBytes::Both),
+        (
+            b"P6\n1 1\n65535\n\x07\x07\x07\x07\x07\x07",
+            SampleBytes::Upper,
+        ),
+        (
+            b"P6\n1 1\n65534\n\x07\x07\x07\x07\x07\x07",
+            SampleBytes::Both,
+        ),
     ] {
         let mut page = match PnmPage::open(rt.alloc(), Cursor::new(text), 50) {
             Ok(page) => page,

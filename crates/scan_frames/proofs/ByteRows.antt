@@ -213,7 +213,7 @@ both_second at x =
 -- a line of one channel whose bytes are those of the next row
 pub channel_made : (s t : SourceState) (setup : Setup) (pass : ℕ) (tables : List (List ℕ)) (which : SampleBytes) (channel first : ℕ) (columns : Columns) (line : List ℕ) → ShowsChannel setup pass tables which channel → AreComposed setup.scene tables
     → columns ≡ columns_of setup.scene s.page.width s.page.dpi → IsRun columns → first ≡ columns.left → ((x : ℕ) → x < columns.count → place_at columns x ≡ first + x) → length line ≡ bytes_per_line setup pass → ((i : ℕ) → slice_index line i < 256)
-    → HasZeros (packing_of setup.scene.depth) (channels_within (format_at setup pass) * columns.count) line → PutsChannel s which channel first columns.count t line → MakesOfRow s setup pass t line
+    → HasZeros (packing_of setup.scene.depth) (channels_within (format_at setup pass) * columns.count) line → PutsChannel s (record { which = which; channel = channel; first = first }) columns.count t line → MakesOfRow s setup pass t line
 channel_made s t setup pass tables which channel first columns line shows composed of run left places size small zeros put = record {
   more = put.more;
   after = put.after;

@@ -5,7 +5,7 @@ use Rattle.page_picture.specs.Columns.{Columns, place_at, columns_of}
 use Rattle.page_picture.specs.Page.{PageView, page_sample_at}
 use Rattle.page_picture.specs.Seen.{dot_at}
 use Rattle.page_picture.specs.Shows.{channels_within}
-use Rattle.page_picture.specs.Source.{SourceState, bytes_in, sample_byte}
+use Rattle.page_picture.specs.Source.{ChannelBytes, SourceState, bytes_in, sample_byte}
 use Rattle.page_picture.specs.Tone.{brightness, in_channel, tone}
 use Rattle.page_picture.specs.declared.scene.Mode.TheVariants.{Gray, Color}
 use Rattle.page_picture.specs.declared.scene.Scene.{Scene}
@@ -221,12 +221,12 @@ pub record ShowsChannel (setup : Setup) (pass : ℕ) (tables : List (List ℕ)) 
   pub few : channel < 3
   pub shown : AreAsTheyAre setup tables which channel
 
--- the next row was taken, and the bytes of one channel of `count` of its places from `first` on were put
-pub record PutsChannel (s : SourceState) (which : SampleBytes) (channel first count : ℕ) (t : SourceState) (line : List ℕ) : Type 0 where
+-- the next row was taken, and these bytes of one channel of `count` of its places were put
+pub record PutsChannel (s : SourceState) (of : ChannelBytes) (count : ℕ) (t : SourceState) (line : List ℕ) : Type 0 where
   pub more : s.given < s.page.height
   pub after : t ≡ record s { given = s.given + 1 }
-  pub here : s.steady ≡ true → (j : ℕ) → j < bytes_in which * count
-      → slice_index line j ≡ sample_byte which (λ x. page_sample_at s.page (first + x) s.given channel) j
+  pub here : s.steady ≡ true → (j : ℕ) → j < bytes_in of.which * count
+      → slice_index line j ≡ sample_byte of.which (λ x. page_sample_at s.page (of.first + x) s.given of.channel) j
 
 -- **black bytes (`black`, `black_in`, `blacks_in`)**: one for an entry of a gamma table that is black at depth 1, which is
 -- one below 128, and zero for any other; of eight bytes a byte, the leftmost as its most significant bit, with zeros behind

@@ -127,7 +127,8 @@ fn put_channel_bytes<S: ByteRows>(
     requires channel { channel < 3 }
     requires within { first + count ≤ (S.source source.old).page.width }
     requires room { bytes_in which * count ≤ length line.old }
-    ensures put { result ≡ Ok true → PutsChannel (S.source source.old) which channel first count
+    ensures put { result ≡ Ok true → PutsChannel (S.source source.old)
+        (record { which = which; channel = channel; first = first }) count
         (S.source source.new) line.new }
     ensures none { result ≡ Ok false → (S.source source.new ≡ S.source source.old)
         × (line.new ≡ line.old) }

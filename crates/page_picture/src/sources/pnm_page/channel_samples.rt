@@ -37,7 +37,7 @@ impl<R: Rereadable> PnmPage<R> {
         requires whole { length bytes.old % bytes_in which ≡ 0 }
         requires inside { bytes_in which * first + length bytes.old
             ≤ bytes_in which * self.old.shown.page.width }
-        ensures bytes { GivesChannel which channel first
+        ensures bytes { GivesChannel (record { which = which; channel = channel; first = first })
             (record { source = self.old.shown; bytes = bytes.old }) result
             (record { source = self.new.shown; bytes = bytes.new }) }
         ensures lost { LosesRows result self.new }

@@ -1,6 +1,7 @@
 use Rattle.std.proofs.Common.{◌≡◌, ◌*◌, rules, refl, sym, ap, length, drop, ◌++◌, subst}
 use Rattle.sane_fixed.specs.declared.frame_format.FrameFormat.TheVariants.{Rgb as RgbFrame}
 use Rattle.scan_frames.specs.Inside.{MakesOfRow, PutsChannel, PutsGrayBits}
+use Rattle.page_picture.specs.Source.{ChannelBytes}
 use Rattle.scan_frames.specs.Frames.{format_at}
 use Rattle.scan_frames.proofs.ByteRows.{bits_made, channel_made, color_made, gray_made}
 use Rattle.scan_frames.proofs.Lines.{gray_format}
@@ -51,6 +52,7 @@ returns-in-Some-channel_shown-clause-made g c = λ made.
     let first = c.in-Some.first in
     let which = c.in-Some-channel_shown.which in
     let channel = c.in-Some-channel_shown.channel in
-    let put : PutsChannel s which channel first columns.count t line = subst (λ n. PutsChannel s which channel first n t line) c.places-count.ensures.size (c.put_channel_bytes.ensures.put made) in
+    let of : ChannelBytes = record { which = which; channel = channel; first = first } in
+    let put : PutsChannel s of columns.count t line = subst (λ n. PutsChannel s of n t line) c.places-count.ensures.size (c.put_channel_bytes.ensures.put made) in
     channel_made s t setup c.args.pass c.args.tables.now which channel first columns line c.in-Some-channel_shown.ensures c.requires.tables
     c.requires.columns (search rules) (search rules) c.in-Some.ensures.each (search rules) (λ i. (c.type_inv.line i).fits) (search rules) put
