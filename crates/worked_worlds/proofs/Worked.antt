@@ -32,17 +32,17 @@ use Rattle.scan_world.specs.Worlds.{WorldCore}
 use Rattle.world_refines.specs.GhostStates.{backend_of, is_allowed_for, is_guarded}
 use Rattle.world_contract.specs.Calls.{IsJobAt, KeepsPage, KeepsRunning, finished_at, outcome_at, starved_at}
 use Rattle.world_contract.specs.Clear.{AllAreListed}
-use Rattle.world_contract.specs.Endings.{AnswerIsExplained, HadNoPage, HasPassed, IsUnforced, NamesStatus, WasDisallowed, WasUnlisted}
+use Rattle.world_contract.specs.Endings.{AnswerIsExplained, HadNoPage, HasPassed, IsEndingExplained, NamesStatus}
+use Rattle.world_contract.specs.Sessions.{Asked, IsAtOpen}
 use Rattle.world_contract.specs.Histories.{History, LedTo, and_then, begun}
-use Rattle.world_contract.specs.Page.{CameFor, IsScan, IsSteady, Settled}
-use Rattle.world_contract.specs.Page.CameFor.{AtFirst, WithEvent}
-use Rattle.world_contract.specs.Promise.{JobHasEnded, JobIsDone, PageIsKept}
+use Rattle.world_contract.specs.Page.{CameInTime, IsScan, IsSteady, Settled}
+use Rattle.world_contract.specs.Page.CameInTime.{FromFirst, AsItRan}
+use Rattle.world_contract.specs.Promise.{JobIsDone}
 use Rattle.world_contract.specs.Reports.{AreOptionsShown}
 use Rattle.world_contract.specs.Settings.{AreSettingsPut}
-use Rattle.world_contract.proofs.Clear.{in_list}
-use Rattle.world_contract.proofs.Lists.{In, all_then}
+use Rattle.world_contract.proofs.Lists.{In, in_list, in_split}
 use Rattle.world_contract.proofs.NextMoves.{LoadsNothing, quiet_moves}
-use Rattle.worked_worlds.specs.Worked.{AreScans, DoneFrom, LedFrom, ListsAll, ShowsOptions, WasPassed, feeder_with, flatbed_with, memory_source}
+use Rattle.worked_worlds.specs.Worked.{AreScans, DoneFrom, LedFrom, ListsAll, IsDisallowed, IsUnlisted, ShowsOptions, WasPassed, feeder_with, flatbed_with, memory_source}
 
 -- ---- where the world came from
 
@@ -162,11 +162,11 @@ unfolding defaults
 told_none k = refl
 
 abbrev pub SaysAnswered : WorldCore → Status → Type 0
-SaysAnswered w status = (h : History) (job : Job) → IsJobAt h w 0 job → JobHasEnded h w 0 job (starved_at w 0) status Answer
+SaysAnswered w status = (h : History) (job : Job) → IsJobAt h w 0 job → IsEndingExplained h w 0 job (starved_at w 0) status Answer
 
 -- what the answer comes from, where the job has no settings, since then its options name no status
 answered : (k : DeviceKind) (name : List ℕ) (sources : List SourceState) (users : List Entry) (job : Job) (new : WorldCore) (status : Status) (c : Came (new_device k name sources Little ∷ []) users job new) → SaysAnswered new status → job.settings.items ≡ [] → AnswerIsExplained (history_of (new_device k name sources Little ∷ []) users job new c) new 0 job status
-answered k name sources users job new status c told none = by_case (told h job (at_there (new_device k name sources Little ∷ []) users job new c)).caused
+answered k name sources users job new status c told none = by_case (told h job (at_there (new_device k name sources Little ∷ []) users job new c))
   where
     h : History
     h = history_of (new_device k name sources Little ∷ []) users job new c
@@ -180,7 +180,7 @@ answered k name sources users job new status c told none = by_case (told h job (
     by_case (inl (other, named)) = absurd (unnamed named)
     by_case (inr explained) = explained
 
-pub was_disallowed : (name : List ℕ) (page : PageView) (users : List Entry) (job : Job) (new : WorldCore) → Moved (flatbed_with name page ∷ []) users job new → SaysAnswered new statuses.AccessDenied → job.settings.items ≡ [] → (from : LedFrom (flatbed_with name page ∷ []) users job) × WasDisallowed from.history from.world 0 job
+pub was_disallowed : (name : List ℕ) (page : PageView) (users : List Entry) (job : Job) (new : WorldCore) → Moved (flatbed_with name page ∷ []) users job new → SaysAnswered new statuses.AccessDenied → job.settings.items ≡ [] → (from : LedFrom (flatbed_with name page ∷ []) users job) × IsDisallowed from.history from.world 0 job
 was_disallowed name page users job new m told none = (led_from (flatbed_with name page ∷ []) users job new m.came, answered Flatbed name (memory_source page ∷ []) users job new statuses.AccessDenied m.came told none)
 
 pub had_no_page : (name : List ℕ) (pages : List PageView) (users : List Entry) (job : Job) (new : WorldCore) → Moved (feeder_with name pages ∷ []) users job new → SaysAnswered new statuses.NoDocs → job.settings.items ≡ [] → (from : LedFrom (feeder_with name pages ∷ []) users job) × HadNoPage from.history from.world 0 job 0
@@ -190,22 +190,22 @@ at_defaults : (name : List ℕ) (page : PageView) (job : Job) → job.settings.i
 unfolding defaults
 at_defaults name page job none = subst (λ (items : List (List ℕ × List ℕ)). AreSettingsPut (defaults Flatbed Little) items [] (defaults Flatbed Little)) (sym none) refl
 
-page_is : (name : List ℕ) (page : PageView) (users : List Entry) (job : Job) (new : WorldCore) (c : Came (flatbed_with name page ∷ []) users job new) (held : HeldPage) → CameFor (history_of (flatbed_with name page ∷ []) users job new c) job.device held → held_from (memory_source page) ≡ held
-page_is name page users job new c held (AtFirst device there named among) =
+page_is : (name : List ℕ) (page : PageView) (users : List Entry) (job : Job) (new : WorldCore) (c : Came (flatbed_with name page ∷ []) users job new) (held : HeldPage) → CameInTime (history_of (flatbed_with name page ∷ []) users job new c) new 0 job.device held → held_from (memory_source page) ≡ held
+page_is name page users job new c held (FromFirst device there named among) =
     let same : flatbed_with name page ≡ device = only_one (flatbed_with name page) device there in
     only_one (held_from (memory_source page)) held (subst (λ (d : DeviceState). Contains d.pages held) (sym same) among)
-page_is name page users job new c held (WithEvent laid there is) = absurd (c.unladen job.device laid (in_list c.events (Load job.device laid) there))
+page_is name page users job new c held (AsItRan laid at ran is) = absurd (c.unladen job.device laid (in_list c.events (Load job.device laid) (in_split c.events at.front at.back (Load job.device laid) at.split)))
 
-pub was_unlisted : (name : List ℕ) (page : PageView) (users : List Entry) (job : Job) (new : WorldCore) → Came (flatbed_with name page ∷ []) users job new → SaysAnswered new statuses.Inval → job.settings.items ≡ [] → job.device ≡ name → meaning_of page (defaults Flatbed Little).scene ≢ None → (from : LedFrom (flatbed_with name page ∷ []) users job) × WasUnlisted from.history from.world 0 job
+pub was_unlisted : (name : List ℕ) (page : PageView) (users : List Entry) (job : Job) (new : WorldCore) → Came (flatbed_with name page ∷ []) users job new → SaysAnswered new statuses.Inval → job.settings.items ≡ [] → job.device ≡ name → meaning_of page (defaults Flatbed Little).scene ≢ None → (from : LedFrom (flatbed_with name page ∷ []) users job) × IsUnlisted from.history from.world 0 job
 was_unlisted name page users job new c told none named meant = (led_from (flatbed_with name page ∷ []) users job new c, by_case (answered Flatbed name (memory_source page ∷ []) users job new statuses.Inval c told none))
   where
     h : History
     h = history_of (flatbed_with name page ∷ []) users job new c
 
-    by_case : AnswerIsExplained h new 0 job statuses.Inval → WasUnlisted h new 0 job
-    by_case (inl unforced) = absurd (unforced (flatbed_with name page) (0, omega arith, refl) (sym named) [] (defaults Flatbed Little) (at_defaults name page job none))
-    by_case (inr (inl unlisted)) = unlisted
-    by_case (inr (inr n)) =
+    by_case : AnswerIsExplained h new 0 job statuses.Inval → IsUnlisted h new 0 job
+    by_case (inl unforced) = absurd (unforced (record { device = flatbed_with name page; is_there = (0, omega arith, refl); named = sym named; setup = defaults Flatbed Little; placed = []; in_force = at_defaults name page job none }))
+    by_case (inr (inr unlisted)) = unlisted
+    by_case (inr (inl n)) =
         let setup = put_none (defaults Flatbed Little) n.settled.setup job.settings.items n.settled.placed none (settled_on Flatbed name (memory_source page ∷ []) users job new c n.settled) in
         let held = page_is name page users job new c n.held n.came in
         absurd (meant (ap (λ (x : HeldPage). meaning_of x.page (defaults Flatbed Little).scene) held ∙ (ap (λ (x : Setup). meaning_of n.held.page x.scene) (sym setup) ∙ n.none)))
@@ -217,11 +217,11 @@ steady_in [] held among = absurd among
 steady_in (page ∷ pages) held (inl same) = ap (λ (x : HeldPage). x.steady) same
 steady_in (page ∷ pages) held (inr among) = steady_in pages held among
 
-steady_tray : (name : List ℕ) (pages : List PageView) (users : List Entry) (job : Job) (new : WorldCore) (c : Came (feeder_with name pages ∷ []) users job new) → IsSteady (history_of (feeder_with name pages ∷ []) users job new c) job.device
-steady_tray name pages users job new c held (AtFirst device there named among) =
+steady_tray : (name : List ℕ) (pages : List PageView) (users : List Entry) (job : Job) (new : WorldCore) (c : Came (feeder_with name pages ∷ []) users job new) → IsSteady (history_of (feeder_with name pages ∷ []) users job new c) new 0 job.device
+steady_tray name pages users job new c held (FromFirst device there named among) =
     let same : feeder_with name pages ≡ device = only_one (feeder_with name pages) device there in
     steady_in pages held (in_list (map held_from (map memory_source pages)) held (subst (λ (d : DeviceState). Contains d.pages held) (sym same) among))
-steady_tray name pages users job new c held (WithEvent laid there is) = absurd (c.unladen job.device laid (in_list c.events (Load job.device laid) there))
+steady_tray name pages users job new c held (AsItRan laid at ran is) = absurd (c.unladen job.device laid (in_list c.events (Load job.device laid) (in_split c.events at.front at.back (Load job.device laid) at.split)))
 
 pub are_scans : (name : List ℕ) (pages : List PageView) (users : List Entry) (job : Job) (new : WorldCore) (first second : List ℕ) → Moved (feeder_with name pages ∷ []) users job new → KeepsPage new 0 1 (Some first) → KeepsPage new 0 2 (Some second) → AreScans (feeder_with name pages ∷ []) users job first second
 are_scans name pages users job new first second m one two =

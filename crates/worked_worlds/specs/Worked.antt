@@ -1,5 +1,5 @@
 -- What the worked worlds come to: each of one device and one job, and a definition of the promise that is met there.
-use Rattle.std.specs.Prelude.{ℕ, ◌≡◌, true, false, Some, List, [], ◌∷◌, map}
+use Rattle.std.specs.Prelude.{ℕ, ◌≡◌, true, false, Some, None, List, [], ◌∷◌, map}
 use Rattle.sane_fixed.specs.declared.byte_order.ByteOrder.TheVariants.{Little}
 use Rattle.sane_fixed.specs.declared.device_info.DeviceInfo.{DeviceInfo}
 use Rattle.md5_auth.specs.ChallengeReading.{challenge_of}
@@ -14,6 +14,7 @@ use Rattle.scan_frames.specs.declared.setup.Setup.{Setup}
 use Rattle.device_api.specs.InForce.{Placement}
 use Rattle.device_api.specs.State.{DeviceState}
 use Rattle.device_api.specs.Values.{defaults}
+use Rattle.dispatch.specs.Table.{find_name}
 use Rattle.virtual_scanner.specs.New.{new_device, new_scanner}
 use Rattle.scan_job.specs.declared.job.Job.{Job}
 use Rattle.scan_job.specs.declared.outcome.Outcome.TheVariants.{Done}
@@ -22,15 +23,17 @@ use Rattle.scan_world.specs.Worlds.{WorldCore}
 use Rattle.world_refines.specs.GhostStates.{backend_of, is_allowed_for, is_guarded}
 use Rattle.world_contract.specs.Calls.{outcome_at}
 use Rattle.world_contract.specs.Histories.{History, LedTo}
+use Rattle.world_contract.specs.Endings.{HasPassed}
 use Rattle.world_contract.specs.Page.{IsScan}
 use Rattle.world_contract.specs.Promise.{JobIsDone}
 use Rattle.world_contract.specs.Reports.{AreOptionsShown}
+use Rattle.world_contract.specs.Sessions.{Asked, IsAtOpen}
 use Rattle.world_contract.specs.Settings.{AreSettingsPut}
 
 -- ---- the devices
 
 -- **worked worlds (`memory_source`, `flatbed_with`, `feeder_with`, `LedFrom`, `DoneFrom`, `ListsAll`, `ShowsOptions`, `WasPassed`,
--- `AreScans`)**: a flatbed with a page in memory, and a feeder with some; a history of these devices, users and one job, and a world
+-- `IsUnlisted`, `IsDisallowed`, `AreScans`)**: a flatbed with a page in memory, and a feeder with some; a history of these devices, users and one job, and a world
 -- to which it led; that the job is done there, and right; a list of all devices; a show of a flatbed's options; that the password
 -- was allowed for a challenge; the files of a batch's first two pages.
 --
@@ -81,6 +84,14 @@ WasPassed devices users job =
     DoneFrom devices users job
     × (is_guarded users (backend_of job.device) ≡ true
     → (sent : List ℕ) × (is_allowed_for users job.user job.password (backend_of job.device) (challenge_of sent) ≡ true))
+
+-- as it asked for its device, none of the name was listed
+abbrev pub IsUnlisted : History → WorldCore → ℕ → Job → Type 0
+IsUnlisted h w i job = (asked : Asked h w i IsAtOpen) × (find_name job.device asked.at.before.daemon.registry ≡ None)
+
+-- its user and password were not allowed for the challenge that was sent
+abbrev pub IsDisallowed : History → WorldCore → ℕ → Job → Type 0
+IsDisallowed h w i job = (asked : Asked h w i IsAtOpen) × HasPassed h asked.at.before i job false
 
 -- the files of its first two pages are scans of that job, the second one as one page was finished
 abbrev pub AreScans : List DeviceState → List Entry → Job → List ℕ → List ℕ → Type 0

@@ -9,7 +9,8 @@ ghost use Rattle.scan_job.specs.declared.report.Reports.{Reports};
 ghost use Rattle.scan_world.specs.Worlds.{seen_world};
 ghost use Rattle.world_contract.specs.Calls.{IsJobAt, outcome_at, starved_at};
 ghost use Rattle.world_contract.specs.Histories.{History};
-ghost use Rattle.world_contract.specs.Promise.{JobHasEnded, JobIsDone};
+ghost use Rattle.world_contract.specs.Endings.{IsEndingExplained};
+ghost use Rattle.world_contract.specs.Promise.{JobIsDone};
 
 use device_api::Device;
 use net_backend::{Outcome, Why};
@@ -32,7 +33,7 @@ pub(crate) fn is_done(world: &World) -> bool
 pub(crate) fn was_answered(world: &World, status: Status) -> bool
     ensures { let w = seen_world ⟦<Box<dyn Device> as Device>⟧.state world.now.inner in
         result ≡ true → (h : History) (job : Job) → IsJobAt h w 0 job
-        → JobHasEnded h w 0 job (starved_at w 0) status Answer }
+        → IsEndingExplained h w 0 job (starved_at w 0) status Answer }
 {
     match world.outcome(0) {
         Some(Outcome::Ended(told, Why::Answer)) => *told == status,

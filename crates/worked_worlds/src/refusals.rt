@@ -6,8 +6,7 @@ ghost use Rattle.page_picture.specs.declared.scene.DeviceKind.TheVariants.{Flatb
 ghost use Rattle.device_api.specs.Values.{defaults};
 ghost use Rattle.sane_fixed.specs.declared.byte_order.ByteOrder.TheVariants.{Little};
 ghost use Rattle.scan_world.specs.declared.event.Event.TheVariants.{Unplug};
-ghost use Rattle.world_contract.specs.Endings.{WasDisallowed, WasUnlisted};
-ghost use Rattle.worked_worlds.specs.Worked.{LedFrom, flatbed_with};
+ghost use Rattle.worked_worlds.specs.Worked.{IsDisallowed, IsUnlisted, LedFrom, flatbed_with};
 
 use crate::ends::was_answered;
 use crate::worlds::{flatbed_on, one_box, world_of};
@@ -29,7 +28,7 @@ pub fn scan_with_wrong_password(
     /// A job without settings that is answered ACCESS_DENIED was one that the users do not allow, for the challenge that was sent.
     ensures { result ≡ true → job.settings.items ≡ []
         → (from : LedFrom (flatbed_with name page ∷ []) users job)
-        × WasDisallowed from.history from.world 0 job }
+        × IsDisallowed from.history from.world 0 job }
 {
     let Some(flatbed) = flatbed_on(alloc, name, page) else {
         return false;
@@ -72,7 +71,7 @@ pub fn scan_of_taken_out(
     ensures { result ≡ true → job.settings.items ≡ [] → job.device ≡ name
         → meaning_of page (defaults Flatbed Little).scene ≢ None
         → (from : LedFrom (flatbed_with name page ∷ []) users job)
-        × WasUnlisted from.history from.world 0 job }
+        × IsUnlisted from.history from.world 0 job }
 {
     let Some(flatbed) = flatbed_on(alloc, name, page) else {
         return false;

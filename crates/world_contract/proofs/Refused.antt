@@ -55,8 +55,8 @@ inval h w i job starved nothing forced listed meant = by_answer h w i job status
   where
     by_case : AnswerIsExplained h w i job statuses.Inval → ⊥
     by_case (inl unforced) = forced unforced
-    by_case (inr (inl (asked, none))) = listed asked.n asked.at none
-    by_case (inr (inr none)) = meant none.asked.n none.asked.at none.device none.has (ap (λ (x : PageView). meaning_of x none.device.setup.scene) (sym none.first) ∙ (ap (λ (x : Setup). meaning_of none.held.page x.scene) (sym none.options) ∙ none.none))
+    by_case (inr (inr (asked, none))) = listed asked.n asked.at none
+    by_case (inr (inl none)) = meant none.asked.n none.asked.at none.device none.has (ap (λ (x : PageView). meaning_of x none.device.setup.scene) (sym none.first) ∙ (ap (λ (x : Setup). meaning_of none.held.page x.scene) (sym none.options) ∙ none.none))
 
 pub denied : DeniedIsNoLie
 denied h w i job starved nothing right = by_answer h w i job statuses.AccessDenied nothing (λ (asked, d). (let clash : true ≡ false = sym (right d.sent.resource) ∙ d.is in cc))
