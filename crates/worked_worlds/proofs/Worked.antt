@@ -34,7 +34,7 @@ use Rattle.world_contract.specs.Calls.{IsJobAt, KeepsPage, KeepsRunning, finishe
 use Rattle.world_contract.specs.Clear.{AllAreListed}
 use Rattle.world_contract.specs.Endings.{AnswerIsExplained, HadNoPage, HasPassed, IsEndingExplained, NamesStatus}
 use Rattle.world_contract.specs.Sessions.{Asked, IsAtOpen}
-use Rattle.world_contract.specs.Histories.{History, LedTo, and_then, begun}
+use Rattle.world_contract.specs.Histories.{History, LedTo, and_then, begun, history_up_to}
 use Rattle.world_contract.specs.Page.{CameInTime, IsScan, IsSteady, Settled}
 use Rattle.world_contract.specs.Page.CameInTime.{FromFirst, AsItRan}
 use Rattle.world_contract.specs.Promise.{JobIsDone}
@@ -110,12 +110,22 @@ done_from devices users job new c told =
 
 -- ---- a list
 
+in_front : (xs ys : List Event) (e : Event) → In e xs → In e (xs ++ ys)
+in_front [] ys e among = absurd among
+in_front (x ∷ xs) ys e (inl same) = inl same
+in_front (x ∷ xs) ys e (inr among) = inr (in_front xs ys e among)
+
 pub lists_all : AllAreListed → (devices : List DeviceState) (users : List Entry) (job : Job) (new : WorldCore) → Moved devices users job new → SaysDone new → job.task ≡ tasks.List → ListsAll devices users job
 lists_all all devices users job new m told list =
     let h = history_of devices users job new m.came in
     let d = told h job (at_there devices users job new m.came) in
     let l = d.2.listed list in
-    (done_from devices users job new m.came told, l.1 ∙ all h new 0 job (at_there devices users job new m.came) _ l.0.at (λ name among. m.whole name (in_list m.came.events (Unplug name) among)))
+    let at = l.0.at in
+    let here : IsJobAt (history_up_to h at.front) at.before 0 job = record { led = at.led_before; job_at = refl } in (
+      done_from devices users job new m.came told,
+      l.1 ∙ all (history_up_to h at.front) at.before 0 job here (λ name among.
+          m.whole name (subst (λ (es : List Event). In (Unplug name) es) (sym at.split) (in_front at.front (_ ∷ at.back) (Unplug name) (in_list at.front (Unplug name) among)))),
+    )
 
 -- ---- the device and its options
 

@@ -3,11 +3,15 @@
 #![tactic(auto)]
 
 mod ends;
-mod refusals;
-mod reports;
+mod lists;
+mod passwords;
+mod shows;
+mod taken;
 mod tray;
 mod worlds;
 
-pub use refusals::{scan_of_taken_out, scan_with_wrong_password};
-pub use reports::{list_both, scan_with_password, show_options};
+pub use lists::list_both;
+pub use passwords::{scan_with_password, scan_with_wrong_password};
+pub use shows::show_options;
+pub use taken::scan_of_taken_out;
 pub use tray::{scan_no_page, scan_pages};

@@ -7,7 +7,7 @@ use Rattle.sane_fixed.specs.declared.status.Status.{Status}
 use Rattle.sane_fixed.specs.declared.status.Status.TheVariants as statuses
 use Rattle.device_api.specs.State.{DeviceState, HeldPage, is_infallible}
 use Rattle.saned_core.specs.DaemonStates.{Core}
-use Rattle.client_replies.specs.ProtocolStates.{is_running}
+use Rattle.client_replies.specs.ProtocolStates.{is_running, scans}
 use Rattle.scan_job.specs.declared.job.Job.{Job}
 use Rattle.scan_job.specs.declared.outcome.Outcome.{Outcome}
 use Rattle.scan_job.specs.declared.outcome.Outcome.TheVariants.{Running, Done, Ended}
@@ -122,13 +122,13 @@ unlisted_not below h es v i job led old clear among = elim (old (Unplug job.devi
 clear_of : {Q : ℕ → Type 0} → (below : Below) (h : History) (es : List Event) (v : WorldCore) (i : ℕ) (job : Job) (led : LedTo (history_up_to h es) v) (clear : IsClear h i job Q) (d : DeviceState) → Has v i job.device d → IsOf (history_up_to h es) clear.device d
 clear_of below h es v i job led clear d has = is_of below (history_up_to h es) v job led clear.device clear.is_there i d (subst (λ (n : List ℕ). Has v i n d) (sym clear.named) has)
 
-paged : {Q : ℕ → Type 0} → Below → (h : History) (es : List Event) (v : WorldCore) (i : ℕ) (job : Job) → LedTo (history_up_to h es) v → IsClear h i job Q → (d : DeviceState) → Has v i job.device d → d.pages ≡ [] → ⊥
-paged below h es v i job led clear d has none = some_page (history_up_to h es) clear.device d (clear_of below h es v i job led clear d has) clear.plain none
+paged : {Q : ℕ → Type 0} → Below → (h : History) (es : List Event) (v : WorldCore) (i : ℕ) (job : Job) → LedTo (history_up_to h es) v → IsClear h i job Q → scans job.task ≡ true → (d : DeviceState) → Has v i job.device d → d.pages ≡ [] → ⊥
+paged below h es v i job led clear scanning d has none = some_page (history_up_to h es) clear.device d (clear_of below h es v i job led clear d has) (clear.plain scanning) none
 
-firm : {Q : ℕ → Type 0} → Below → (h : History) (es : List Event) (v x : WorldCore) (i : ℕ) (job : Job) → LedTo (history_up_to h es) v → AreOld h es → IsClear h i job Q → DeviceFailed v x i job.device → ⊥
-firm below h es v x i job led old clear failed =
-    let sure : is_infallible failed.device ≡ true = firm_here (history_up_to h es) clear.device failed.device (clear_of below h es v i job led clear failed.device failed.has) clear.plain
-    (λ held came. clear.firm held (subst (λ (n : List ℕ). CameFor h n held) clear.named (came_back h es old clear.device.info.name held came))) in
+firm : {Q : ℕ → Type 0} → Below → (h : History) (es : List Event) (v x : WorldCore) (i : ℕ) (job : Job) → LedTo (history_up_to h es) v → AreOld h es → IsClear h i job Q → scans job.task ≡ true → DeviceFailed v x i job.device → ⊥
+firm below h es v x i job led old clear scanning failed =
+    let sure : is_infallible failed.device ≡ true = firm_here (history_up_to h es) clear.device failed.device (clear_of below h es v i job led clear failed.device failed.has) (clear.plain scanning)
+    (λ held came. clear.firm scanning held (subst (λ (n : List ℕ). CameFor h n held) clear.named (came_back h es old clear.device.info.name held came))) in
     let clash : true ≡ false = sym sure ∙ failed.stopped.can_fail in cc
 
 -- ---- what the daemon answers
@@ -155,15 +155,15 @@ answered below h ms v i job quiet clear statuses.Inval (inr (inl none)) =
       | inl here ↦ inr here
       | inr there ↦ inl (quiet_in ms e quiet there)
     ] in
-    absurd (clear.meant (settled_back h (h.events ++ ms) job none.settled) none.held (came_back h (h.events ++ ms) old job.device none.held (came_ever (and_then h ms) v i job.device none.held none.came)) none.none)
+    absurd (clear.meant none.scanning (settled_back h (h.events ++ ms) job none.settled) none.held (came_back h (h.events ++ ms) old job.device none.held (came_ever (and_then h ms) v i job.device none.held none.came)) none.none)
 answered below h ms v i job quiet clear statuses.Eof x = absurd x
 answered below h ms v i job quiet clear statuses.Jammed x = absurd x
-answered below h ms v i job quiet clear statuses.NoDocs (asked, finished, (d, has, none)) = absurd (paged below h asked.at.front asked.at.before i job asked.at.led_before clear d has none)
+answered below h ms v i job quiet clear statuses.NoDocs (scanning, asked, finished, (d, has, none)) = absurd (paged below h asked.at.front asked.at.before i job asked.at.led_before clear scanning d has none)
 answered below h ms v i job quiet clear statuses.CoverOpen x = absurd x
-answered below h ms v i job quiet clear statuses.IoError (inl (asked, failed)) =
-    absurd (firm below h asked.at.front asked.at.before asked.at.behind i job asked.at.led_before (old_events h ms asked.at.front asked.at.back _ quiet asked.at.split) clear failed)
-answered below h ms v i job quiet clear statuses.IoError (inr (turn, failed, sent)) =
-    absurd (firm below h turn.0.front turn.0.before turn.0.behind i job turn.0.led_before (old_events h ms turn.0.front turn.0.back _ quiet turn.0.split) clear failed)
+answered below h ms v i job quiet clear statuses.IoError (scanning, inl (asked, failed)) =
+    absurd (firm below h asked.at.front asked.at.before asked.at.behind i job asked.at.led_before (old_events h ms asked.at.front asked.at.back _ quiet asked.at.split) clear scanning failed)
+answered below h ms v i job quiet clear statuses.IoError (scanning, inr (turn, failed, sent)) =
+    absurd (firm below h turn.0.front turn.0.before turn.0.behind i job turn.0.led_before (old_events h ms turn.0.front turn.0.back _ quiet turn.0.split) clear scanning failed)
 answered below h ms v i job quiet clear statuses.NoMem x = absurd x
 answered below h ms v i job quiet clear statuses.AccessDenied (asked, judged) = absurd (let clash : true ≡ false = sym (clear.allowed judged.sent.resource judged.guarded) ∙ judged.is in cc)
 

@@ -2,6 +2,7 @@
 -- came as it ran.
 use Rattle.std.specs.Prelude.{◌≢◌, Contains, IsSome, option_map, option_and_then, slice_get, slice_set}
 use Rattle.std.proofs.Common.{◌≡◌, ◌∙◌, ◌⊎◌, ℕ, List, [], ◌∷◌, ◌++◌, Bool, true, false, Option, Some, None, inl, inr, refl, sym, ap, subst, append_assoc}
+use Rattle.page_picture.specs.Page.{PageView}
 use Rattle.page_picture.specs.SourceView.{source_state}
 use Rattle.page_picture.specs.declared.sources.kinds.Source.{Source}
 use Rattle.sane_fixed.specs.declared.status.Status.{Status}
@@ -159,7 +160,7 @@ came_on h w i u name held (WithEvent source among is) = let m = u.came name sour
 pub steady_on : (h : History) (w : WorldCore) (i : ℕ) (u : Until h w i) (name : List ℕ) → IsSteady h w i name → IsSteadyEver (history_up_to h u.front) name
 steady_on h w i u name steady held came = steady held (came_on h w i u name held came)
 
-started_on : (h : History) (w : WorldCore) (i : ℕ) (u : Until h w i) (job : Job) (count : ℕ) (page : _) → StartedOn (history_up_to h u.front) u.at i job count page → StartedOn h w i job count page
+started_on : (h : History) (w : WorldCore) (i : ℕ) (u : Until h w i) (job : Job) (count : ℕ) (page : PageView) → StartedOn (history_up_to h u.front) u.at i job count page → StartedOn h w i job count page
 started_on h w i u job count page s = record { asked = asked_on h w i u _ s.asked; finished = s.finished; device = s.device; has = s.has; rests = s.rests; first = s.first }
 
 pub scan_on : (h : History) (w : WorldCore) (i : ℕ) (u : Until h w i) (job : Job) (count : ℕ) (file : List ℕ) → IsScanEver (history_up_to h u.front) u.at i job count file → IsScan h w i job count file
@@ -175,6 +176,7 @@ scan_on h w i u job count file s = record {
 
 picture_on : (h : History) (w : WorldCore) (i : ℕ) (u : Until h w i) (job : Job) → HadNoPictureEver (history_up_to h u.front) u.at i job → HadNoPicture h w i job
 picture_on h w i u job n = record {
+  scanning = n.scanning;
   asked = asked_on h w i u _ n.asked;
   device = n.device;
   has = n.has;
@@ -248,7 +250,7 @@ lost_turn all h other u v i sent l run ran was none =
     let p = im.at.0 in
     let runs : p.client.outcome ≡ Running = ap (λ (q : Endpoint). q.client.outcome) (unsome p ran.0 (sym im.at.1 ∙ ran.1)) ∙ ran.2 in
     let on : IsUnderWay (t.system.job i).client.stage = subst (IsOutcome t i) runs (k.promises.outcomes i p im.at.1) in
-    let counts = counts_there t u i p k.run.stands im.at.1 on (ap some_is im.at.2) in
+    let counts = counts_there t u i p k.run.stands im.at.1 on (subst IsSome (sym im.at.2) refl) in
     first_runs (λ (y : WorldCore). outcome_at y i ≡ Some (Ended statuses.IoError whys.Lost)) (DataTurn i) [] u v run (λ x leads rest.
     let a = at_own i moves.DataTurn u x leads in
     let n = a.happens p im.at.1 in
@@ -260,10 +262,6 @@ lost_turn all h other u v i sent l run ran was none =
           ∙ lost_runs (is_lost_by links.Image p.client.outcome p.client.progress) p.client counts)
       | inr never ↦ absurd (gone im.image (ap (λ (q : Endpoint). q.image) (n.1.cannot never).1 ∙ im.at.2))
     ]))
-  where
-    some_is : Option Image → Bool
-    some_is None = false
-    some_is (Some image) = true
 
 sends_by : AllIsKept → (h : History) (other : Job) (w : WorldCore) (i : ℕ) (status : Status) (m : Moment h w (DataTurn i)) → RunsAt m.before i → outcome_at w i ≡ Some (Ended status whys.Answer) → SendsOrLoses m.before m.behind i → SendsFailure m.before m.behind i
 sends_by all h other w i status m ran ended (sent, was, inl now) =
@@ -276,9 +274,11 @@ sends_by all h other w i status m ran ended (sent, was, inr none) =
     absurd (let clash : ◌≡◌ {A = Option Outcome} (Some (Ended status whys.Answer)) (Some (Ended statuses.IoError whys.Lost)) = sym ended ∙ (stays ∙ lost) in cc)
 
 failed_on : AllIsKept → (h : History) (w : WorldCore) (i : ℕ) (u : Until h w i) (job : Job) (status : Status) → outcome_at u.at i ≡ Some (Ended status whys.Answer) → MayHaveFailed (history_up_to h u.front) u.at i job → HadFailed h w i job
-failed_on all h w i u job status ended (inl (asked, failed)) = inl (asked_on h w i u _ asked, device_failed asked.at.before asked.at.behind i job.device failed)
-failed_on all h w i u job status ended (inr (turn, failed, sent)) =
-    inr (happened_on h w i u (DataTurn i) turn, device_failed turn.0.before turn.0.behind i job.device failed, sends_by all (history_up_to h u.front) job u.at i status turn.0 turn.1.0 ended sent)
+failed_on all h w i u job status ended (scanning, inl (asked, failed)) = (scanning, inl (asked_on h w i u _ asked, device_failed asked.at.before asked.at.behind i job.device failed))
+failed_on all h w i u job status ended (scanning, inr (turn, failed, sent)) = (
+  scanning,
+  inr (happened_on h w i u (DataTurn i) turn, device_failed turn.0.before turn.0.behind i job.device failed, sends_by all (history_up_to h u.front) job u.at i status turn.0 turn.1.0 ended sent),
+)
 
 -- ---- the table
 
@@ -292,7 +292,7 @@ answer_on all h w i u job said ended statuses.Inval (inr (inl (asked, none))) = 
 answer_on all h w i u job said ended statuses.Inval (inr (inr n)) = inr (inl (picture_on h w i u job n))
 answer_on all h w i u job said ended statuses.Eof x = x
 answer_on all h w i u job said ended statuses.Jammed x = x
-answer_on all h w i u job said ended statuses.NoDocs (asked, behind, d, has, none) = (asked_on h w i u _ asked, behind, d, has, none)
+answer_on all h w i u job said ended statuses.NoDocs (scanning, asked, behind, none) = (scanning, asked_on h w i u _ asked, behind, none)
 answer_on all h w i u job said ended statuses.CoverOpen x = x
 answer_on all h w i u job said ended statuses.IoError x = failed_on all h w i u job said ended x
 answer_on all h w i u job said ended statuses.NoMem x = x

@@ -11,6 +11,7 @@ use Rattle.data_records.specs.Records.{end_record}
 use Rattle.page_picture.specs.Meaning.{meaning_of}
 use Rattle.device_api.specs.State.{DeviceState, HeldPage, page_of}
 use Rattle.dispatch.specs.Table.{find_name}
+use Rattle.client_replies.specs.ProtocolStates.{scans}
 use Rattle.client_replies.specs.declared.progress.Progress.{Progress}
 use Rattle.scan_job.specs.declared.job.Job.{Job}
 use Rattle.scan_job.specs.declared.outcome.Why.{Why}
@@ -70,6 +71,7 @@ abbrev pub WasDisallowed : History → WorldCore → ℕ → Job → Type 0
 WasDisallowed h w i job = (asked : Asked h w i IsAtOpen) × HasPassed h asked.at.before i job false
 
 pub record HadNoPictureEver (h : History) (w : WorldCore) (i : ℕ) (job : Job) : Type 0 where
+  pub scanning : scans job.task ≡ true
   pub asked : Asked h w i IsAtStart
   pub device : DeviceState
   pub has : Has asked.at.before i job.device device
@@ -91,10 +93,10 @@ SendsOrLoses before behind i =
     × ((image_at behind i ≡ Some (sent ++ end_record (status_code IoError))) ⊎ (image_at behind i ≡ None))
 
 abbrev pub MayHaveFailed : History → WorldCore → ℕ → Job → Type 0
-MayHaveFailed h w i job =
-    ((asked : Asked h w i IsAtStart) × FailedIn asked.at.before asked.at.behind.daemon i job.device)
+MayHaveFailed h w i job = (scans job.task ≡ true)
+    × (((asked : Asked h w i IsAtStart) × FailedIn asked.at.before asked.at.behind.daemon i job.device)
     ⊎ ((turn : Happened h w i (DataTurn i)) × FailedIn turn.0.before turn.0.behind.daemon i job.device
-    × SendsOrLoses turn.0.before turn.0.behind i)
+    × SendsOrLoses turn.0.before turn.0.behind i))
 
 abbrev pub AnswerEver : History → WorldCore → ℕ → Job → Status → Type 0
 AnswerEver h w i job Inval = IsUnforced h job ⊎ (WasUnlisted h w i job ⊎ HadNoPictureEver h w i job)

@@ -12,6 +12,7 @@ use Rattle.virtual_scanner.specs.New.{new_scanner}
 use Rattle.sane_fixed.specs.declared.byte_order.ByteOrder.TheVariants.{Little}
 use Rattle.sane_fixed.specs.declared.status.Status.{Status}
 use Rattle.sane_fixed.specs.declared.status.Status.TheVariants as statuses
+use Rattle.client_replies.specs.ProtocolStates.{scans}
 use Rattle.scan_job.specs.declared.job.Job.{Job}
 use Rattle.scan_job.specs.declared.outcome.Outcome.{Outcome}
 use Rattle.scan_job.specs.declared.outcome.Outcome.TheVariants.{Done, Ended, Running}
@@ -42,21 +43,22 @@ IsAllowedAlways users job =
     (sent : List ℕ) → is_guarded users (backend_of job.device) ≡ true
     → is_allowed_for users job.user job.password (backend_of job.device) (challenge_of sent) ≡ true
 
--- **clear (`IsClear`, `LeavesAlone`, `IsAllowedAlways`)**: nothing stands in the way of a job: its device is there, no
--- feeder, and named by these jobs alone, as by itself; its settings can be in force, name no status, and mean a picture on
--- each page that came for it, of sources that cannot fail; no line of the users names its backend, or its password is
--- right for each challenge; and no event gave it up, took a connection of it, or took its device out.
+-- **clear (`IsClear`, `LeavesAlone`, `IsAllowedAlways`)**: nothing stands in the way of a job: its device is there, and
+-- named by these jobs alone, as by itself; its settings can be in force and name no status; where it scans, they mean a
+-- picture on each page that came for it, of sources that cannot fail, and it is no feeder; no line of the users names its
+-- backend, or its password is right for each challenge; and no event gave it up, took a connection of it, or took its
+-- device out.
 pub record IsClear (h : History) (i : ℕ) (job : Job) (Among : ℕ → Type 0) : Type 0 where
   pub device : DeviceState
   pub is_there : Contains h.devices device
   pub named : device.info.name ≡ job.device
-  pub plain : feeds device ≡ false
+  pub plain : scans job.task ≡ true → feeds device ≡ false
   pub alone : (j : ℕ) (other : Job) → slice_get h.jobs j ≡ Some other → other.device ≡ job.device → Among j
   pub forced : IsUnforced h job → ⊥
   pub unnamed : NamesNothing h job
-  pub meant : (s : Settled h job) (held : HeldPage) → CameFor h job.device held
+  pub meant : scans job.task ≡ true → (s : Settled h job) (held : HeldPage) → CameFor h job.device held
       → meaning_of held.page s.setup.scene ≢ None
-  pub firm : (held : HeldPage) → CameFor h job.device held → held.infallible ≡ true
+  pub firm : scans job.task ≡ true → (held : HeldPage) → CameFor h job.device held → held.infallible ≡ true
   pub allowed : IsAllowedAlways h.users job
   pub left : (event : Event) → Contains h.events event → LeavesAlone i job event
 

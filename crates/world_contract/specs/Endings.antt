@@ -45,14 +45,15 @@ pub record HasPassed (h : History) (before : WorldCore) (i : ℕ) (job : Job) (a
   pub guarded : is_guarded h.users (backend_of job.device) ≡ true
   pub is : is_allowed_for h.users job.user job.password (backend_of job.device) (challenge_of sent.resource) ≡ allowed
 
--- as it asked for a start behind so many finished pages, the device that its session had had none
+-- it scans, and as it asked for a start behind so many finished pages, the device that its session had had none
 abbrev pub HadNoPage : History → WorldCore → ℕ → Job → ℕ → Type 0
 HadNoPage h w i job count =
-    (asked : Asked h w i IsAtStart) × AtJob asked.at.before i (λ p. p.finished ≡ count)
+    (scans job.task ≡ true) × (asked : Asked h w i IsAtStart) × AtJob asked.at.before i (λ p. p.finished ≡ count)
     × ((d : DeviceState) × Has asked.at.before i job.device d × (d.pages ≡ []))
 
 -- that had the options which its settings put in force, and they mean no picture on its first page, which came for it
 pub record HadNoPicture (h : History) (w : WorldCore) (i : ℕ) (job : Job) : Type 0 where
+  pub scanning : scans job.task ≡ true
   pub asked : Asked h w i IsAtStart
   pub device : DeviceState
   pub has : Has asked.at.before i job.device device
@@ -79,12 +80,12 @@ SendsFailure before behind i =
     (old new : Image) × AtJob before i (λ p. p.image ≡ Some old) × AtJob behind i (λ p. p.image ≡ Some new)
     × (new.bytes ≡ old.bytes ++ end_record 9)
 
--- the source of its first page failed in that, or in a turn of the frame
+-- it scans, and the source of its first page failed in that, or in a turn of the frame
 abbrev pub HadFailed : History → WorldCore → ℕ → Job → Type 0
-HadFailed h w i job =
-    ((asked : Asked h w i IsAtStart) × DeviceFailed asked.at.before asked.at.behind i job.device)
+HadFailed h w i job = (scans job.task ≡ true)
+    × (((asked : Asked h w i IsAtStart) × DeviceFailed asked.at.before asked.at.behind i job.device)
     ⊎ ((turn : Happened h w i (DataTurn i)) × DeviceFailed turn.0.before turn.0.behind i job.device
-    × SendsFailure turn.0.before turn.0.behind i)
+    × SendsFailure turn.0.before turn.0.behind i))
 
 -- what the daemon's answer with this status comes from, where `read-return-value` does not say it: as the job asked for
 -- its device, that was not listed; another job's session had it; or its user and password are not allowed

@@ -200,9 +200,10 @@ impl World {
         /// lost its connection as its next move, for want of memory or at a reply that cannot be said.
         /// Carried by: `clear` of `World::run_all`: `ClearsUp`
         ///
-        /// Nothing stands in its way where its device is there, no feeder, and named by no other job; its sources cannot
-        /// fail; its settings can be in force, name no status and mean a picture on each page that came; its password is
-        /// allowed; and no event cancelled it, lost a connection of it, or took its device out.
+        /// Nothing stands in its way where its device is there, and named by no other job; its settings can be in force and
+        /// name no status; its password is allowed; no event cancelled it, lost a connection of it, or took its device
+        /// out; and where it scans, its device is no feeder, its sources cannot fail, and the settings mean a picture on
+        /// each page that came.
         /// Carried by: `clear` of `World::run_all`: `IsClear`
         ensures clear { let w = seen_world ⟦<Box<dyn Device> as Device>⟧.state self.old.inner in
             let v = seen_world ⟦<Box<dyn Device> as Device>⟧.state self.new.inner in
@@ -265,17 +266,17 @@ impl World {
         /// Carried by: `AnswerIsExplained`, `HasPassed` of `IsEndingExplained`
         ///
         /// Else INVAL was answered only where the device was not listed as the job asked for it; where settings can be
-        /// in force on no device of the name, as also where a setting ended the job; or where the device, as a start
-        /// was asked for, had the options of the settings, which mean no picture on its page.
+        /// in force on no device of the name, as also where a setting ended the job; or, to a job that scans, where the
+        /// device, as a start was asked for, had the options of the settings, which mean no picture on its page.
         /// Carried by: `AnswerIsExplained`, `IsUnforced`, `HadNoPicture` of `IsEndingExplained`
         ///
-        /// Else NO_DOCS was answered only where the device that its session had had no page, as the job asked for a
-        /// start while none of its pages was finished.
+        /// Else NO_DOCS was answered only to a job that scans, where the device that its session had had no page, as the
+        /// job asked for a start while none of its pages was finished.
         /// Carried by: `HadNoPage` of `IsEndingExplained`
         ///
-        /// Else IO_ERROR was answered only where the source of the first page failed as the job asked for a start, or
-        /// in a turn of its frame: its session had the device, and behind the event that is stopped, and the failure
-        /// counted.
+        /// Else IO_ERROR was answered only to a job that scans, where the source of the first page failed as it asked for
+        /// a start, or in a turn of its frame: its session had the device, and behind the event that is stopped, and the
+        /// failure counted.
         /// Carried by: `HadFailed`, `DeviceFailed` of `IsEndingExplained`
         ///
         /// In a turn the end with IO_ERROR came behind the bytes of the frame; so the end of a page that a feeder gave

@@ -47,7 +47,7 @@ use Rattle.world_contract.proofs.Begun.{job_same, party_stays}
 use Rattle.world_contract.proofs.Events.{stops_event}
 use Rattle.world_contract.proofs.Evident.{Begins, Comes, IsAnswer, IsFailedAnswer, Opens, all_come, causes_by, met_by}
 use Rattle.world_contract.proofs.Lists.{all_each, all_then, contains_in}
-use Rattle.world_contract.proofs.NoPictures.{IsSet, no_meaning, starting}
+use Rattle.world_contract.proofs.NoPictures.{IsSet, no_meaning, starting, starting_scans}
 use Rattle.world_contract.proofs.Options.{streaming}
 use Rattle.world_contract.proofs.Rows as rows
 use Rattle.world_contract.proofs.Rows.{HasFinished, WaitsAt}
@@ -195,6 +195,17 @@ finished_there h w i job s e on a rest todo rests =
     subst (HasFinished a.1.at.before i) (as_many (make_for s i) p.session.job.settings p.session.started p.client.pages ready.0.pictures)
     (subst (λ (u : SystemState). HasFinished a.1.at.before i (length (u.job i).session.started)) a.1.state count)
 
+scans_so : (task : Task) → Scans (task_of task) → scans task ≡ true
+scans_so tasks.List is = absurd is
+scans_so tasks.Show is = absurd is
+scans_so tasks.SetOnly is = absurd is
+scans_so tasks.Scan is = refl
+scans_so (tasks.Batch count) is = refl
+
+-- a job that asks for a start scans
+starts_scan : (h : History) (i : ℕ) (job : Job) (s : SystemState) → Here h i job s → IsUnderWay (s.job i).client.stage → (rest : List AbstractRequest) → (s.job i).todo ≡ Start ∷ rest → scans job.task ≡ true
+starts_scan h i job s e on rest todo = scans_so job.task (subst (λ (j : RuledJob). Scans j.task) e.is (starting_scans i (make_for s i) (s.job i) (device_for s i) (s.job i).client.stage rest on (e.sound.talks i) todo))
+
 none_begun : (xs : List Begin) → is_some_begun xs ≡ false → length xs ≡ 0
 none_begun [] e = refl
 none_begun (x ∷ xs) e = absurd (let clash : true ≡ false = e in cc)
@@ -202,7 +213,7 @@ none_begun (x ∷ xs) e = absurd (let clash : true ≡ false = e in cc)
 pub no_page : (h : History) (w : WorldCore) (i : ℕ) (job : Job) (s : SystemState) → Here h i job s → IsUnderWay (s.job i).client.stage → Front h w job s i → (rest : List AbstractRequest) → (s.job i).todo ≡ Start ∷ rest → (device_for s i).phase ≡ Resting → HasNone i (device_for s i) → HadNoPage h w i job (length (s.job i).client.pages)
 no_page h w i job s e on a rest todo rests held =
     let r = has_there h w i job s i e.own_job e.fine a held.0 in
-    (asked_start h w i job s on a rest todo, finished_there h w i job s e on a rest todo rests, (r.0, r.1, held.1 r.0 r.2 r.3))
+    (starts_scan h i job s e on rest todo, asked_start h w i job s on a rest todo, finished_there h w i job s e on a rest todo rests, (r.0, r.1, held.1 r.0 r.2 r.3))
 
 no_meaning_there : (h : History) (w : WorldCore) (i : ℕ) (job : Job) (s : SystemState) → Here h i job s → IsUnderWay (s.job i).client.stage → (a : Front h w job s i) → (rest : List AbstractRequest) → (s.job i).todo ≡ Start ∷ rest → IsSet i (make_for s i) (s.job i).session (device_for s i) → (page : Page) (later : List Page) → (device_for s i).tray ≡ page ∷ later → picture_frames (make_for s i) (device_for s i).options page ≡ [] → (device_for s i).phase ≡ Resting → rows.HadNoPictureEver h w i job
 no_meaning_there h w i job s e on a rest todo set page later tray none rests =
@@ -212,6 +223,7 @@ no_meaning_there h w i job s e on a rest todo set page later tray none rests =
     let first = page_there (Some i) (device_for s i) r.0 page later rests tray r.2 r.3 in
     let came = (subst (AllByRecursion (IsOfDevice h (wanted_place s i))) tray (e.fine.slots (wanted_place s i)).pages).0 settled.0.device settled.2 in
     record {
+      scanning = starts_scan h i job s e on rest todo;
       asked = asked_start h w i job s on a rest todo;
       device = r.0;
       has = r.1;
@@ -223,23 +235,22 @@ no_meaning_there h w i job s e on a rest todo set page later tray none rests =
       none = ap (λ (p : Page). meaning_of p settled.0.setup.scene) came.2 ∙ (ap (λ (y : Setup). meaning_of page y.scene) settled.1 ∙ no_meaning (make_for s i) (device_for s i).options page none);
     }
 
-source_failed : (h : History) (w : WorldCore) (i : ℕ) (job : Job) (s : SystemState) (x : Action) → (IsFailedAnswer x × Begins (s.job i)) ⊎ ((fault : FailureCounts) × (x ≡ Actions.TurnsFault fault)) → IsUnderWay (s.job i).client.stage → StepSo h w job s (By i x) → slice_get h.jobs i ≡ Some job → rows.MayHaveFailed h w i job
-source_failed h w i job s x (inl (a, begins)) on so at =
-    let m : AnswersAt h w job s i (Some a.1) = (subst (λ (y : Action). AnsweredSo h w job s (By i y)) a.2 so.0) on in
-    inl (asked_start h w i job s on (Some a.1, m) begins.0 begins.1, subst (λ (j : Job). FailedIn m.at.before m.at.behind.daemon i j.device) (get_or_from_slice_get h.jobs i job job at) m.failed)
-source_failed h w i job s x (inr a) on so at =
+source_failed : (h : History) (w : WorldCore) (i : ℕ) (job : Job) (s : SystemState) (x : Action) → Here h i job s → (IsFailedAnswer x × Begins (s.job i)) ⊎ ((fault : FailureCounts) × (x ≡ Actions.TurnsFault fault)) → IsUnderWay (s.job i).client.stage → StepSo h w job s (By i x) → IsEnabled s (By i x) → slice_get h.jobs i ≡ Some job → rows.MayHaveFailed h w i job
+source_failed h w i job s x e (inl (a, begins)) on so may at =
+    let m : AnswersAt h w job s i (Some a.1) = (subst (λ (y : Action). AnsweredSo h w job s (By i y)) a.2 so.0) on in (
+      starts_scan h i job s e on begins.0 begins.1,
+      inl (asked_start h w i job s on (Some a.1, m) begins.0 begins.1, subst (λ (j : Job). FailedIn m.at.before m.at.behind.daemon i j.device) (get_or_from_slice_get h.jobs i job job at) m.failed),
+    )
+source_failed h w i job s x e (inr a) on so may at =
     let f = happened_by h w job s i x (Actions.TurnsFault a.0) a.1 so on in
-    inr (f.0, subst (λ (j : Job). FailedIn f.0.0.before f.0.0.behind.daemon i j.device) (get_or_from_slice_get h.jobs i job job at) f.1, f.2)
+    let turns = subst (λ (y : Action). IsEnabled s (By i y)) a.1 may in
+    let streamed = streaming i (make_for s i) (s.job i) (device_for s i) (s.job i).client.stage on (e.sound.talks i) turns.3.0 in (
+      scans_so job.task (subst (λ (j : RuledJob). Scans j.task) e.is streamed.1),
+      inr (f.0, subst (λ (j : Job). FailedIn f.0.0.before f.0.0.behind.daemon i j.device) (get_or_from_slice_get h.jobs i job job at) f.1, f.2),
+    )
 
 served_by_step : (i : ℕ) (k : Make) (p : JobState) (dev : AbstractDevice) (x : Action) → IsAnswer x → IsActionEnabled i k p dev x → p.served ≡ true
 served_by_step i k p dev x a may = (subst (IsActionEnabled i k p dev) a.2 may).0
-
-scans_so : (task : Task) → Scans (task_of task) → scans task ≡ true
-scans_so tasks.List is = absurd is
-scans_so tasks.Show is = absurd is
-scans_so tasks.SetOnly is = absurd is
-scans_so tasks.Scan is = refl
-scans_so (tasks.Batch count) is = refl
 
 named_by : (h : History) (w : WorldCore) (i : ℕ) (job : Job) (s : SystemState) (status : Status) → Here h i job s → IsUnderWay (s.job i).client.stage → (s.job i).session.transfer ≡ Streaming → (device_for s i).holder ≡ Some i → read_status_of (make_for s i) (device_for s i).options ≡ Some status → Happened h w i (DataTurn i) → IsNamed h w i job status
 named_by h w i job s status e on streams held reads turn =
@@ -251,7 +262,7 @@ evid h w i job s x e on of so may GaveUp c = let o = of_deed h i x Actions.Stops
 evid h w i job s x e on of so may LinkLost c = link_lost h w job s i x on c so
 evid h w i job s x e on of so may LinkOutOfMemory c = tt
 evid h w i job s x e on of so may WasUnsaid c = subst (HadUnsaidReply h w i) (get_or_from_slice_get h.jobs i job job e.own_job.at) (happened_by h w job s i x (Actions.Breaks false) c so on)
-evid h w i job s x e on of so may SourceFailed c = source_failed h w i job s x c on so e.own_job.at
+evid h w i job s x e on of so may SourceFailed c = source_failed h w i job s x e c on so may e.own_job.at
 evid h w i job s x e on of so may NamesEof c = named_by h w i job s Eof e on c.1 c.2 c.3 (happened_by h w job s i x Actions.TurnsShort c.0 so on)
 evid h w i job s x e on of so may (Names status) c = named_by h w i job s status e on c.1 c.2 c.3 (happened_by h w job s i x (Actions.TurnsNamed status) c.0 so on)
 evid h w i job s x e on of so may Unforced c = absurd c

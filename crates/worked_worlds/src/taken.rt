@@ -1,4 +1,4 @@
-//! Scans that are refused: with a wrong password, and of a device that is taken out.
+//! A scan of a device that is taken out.
 
 ghost use Rattle.std.specs.Prelude.{◌≡◌, ◌≢◌, IfSome, None, true, [], ◌∷◌};
 ghost use Rattle.page_picture.specs.Meaning.{meaning_of};
@@ -6,7 +6,7 @@ ghost use Rattle.page_picture.specs.declared.scene.DeviceKind.TheVariants.{Flatb
 ghost use Rattle.device_api.specs.Values.{defaults};
 ghost use Rattle.sane_fixed.specs.declared.byte_order.ByteOrder.TheVariants.{Little};
 ghost use Rattle.scan_world.specs.declared.event.Event.TheVariants.{Unplug};
-ghost use Rattle.worked_worlds.specs.Worked.{IsDisallowed, IsUnlisted, LedFrom, flatbed_with};
+ghost use Rattle.worked_worlds.specs.Worked.{IsUnlisted, LedFrom, flatbed_with};
 
 use crate::ends::was_answered;
 use crate::worlds::{flatbed_on, one_box, world_of};
@@ -16,35 +16,6 @@ use page_picture::Page;
 use sane_fixed::{Status, Text};
 use std::alloc::Global;
 use world_contract::Event;
-
-/// Scans on a flatbed whose backend these users may guard. Whether that was answered ACCESS_DENIED.
-pub fn scan_with_wrong_password(
-    alloc: Global,
-    name: Text,
-    page: Page,
-    users: Users,
-    job: Job,
-) -> bool
-    /// A job without settings that is answered ACCESS_DENIED was one that the users do not allow, for the challenge that was sent.
-    ensures { result ≡ true → job.settings.items ≡ []
-        → (from : LedFrom (flatbed_with name page ∷ []) users job)
-        × IsDisallowed from.history from.world 0 job }
-{
-    let Some(flatbed) = flatbed_on(alloc, name, page) else {
-        return false;
-    };
-    let Ok(scanner) = Box::new(alloc, flatbed) else {
-        return false;
-    };
-    let Some(devices) = one_box(alloc, scanner) else {
-        return false;
-    };
-    let Some(mut world) = world_of(alloc, devices, users, job) else {
-        return false;
-    };
-    world.run_all();
-    was_answered(&world, Status::AccessDenied)
-}
 
 /// The device of that name is taken out.
 fn taken_out(alloc: Global, name: Text) -> Option<Vec<Event>>
