@@ -1,5 +1,5 @@
 -- What the worked worlds come to.
-use Rattle.std.specs.Prelude.{◌≢◌, ◌<◌, ◌⊎◌, Contains, length, map, slice_get}
+use Rattle.std.specs.Prelude.{◌≢◌, ◌<◌, ◌⊎◌, All, Contains, length, map, slice_get}
 use Rattle.std.specs.List.{AllByRecursion}
 use Rattle.std.proofs.Common.{◌≡◌, ◌∙◌, ℕ, zero, suc, List, [], ◌∷◌, ◌++◌, Bool, true, false, Option, Some, None, inl, inr, refl, sym, ap, subst, arith}
 use Rattle.sane_fixed.specs.declared.byte_order.ByteOrder.TheVariants.{Little}
@@ -23,15 +23,19 @@ use Rattle.dispatch.specs.Table.{listed_infos}
 use Rattle.scan_job.specs.declared.job.Job.{Job}
 use Rattle.scan_job.specs.declared.job.Task.{Task}
 use Rattle.scan_job.specs.declared.job.Task.TheVariants as tasks
-use Rattle.scan_job.specs.declared.outcome.Outcome.TheVariants.{Done}
-use Rattle.scan_job.specs.declared.outcome.Why.TheVariants.{Answer}
+use Rattle.scan_job.specs.declared.outcome.Outcome.{Outcome}
+use Rattle.scan_job.specs.declared.outcome.Outcome.TheVariants.{Done, Ended}
+use Rattle.scan_job.specs.declared.outcome.Why.TheVariants.{Answer, Memory}
 use Rattle.scan_job.specs.declared.report.Reports.{Reports}
 use Rattle.scan_world.specs.declared.event.Event.{Event}
 use Rattle.scan_world.specs.declared.event.Event.TheVariants.{Load, Unplug}
-use Rattle.scan_world.specs.Worlds.{WorldCore}
+use Rattle.scan_world.specs.Worlds.{HasFaultAmong, IsFitJob, WorldCore}
+use Rattle.scan_world.specs.declared.world_fault.WorldFault.{WorldFault}
+use Rattle.scan_world.specs.declared.world_fault.WorldFault.TheVariants as faults
 use Rattle.world_refines.specs.GhostStates.{backend_of, is_allowed_for, is_guarded}
-use Rattle.world_contract.specs.Calls.{IsJobAt, KeepsPage, KeepsRunning, finished_at, outcome_at, starved_at}
-use Rattle.world_contract.specs.Clear.{AllAreListed}
+use Rattle.world_contract.specs.Calls.{IsJobAt, KeepsPage, KeepsRunning, KeepsScanFile, outcome_at, starved_at}
+use Rattle.world_contract.specs.Clear.{AllAreListed, ClearsUp, PlainIsClear}
+use Rattle.world_contract.specs.Examples.{IsScanOf}
 use Rattle.world_contract.specs.Endings.{AnswerIsExplained, HadNoPage, HasPassed, IsEndingExplained, NamesStatus}
 use Rattle.world_contract.specs.Sessions.{Asked, IsAtOpen}
 use Rattle.world_contract.specs.Histories.{History, LedTo, and_then, begun, history_up_to}
@@ -42,7 +46,7 @@ use Rattle.world_contract.specs.Reports.{AreOptionsShown}
 use Rattle.world_contract.specs.Settings.{AreSettingsPut}
 use Rattle.world_contract.proofs.Lists.{In, in_list, in_split}
 use Rattle.world_contract.proofs.NextMoves.{LoadsNothing, quiet_moves}
-use Rattle.worked_worlds.specs.Worked.{AreScans, DoneFrom, LedFrom, ListsAll, IsDisallowed, IsUnlisted, ShowsOptions, WasPassed, feeder_with, flatbed_with, memory_source}
+use Rattle.worked_worlds.specs.Worked.{AreScans, DoneFrom, HasBrokenOff, IsPlainScan, LedFrom, ListsAll, IsDisallowed, IsUnlisted, ShowsOptions, WasPassed, feeder_with, flatbed_with, memory_source}
 
 -- ---- where the world came from
 
@@ -240,3 +244,55 @@ are_scans name pages users job new first second m one two =
     let at = at_there devices users job new m.came in
     let steady = steady_tray name pages users job new m.came in
     (led_from devices users job new m.came, ((one h job at).scanned first refl).2 steady, ((two h job at).scanned second refl).2 steady)
+
+-- ---- a scan that surely gives a file
+
+steady_flatbed : (name : List ℕ) (page : PageView) (users : List Entry) (job : Job) (new : WorldCore) (c : Came (flatbed_with name page ∷ []) users job new) → IsSteady (history_of (flatbed_with name page ∷ []) users job new c) new 0 job.device
+steady_flatbed name page users job new c held came = ap (λ (x : HeldPage). x.steady) (sym (page_is name page users job new c held came))
+
+pub scan_of : (name : List ℕ) (page : PageView) (users : List Entry) (job : Job) (new : WorldCore) (reports : Reports) (bytes : List ℕ) → Moved (flatbed_with name page ∷ []) users job new → KeepsScanFile new 0 (Some bytes) → outcome_at new 0 ≡ Some (Done reports) → job.task ≡ tasks.Scan → IsScanOf page job bytes
+scan_of name page users job new reports bytes m file is scan =
+    let devices = flatbed_with name page ∷ [] in
+    let h = history_of devices users job new m.came in
+    let kept = file h job (at_there devices users job new m.came) (Done reports) is in
+    let s = kept.scanned reports bytes (steady_flatbed name page users job new m.came) scan refl refl in
+    let on : page ≡ s.held.page = ap (λ (x : HeldPage). x.page) (page_is name page users job new m.came s.held s.came) in
+    record {
+      setup = s.settled.setup;
+      placed = s.settled.placed;
+      in_force = settled_on Flatbed name (memory_source page ∷ []) users job new m.came s.settled;
+      picture = s.picture;
+      meant = subst (λ (p : PageView). meaning_of p s.settled.setup.scene ≡ Some s.picture) (sym on) s.meant;
+      denotes = s.denotes;
+    }
+
+all_one : {X : Type 0} (P : X → Type 0) (x : X) → P x → All P (x ∷ [])
+all_one P x h zero d within = h
+all_one P x h (suc k) d within = absurd (omega (arith, within))
+
+-- no world of one device and a job that a client takes is refused, but for want of memory
+pub only_memory : (f : WorldFault) (d : DeviceState) (job : Job) → IsFitJob job → HasFaultAmong f (d ∷ []) (job ∷ []) → f ≡ faults.NoMem
+only_memory faults.SameName d job fit fault = absurd (fault ((λ k x within. absurd (omega (arith, within))), tt))
+only_memory faults.TooManyDevices d job fit (names, many) = absurd (omega (arith, many))
+only_memory faults.TooManyJobs d job fit (some, many) = absurd (omega (arith, many))
+only_memory faults.BadJob d job fit (some, (few, bad)) = absurd (bad (all_one IsFitJob job fit))
+only_memory faults.NoMem d job fit fault = refl
+
+-- what became of the job is neither of these
+abbrev pub IsOther : WorldCore → Type 0
+IsOther w = (starved_at w 0 ≡ false) × ((o : Outcome) → outcome_at w 0 ≡ Some o → ((reports : Reports) → o ≢ Done reports) × (o ≢ Ended statuses.NoMem Memory))
+
+pub broken_off : PlainIsClear → (name : List ℕ) (page : PageView) (users : List Entry) (job : Job) (old new : WorldCore) → LedTo (begun (flatbed_with name page ∷ []) users (job ∷ [])) old → ClearsUp old new → IsOther new → IsPlainScan name page users job → HasBrokenOff (flatbed_with name page ∷ []) users job
+broken_off plain name page users job old new led clears other is =
+    let h = begun (flatbed_with name page ∷ []) users (job ∷ []) in
+    let clear = plain name (memory_source page) users job is.named is.none refl is.meant is.allowed in
+    let c = clears h led 0 job refl clear in
+    let o = other.1 c.outcome c.is in (
+      record { history = and_then h c.out.moves; devices_are = refl; users_are = refl; jobs_are = refl; world = new; led = c.out.led },
+      elim c.comes [
+        | inl done ↦ absurd (o.0 done.0 done.1)
+        | inr (inl (inl starved)) ↦ absurd (let clash : true ≡ false = sym starved ∙ other.0 in cc)
+        | inr (inl (inr memory)) ↦ absurd (o.1 memory)
+        | inr (inr broke) ↦ broke
+      ],
+    )

@@ -1,5 +1,5 @@
 -- What the worked worlds come to: each of one device and one job, and a definition of the promise that is met there.
-use Rattle.std.specs.Prelude.{ℕ, ◌≡◌, true, false, Some, None, List, [], ◌∷◌, map}
+use Rattle.std.specs.Prelude.{ℕ, ◌≡◌, ◌≢◌, true, false, Some, None, List, [], ◌∷◌, map}
 use Rattle.sane_fixed.specs.declared.byte_order.ByteOrder.TheVariants.{Little}
 use Rattle.sane_fixed.specs.declared.device_info.DeviceInfo.{DeviceInfo}
 use Rattle.md5_auth.specs.ChallengeReading.{challenge_of}
@@ -17,12 +17,14 @@ use Rattle.device_api.specs.Values.{defaults}
 use Rattle.dispatch.specs.Table.{find_name}
 use Rattle.virtual_scanner.specs.New.{new_device, new_scanner}
 use Rattle.scan_job.specs.declared.job.Job.{Job}
+use Rattle.scan_job.specs.declared.job.Task.TheVariants as tasks
 use Rattle.scan_job.specs.declared.outcome.Outcome.TheVariants.{Done}
 use Rattle.scan_job.specs.declared.report.Reports.{Reports}
-use Rattle.scan_world.specs.Worlds.{WorldCore}
+use Rattle.scan_world.specs.Worlds.{IsFitJob, WorldCore}
 use Rattle.world_refines.specs.GhostStates.{backend_of, is_allowed_for, is_guarded}
 use Rattle.world_contract.specs.Calls.{outcome_at}
 use Rattle.world_contract.specs.Histories.{History, LedTo}
+use Rattle.world_contract.specs.Clear.{BrokeOff, IsAllowedAlways}
 use Rattle.world_contract.specs.Endings.{HasPassed}
 use Rattle.world_contract.specs.Page.{IsScan}
 use Rattle.world_contract.specs.Promise.{JobIsDone}
@@ -33,9 +35,10 @@ use Rattle.world_contract.specs.Settings.{AreSettingsPut}
 -- ---- the devices
 
 -- **worked worlds (`memory_source`, `flatbed_with`, `feeder_with`, `LedFrom`, `DoneFrom`, `ListsAll`, `ShowsOptions`, `WasPassed`,
--- `IsUnlisted`, `IsDisallowed`, `AreScans`)**: a flatbed with a page in memory, and a feeder with some; a history of these devices, users and one job, and a world
+-- `IsUnlisted`, `IsDisallowed`, `IsPlainScan`, `HasBrokenOff`, `AreScans`)**: a flatbed with a page in memory, and a feeder with some; a history of these devices, users and one job, and a world
 -- to which it led; that the job is done there, and right; a list of all devices; a show of a flatbed's options; that the password
--- was allowed for a challenge; the files of a batch's first two pages.
+-- was allowed for a challenge; a device that was not listed, a password that is not allowed; a scan in whose way nothing
+-- stands, and one that broke off; the files of a batch's first two pages.
 --
 -- a page in memory: at each pass the same, and it cannot fail
 abbrev pub memory_source : PageView → SourceState
@@ -92,6 +95,20 @@ IsUnlisted h w i job = (asked : Asked h w i IsAtOpen) × (find_name job.device a
 -- its user and password were not allowed for the challenge that was sent
 abbrev pub IsDisallowed : History → WorldCore → ℕ → Job → Type 0
 IsDisallowed h w i job = (asked : Asked h w i IsAtOpen) × HasPassed h asked.at.before i job false
+
+-- it scans, without settings, on this flatbed, whose page means a picture at its defaults, and its password is right, if a
+-- line of the users names its backend
+pub record IsPlainScan (name : List ℕ) (page : PageView) (users : List Entry) (job : Job) : Type 0 where
+  pub named : job.device ≡ name
+  pub scan : job.task ≡ tasks.Scan
+  pub none : job.settings.items ≡ []
+  pub meant : meaning_of page (defaults Flatbed Little).scene ≢ None
+  pub allowed : IsAllowedAlways users job
+  pub fit : IsFitJob job
+
+-- its next move was the loss of its connection, for want of memory or at a reply that cannot be said
+abbrev pub HasBrokenOff : List DeviceState → List Entry → Job → Type 0
+HasBrokenOff devices users job = (from : LedFrom devices users job) × BrokeOff from.history from.world 0 job
 
 -- the files of its first two pages are scans of that job, the second one as one page was finished
 abbrev pub AreScans : List DeviceState → List Entry → Job → List ℕ → List ℕ → Type 0

@@ -1,10 +1,12 @@
 //! How the one job of a world stands.
 
-ghost use Rattle.std.specs.Prelude.{◌≡◌, Some, true};
+ghost use Rattle.std.specs.Prelude.{◌≡◌, ◌≢◌, Some, true, false};
 ghost use Rattle.device_api.specs.State.{DeviceState};
 ghost use Rattle.scan_job.specs.declared.job.Job.{Job};
 ghost use Rattle.scan_job.specs.declared.outcome.Outcome.TheVariants.{Done, Ended};
-ghost use Rattle.scan_job.specs.declared.outcome.Why.TheVariants.{Answer};
+ghost use Rattle.scan_job.specs.declared.outcome.Why.TheVariants.{Answer, Memory};
+ghost use Rattle.scan_job.specs.declared.outcome.Outcome.{Outcome as AnOutcome};
+ghost use Rattle.sane_fixed.specs.declared.status.Status.TheVariants.{NoMem as OutOfMem};
 ghost use Rattle.scan_job.specs.declared.report.Reports.{Reports};
 ghost use Rattle.scan_world.specs.Worlds.{seen_world};
 ghost use Rattle.world_contract.specs.Calls.{IsJobAt, outcome_at, starved_at};
@@ -38,5 +40,32 @@ pub(crate) fn was_answered(world: &World, status: Status) -> bool
     match world.outcome(0) {
         Some(Outcome::Ended(told, Why::Answer)) => *told == status,
         Some(_) | None => false,
+    }
+}
+
+/// How it ended.
+#[derive(Clone, Copy, Debug, PartialEq, Eq)]
+pub(crate) enum End {
+    Done,
+    /// It is told as out of memory.
+    OutOfMemory,
+    Other,
+}
+
+/// How it ended, or stands.
+pub(crate) fn end_of(world: &World) -> End
+    ensures done { let w = seen_world ⟦<Box<dyn Device> as Device>⟧.state world.now.inner in
+        result ≡ End.Done → (reports : Reports) × (outcome_at w 0 ≡ Some (Done reports)) }
+    ensures other { let w = seen_world ⟦<Box<dyn Device> as Device>⟧.state world.now.inner in
+        result ≡ End.Other → (starved_at w 0 ≡ false) × ((o : AnOutcome) → outcome_at w 0 ≡ Some o
+        → ((reports : Reports) → o ≢ Done reports) × (o ≢ Ended OutOfMem Memory)) }
+{
+    if world.starved(0) {
+        return End::OutOfMemory;
+    }
+    match world.outcome(0) {
+        Some(Outcome::Done(_)) => End::Done,
+        Some(Outcome::Ended(Status::NoMem, Why::Memory)) => End::OutOfMemory,
+        Some(_) | None => End::Other,
     }
 }

@@ -7,7 +7,7 @@ ghost use Rattle.world_contract.specs.Endings.{HadNoPage};
 ghost use Rattle.worked_worlds.specs.Worked.{AreScans, LedFrom, feeder_with, memory_source};
 
 use crate::ends::was_answered;
-use crate::worlds::{one_box, world_of};
+use crate::worlds::{copied, one_box, world_of};
 use flatbed_dev::Feeder;
 use md5_auth::Users;
 use net_backend::Job;
@@ -49,17 +49,6 @@ fn both_pages(alloc: Global, first: Page, second: Page) -> Option<Vec<Source>>
         Source::Memory(MemoryPage::new(second)),
     ];
     Vec::from_array(alloc, pages).ok()
-}
-
-/// The bytes, once more.
-fn copied(alloc: Global, bytes: &[u8]) -> Option<Vec<u8>>
-    ensures { IfSome result (λ copy. copy.items ≡ bytes.now) }
-{
-    let mut copy = Vec::new(alloc);
-    if copy.extend_from_slice(bytes).is_err() {
-        return None;
-    }
-    Some(copy)
 }
 
 /// A batch on a feeder with these two pages. The files of its first two pages, where it finished both.

@@ -40,6 +40,17 @@ pub(crate) fn one_box(alloc: Global, device: Box<dyn Device>) -> Option<Vec<Box<
     Some(boxes)
 }
 
+/// The bytes, once more.
+pub(crate) fn copied(alloc: Global, bytes: &[u8]) -> Option<Vec<u8>>
+    ensures { IfSome result (λ copy. copy.items ≡ bytes.now) }
+{
+    let mut copy = Vec::new(alloc);
+    if copy.extend_from_slice(bytes).is_err() {
+        return None;
+    }
+    Some(copy)
+}
+
 /// A world of these devices and one job.
 pub(crate) fn world_of(
     alloc: Global,

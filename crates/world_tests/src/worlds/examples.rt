@@ -3,7 +3,7 @@
 use super::*;
 use page_picture::{FailingPage, Page};
 use worked_worlds::{
-    list_both, scan_no_page, scan_of_taken_out, scan_pages, scan_with_password,
+    list_both, scan_no_page, scan_of_taken_out, scan_pages, scan_surely, scan_with_password,
     scan_with_wrong_password, show_options,
 };
 use world_contract::{scan_beside, scan_once, scan_with_another};
@@ -192,4 +192,16 @@ fn one_client_scans_two_pages(rt: HostRuntime) {
     let (first, second) = files.expect(&rt, "two files");
     assert!(rt; first.as_slice() == DOT_FILE);
     assert!(rt; second.as_slice() == OTHER_DOT_FILE);
+}
+
+#[test]
+fn one_client_surely_scans_a_dot(rt: HostRuntime) {
+    let alloc = rt.alloc();
+    let asked = plain(&rt, alloc, FLATBED_0, Task::Scan);
+    let name = text(&rt, alloc, FLATBED_0);
+    let users = users_of(&rt, alloc, RIGHT);
+    match scan_surely(alloc, name, dot(&rt, alloc), users, asked) {
+        Ok(file) => assert!(rt; is_whole(alloc, Some(file.as_slice()))),
+        Err(_) => panic!(rt; "no file"),
+    }
 }
