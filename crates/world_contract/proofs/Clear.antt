@@ -386,6 +386,7 @@ told_busy (inl a) = inl a
 told_busy (inr b) = inr b.0
 
 pub shares_clear : Below → (w v : WorldCore) → RoundsRunOut source_state w v → SharesClear w v
+unfolding settled_back
 shares_clear below w v rounds h led i j a b apart at there named clear clear_too =
     let out = ran_out below w v rounds h led in
     let quiet = quiet_moves out.moves w v out.next in

@@ -183,13 +183,13 @@ table h w i job starved met status why v o is z (inr n) = unforced_row h w i job
 
 -- ---- the job at its end
 
-woken_ended : (st : JobStage) (m : ClientView) (status : Status) (why : Why) → m.stage ≡ st → (client_at_greeting st m).stage ≡ Ended status why → st ≡ Ended status why
+pub woken_ended : (st : JobStage) (m : ClientView) (status : Status) (why : Why) → m.stage ≡ st → (client_at_greeting st m).stage ≡ Ended status why → st ≡ Ended status why
 woken_ended Idle m status why e h = absurd (let clash : Running rules.Greeting ≡ Ended status why = h in cc)
 woken_ended (Running g) m status why e h = sym e ∙ h
 woken_ended Done m status why e h = sym e ∙ h
 woken_ended (Ended s w) m status why e h = sym e ∙ h
 
-ended_reads : (place : DeviceInfo → ℕ) (errand : JobTarget) (job : rules.AbstractJob) (pages : List (List Frame)) (o : Outcome) (progress : Progress) (notes : Notes) (past : JoinHistory) (m : ClientView) (status : Code) (why : Reason) → OutcomeRefines place errand job pages o progress notes past m → o ≡ outcomes.Ended status why → EndedAs status why m
+pub ended_reads : (place : DeviceInfo → ℕ) (errand : JobTarget) (job : rules.AbstractJob) (pages : List (List Frame)) (o : Outcome) (progress : Progress) (notes : Notes) (past : JoinHistory) (m : ClientView) (status : Code) (why : Reason) → OutcomeRefines place errand job pages o progress notes past m → o ≡ outcomes.Ended status why → EndedAs status why m
 ended_reads place errand job pages o progress notes past m status why h e = subst (λ (x : Outcome). OutcomeRefines place errand job pages x progress notes past m) e h
 
 both_along : (P Q : SystemState → Transition → Type 0) (s : SystemState) (xs : List Transition) → AllAlong P s xs → AllAlong Q s xs → AllAlong (λ (t : SystemState) (x : Transition). P t x × Q t x) s xs

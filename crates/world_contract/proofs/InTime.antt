@@ -126,7 +126,7 @@ end_file h w i job p j e = sym (ap (option_and_then (λ (q : Endpoint). q.file))
 
 -- ---- what was so up to it is so of all
 
-moment_on : (h : History) (w : WorldCore) (i : ℕ) (u : Until h w i) (e : Event) → Moment (history_up_to h u.front) u.at e → Moment h w e
+abbrev moment_on : (h : History) (w : WorldCore) (i : ℕ) (u : Until h w i) (e : Event) → Moment (history_up_to h u.front) u.at e → Moment h w e
 moment_on h w i u e m = record {
   front = m.front;
   back = m.back ++ u.back;
@@ -138,13 +138,13 @@ moment_on h w i u e m = record {
   rest = runs_then m.back u.back m.behind u.at w m.rest u.rest;
 }
 
-asked_on : (h : History) (w : WorldCore) (i : ℕ) (u : Until h w i) (Waits : Progress → Type 0) → Asked (history_up_to h u.front) u.at i Waits → Asked h w i Waits
+abbrev asked_on : (h : History) (w : WorldCore) (i : ℕ) (u : Until h w i) (Waits : Progress → Type 0) → Asked (history_up_to h u.front) u.at i Waits → Asked h w i Waits
 asked_on h w i u Waits a = record { n = a.n; at = moment_on h w i u (ToDaemon i a.n) a.at; came = a.came; waits = a.waits; whole = a.whole }
 
-happened_on : (h : History) (w : WorldCore) (i : ℕ) (u : Until h w i) (e : Event) → Happened (history_up_to h u.front) u.at i e → Happened h w i e
+abbrev happened_on : (h : History) (w : WorldCore) (i : ℕ) (u : Until h w i) (e : Event) → Happened (history_up_to h u.front) u.at i e → Happened h w i e
 happened_on h w i u e x = (moment_on h w i u e x.0, x.1)
 
-settled_on : (h : History) (es : List Event) (job : Job) → Settled (history_up_to h es) job → Settled h job
+abbrev settled_on : (h : History) (es : List Event) (job : Job) → Settled (history_up_to h es) job → Settled h job
 settled_on h es job s = record { device = s.device; is_there = s.is_there; named = s.named; setup = s.setup; placed = s.placed; in_force = s.in_force }
 
 settled_to : (h : History) (es : List Event) (job : Job) → Settled h job → Settled (history_up_to h es) job

@@ -15,6 +15,7 @@ use Rattle.scan_job.specs.declared.outcome.Outcome.TheVariants as outcomes
 use Rattle.scan_job.specs.declared.outcome.Why.TheVariants as whys
 use Rattle.scan_world.specs.declared.endpoint.Endpoint.{Endpoint}
 use Rattle.scan_world.specs.Worlds.{WorldCore}
+use Rattle.daemon_refines.proofs.Moved.{own}
 use Rattle.system_model.specs.AbstractMessages as words
 use Rattle.system_model.specs.AbstractMessages.{Status, Why, Busy, Inval}
 use Rattle.system_model.specs.AbstractDevices.{AbstractDevice}
@@ -277,7 +278,7 @@ own_beside h w o s a b ja jb x pair st sound apart bes =
             | inr new ↦ not_asks new.0 new.1 r.0
           ]);
       unnamed = λ on m.
-          let was = on_by st.below.last s a x st.may a true (eqb_self a) on in
+          let was = on_by st.below.last s a x st.may a true (own a) on in
           elim (met_or h w o s a x (Names Busy) st m) [
             | inl c ↦ not_named h w o s a ja x st pair.a_at pair.a_named pair.a_nothing bes.is was c
             | inr old ↦ bes.unnamed was old
@@ -286,10 +287,6 @@ own_beside h w o s a b ja jb x pair st sound apart bes =
       is = job_same s (By a x) a ∙ bes.is;
       is_too = job_same s (By a x) b ∙ bes.is_too;
     }
-  where
-    eqb_self : (n : ℕ) → eqb n n ≡ true
-    eqb_self zero = refl
-    eqb_self (suc n) = eqb_self n
 
 -- ---- of any job
 

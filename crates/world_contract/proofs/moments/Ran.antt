@@ -85,7 +85,7 @@ on_or_not (Running g) now on off = tt
 on_or_not Done now on off = subst IsUnderWay (off (λ x. x)) on
 on_or_not (Ended status why) now on off = subst IsUnderWay (off (λ x. x)) on
 
-on_by : OutcomesLast → (s : SystemState) (j : ℕ) (x : Action) → IsEnabled s (By j x) → (i : ℕ) (b : Bool) → eqb i j ≡ b → IsUnderWay ((after_transition s (By j x)).job i).client.stage → IsUnderWay (s.job i).client.stage
+pub on_by : OutcomesLast → (s : SystemState) (j : ℕ) (x : Action) → IsEnabled s (By j x) → (i : ℕ) (b : Bool) → eqb i j ≡ b → IsUnderWay ((after_transition s (By j x)).job i).client.stage → IsUnderWay (s.job i).client.stage
 on_by last s j x may i false e on = subst (λ (p : JobState). IsUnderWay p.client.stage) (party_stays s j x i e) on
 on_by last s j x may i true e on =
     let same : i ≡ j = eqb-true i j e in
