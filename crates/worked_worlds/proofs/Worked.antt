@@ -33,10 +33,10 @@ use Rattle.scan_world.specs.Worlds.{HasFaultAmong, IsFitJob, WorldCore}
 use Rattle.scan_world.specs.declared.world_fault.WorldFault.{WorldFault}
 use Rattle.scan_world.specs.declared.world_fault.WorldFault.TheVariants as faults
 use Rattle.world_refines.specs.GhostStates.{backend_of, is_allowed_for, is_guarded}
-use Rattle.world_contract.specs.Calls.{IsJobAt, KeepsPage, KeepsRunning, KeepsScanFile, outcome_at, starved_at}
+use Rattle.world_contract.specs.Calls.{IsJobAt, KeepsOutcome, KeepsPage, KeepsRunning, KeepsScanFile, outcome_at, starved_at}
 use Rattle.world_contract.specs.Clear.{AllAreListed, ClearsUp, PlainIsClear}
 use Rattle.world_contract.specs.Examples.{IsScanOf}
-use Rattle.world_contract.specs.Endings.{AnswerIsExplained, HadNoPage, HasPassed, IsEndingExplained, NamesStatus}
+use Rattle.world_contract.specs.Endings.{AnswerIsExplained, HadNoPage, HasPassed, NamesStatus}
 use Rattle.world_contract.specs.Sessions.{Asked, IsAtOpen}
 use Rattle.world_contract.specs.Histories.{History, LedTo, and_then, begun, history_up_to}
 use Rattle.world_contract.specs.Page.{CameInTime, IsScan, IsSteady, Settled}
@@ -46,7 +46,7 @@ use Rattle.world_contract.specs.Reports.{AreOptionsShown}
 use Rattle.world_contract.specs.Settings.{AreSettingsPut}
 use Rattle.world_contract.proofs.Lists.{In, in_list, in_split}
 use Rattle.world_contract.proofs.NextMoves.{LoadsNothing, quiet_moves}
-use Rattle.worked_worlds.specs.Worked.{AreScans, DoneFrom, HasBrokenOff, IsPlainScan, LedFrom, ListsAll, IsDisallowed, IsUnlisted, ShowsOptions, WasPassed, feeder_with, flatbed_with, memory_source}
+use Rattle.worked_worlds.specs.Worked.{AreScans, DoneFrom, HasBrokenOff, IsPlainScan, LedFrom, ListsAll, IsDisallowed, IsUnlisted, SaysAnswered, SaysDone, ShowsOptions, WasPassed, feeder_with, flatbed_with, memory_source}
 
 -- ---- where the world came from
 
@@ -96,18 +96,27 @@ moved_behind devices users job old mid new taken events led are run ran =
 abbrev history_of : (devices : List DeviceState) (users : List Entry) (job : Job) (new : WorldCore) → Came devices users job new → History
 history_of devices users job new c = and_then (begun devices users (job ∷ [])) c.events
 
-pub led_from : (devices : List DeviceState) (users : List Entry) (job : Job) (new : WorldCore) → Came devices users job new → LedFrom devices users job
+abbrev pub led_from : (devices : List DeviceState) (users : List Entry) (job : Job) (new : WorldCore) → Came devices users job new → LedFrom devices users job
 led_from devices users job new c = record { history = history_of devices users job new c; devices_are = refl; users_are = refl; jobs_are = refl; world = new; led = c.led }
 
-at_there : (devices : List DeviceState) (users : List Entry) (job : Job) (new : WorldCore) (c : Came devices users job new) → IsJobAt (history_of devices users job new c) new 0 job
+abbrev at_there : (devices : List DeviceState) (users : List Entry) (job : Job) (new : WorldCore) (c : Came devices users job new) → IsJobAt (history_of devices users job new c) new 0 job
 at_there devices users job new c = record { led = c.led; job_at = refl }
 
 -- ---- a job that is done
 
-abbrev pub SaysDone : WorldCore → Type 0
-SaysDone w = (h : History) (job : Job) → IsJobAt h w 0 job → (reports : Reports) × (outcome_at w 0 ≡ Some (Done reports)) × JobIsDone h w 0 job reports
+pub says_done : (w : WorldCore) (given : Outcome) (reports : Reports) → given ≡ Done reports → Some given ≡ outcome_at w 0 → KeepsOutcome w 0 (Some given) → SaysDone w
+says_done w given reports is at kept h job j =
+    let k = kept h job j in
+    let same : k.0 ≡ given = (let both : Some given ≡ Some k.0 = k.1 in cc) in
+    (reports, sym at ∙ ap (λ (o : Outcome). Some o) is, k.2.done reports (same ∙ is))
 
-done_from : (devices : List DeviceState) (users : List Entry) (job : Job) (new : WorldCore) → Came devices users job new → SaysDone new → DoneFrom devices users job
+pub says_answered : (w : WorldCore) (given : Outcome) (status : Status) → given ≡ Ended status Answer → KeepsOutcome w 0 (Some given) → SaysAnswered w status
+says_answered w given status is kept h job j =
+    let k = kept h job j in
+    let same : k.0 ≡ given = (let both : Some given ≡ Some k.0 = k.1 in cc) in
+    (k.2.ended status Answer (same ∙ is)).2
+
+abbrev done_from : (devices : List DeviceState) (users : List Entry) (job : Job) (new : WorldCore) → Came devices users job new → SaysDone new → DoneFrom devices users job
 done_from devices users job new c told =
     let d = told (history_of devices users job new c) job (at_there devices users job new c) in
     record { from = led_from devices users job new c; reports = d.0; is = d.1; right = d.2 }
@@ -174,9 +183,6 @@ put_none s t (x ∷ items) placed none put = absurd (let clash : x ∷ items ≡
 told_none : (k : DeviceKind) → (defaults k Little).told ≡ None
 unfolding defaults
 told_none k = refl
-
-abbrev pub SaysAnswered : WorldCore → Status → Type 0
-SaysAnswered w status = (h : History) (job : Job) → IsJobAt h w 0 job → IsEndingExplained h w 0 job (starved_at w 0) status Answer
 
 -- what the answer comes from, where the job has no settings, since then its options name no status
 answered : (k : DeviceKind) (name : List ℕ) (sources : List SourceState) (users : List Entry) (job : Job) (new : WorldCore) (status : Status) (c : Came (new_device k name sources Little ∷ []) users job new) → SaysAnswered new status → job.settings.items ≡ [] → AnswerIsExplained (history_of (new_device k name sources Little ∷ []) users job new c) new 0 job status
@@ -296,3 +302,27 @@ broken_off plain name page users job old new led clears other is =
         | inr (inr broke) ↦ broke
       ],
     )
+
+-- ---- of boxes
+
+pub led_boxed : {D : Type 0} (state : D → DeviceState) (items : List D) (box : D) (d : DeviceState) (users : List Entry) (job : Job) (old : WorldCore) → items ≡ box ∷ [] → state box ≡ d → LedTo (begun (map state items) users (job ∷ [])) old → LedTo (begun (d ∷ []) users (job ∷ [])) old
+led_boxed state items box d users job old is same led = subst (λ (ds : List DeviceState). LedTo (begun ds users (job ∷ [])) old) (ap (map state) is ∙ ap (λ (x : DeviceState). x ∷ []) same) led
+
+pub led_boxes : {D : Type 0} (state : D → DeviceState) (items : List D) (box other : D) (d e : DeviceState) (users : List Entry) (job : Job) (old : WorldCore) → items ≡ box ∷ other ∷ [] → state box ≡ d → state other ≡ e → LedTo (begun (map state items) users (job ∷ [])) old → LedTo (begun (d ∷ e ∷ []) users (job ∷ [])) old
+led_boxes state items box other d e users job old is same same_too led =
+    subst (λ (ds : List DeviceState). LedTo (begun ds users (job ∷ [])) old) (ap (map state) is ∙ (ap (λ (x : DeviceState). x ∷ state other ∷ []) same ∙ ap (λ (x : DeviceState). d ∷ x ∷ []) same_too)) led
+
+pub led_jobs : (states : List DeviceState) (users : List Entry) (jobs : List Job) (job : Job) (old : WorldCore) → jobs ≡ job ∷ [] → LedTo (begun states users jobs) old → LedTo (begun states users (job ∷ [])) old
+led_jobs states users jobs job old is led = subst (λ (js : List Job). LedTo (begun states users js) old) is led
+
+pub fault_boxed : {D : Type 0} (state : D → DeviceState) (items : List D) (box : D) (d : DeviceState) (jobs : List Job) (job : Job) (f : WorldFault) → items ≡ box ∷ [] → state box ≡ d → jobs ≡ job ∷ [] → HasFaultAmong f (map state items) jobs → HasFaultAmong f (d ∷ []) (job ∷ [])
+fault_boxed state items box d jobs job f is same own fault =
+    subst (λ (js : List Job). HasFaultAmong f (d ∷ []) js) own (subst (λ (ds : List DeviceState). HasFaultAmong f ds jobs) (ap (map state) is ∙ ap (λ (x : DeviceState). x ∷ []) same) fault)
+
+pub are_copies : (name : List ℕ) (pages : List PageView) (users : List Entry) (job : Job) (new : WorldCore) (file other first second : List ℕ) → first ≡ file → second ≡ other → Moved (feeder_with name pages ∷ []) users job new → KeepsPage new 0 1 (Some file) → KeepsPage new 0 2 (Some other) → AreScans (feeder_with name pages ∷ []) users job first second
+are_copies name pages users job new file other first second is is_too m one two =
+    subst (λ (x : List ℕ). AreScans (feeder_with name pages ∷ []) users job x second) (sym is)
+    (subst (λ (x : List ℕ). AreScans (feeder_with name pages ∷ []) users job file x) (sym is_too) (are_scans name pages users job new file other m one two))
+
+pub scan_copied : (name : List ℕ) (page : PageView) (users : List Entry) (job : Job) (new : WorldCore) (reports : Reports) (file bytes : List ℕ) → bytes ≡ file → Moved (flatbed_with name page ∷ []) users job new → KeepsScanFile new 0 (Some file) → outcome_at new 0 ≡ Some (Done reports) → job.task ≡ tasks.Scan → IsScanOf page job bytes
+scan_copied name page users job new reports file bytes same m kept is scan = subst (IsScanOf page job) (sym same) (scan_of name page users job new reports file m kept is scan)

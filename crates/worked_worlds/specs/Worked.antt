@@ -1,7 +1,7 @@
 -- What the worked worlds come to: each of one device and one job, and a definition of the promise that is met there.
 use Rattle.std.specs.Prelude.{ℕ, ◌≡◌, ◌≢◌, true, false, Some, None, List, [], ◌∷◌, map}
 use Rattle.sane_fixed.specs.declared.byte_order.ByteOrder.TheVariants.{Little}
-use Rattle.sane_fixed.specs.declared.device_info.DeviceInfo.{DeviceInfo}
+use Rattle.sane_fixed.specs.declared.status.Status.{Status}
 use Rattle.md5_auth.specs.ChallengeReading.{challenge_of}
 use Rattle.md5_auth.specs.declared.users.Entry.{Entry}
 use Rattle.netpbm.specs.Picture.{Picture}
@@ -19,13 +19,14 @@ use Rattle.virtual_scanner.specs.New.{new_device, new_scanner}
 use Rattle.scan_job.specs.declared.job.Job.{Job}
 use Rattle.scan_job.specs.declared.job.Task.TheVariants as tasks
 use Rattle.scan_job.specs.declared.outcome.Outcome.TheVariants.{Done}
+use Rattle.scan_job.specs.declared.outcome.Why.TheVariants.{Answer}
 use Rattle.scan_job.specs.declared.report.Reports.{Reports}
 use Rattle.scan_world.specs.Worlds.{IsFitJob, WorldCore}
 use Rattle.world_refines.specs.GhostStates.{backend_of, is_allowed_for, is_guarded}
-use Rattle.world_contract.specs.Calls.{outcome_at}
+use Rattle.world_contract.specs.Calls.{IsJobAt, outcome_at, starved_at}
 use Rattle.world_contract.specs.Histories.{History, LedTo}
 use Rattle.world_contract.specs.Clear.{BrokeOff, IsAllowedAlways}
-use Rattle.world_contract.specs.Endings.{HasPassed}
+use Rattle.world_contract.specs.Endings.{HasPassed, IsEndingExplained}
 use Rattle.world_contract.specs.Page.{IsScan}
 use Rattle.world_contract.specs.Promise.{JobIsDone}
 use Rattle.world_contract.specs.Reports.{AreOptionsShown}
@@ -34,7 +35,7 @@ use Rattle.world_contract.specs.Settings.{AreSettingsPut}
 
 -- ---- the devices
 
--- **worked worlds (`memory_source`, `flatbed_with`, `feeder_with`, `LedFrom`, `DoneFrom`, `ListsAll`, `ShowsOptions`, `WasPassed`,
+-- **worked worlds (`memory_source`, `flatbed_with`, `feeder_with`, `LedFrom`, `DoneFrom`, `SaysDone`, `SaysAnswered`, `ListsAll`, `ShowsOptions`, `WasPassed`,
 -- `IsUnlisted`, `IsDisallowed`, `IsPlainScan`, `HasBrokenOff`, `AreScans`)**: a flatbed with a page in memory, and a feeder with some; a history of these devices, users and one job, and a world
 -- to which it led; that the job is done there, and right; a list of all devices; a show of a flatbed's options; that the password
 -- was allowed for a challenge; a device that was not listed, a password that is not allowed; a scan in whose way nothing
@@ -69,6 +70,15 @@ pub record DoneFrom (devices : List DeviceState) (users : List Entry) (job : Job
   pub right : JobIsDone from.history from.world 0 job reports
 
 -- ---- what is met there
+
+-- of whatever history led to the world, and has this job alone: that it is done, and right; and what explains its answer
+abbrev pub SaysDone : WorldCore → Type 0
+SaysDone w =
+    (h : History) (job : Job) → IsJobAt h w 0 job
+    → (reports : Reports) × (outcome_at w 0 ≡ Some (Done reports)) × JobIsDone h w 0 job reports
+
+abbrev pub SaysAnswered : WorldCore → Status → Type 0
+SaysAnswered w status = (h : History) (job : Job) → IsJobAt h w 0 job → IsEndingExplained h w 0 job (starved_at w 0) status Answer
 
 -- it lists all devices, once, in their order
 abbrev pub ListsAll : List DeviceState → List Entry → Job → Type 0

@@ -2,17 +2,14 @@
 
 ghost use Rattle.std.specs.Prelude.{◌≡◌, ◌≢◌, Some, true, false};
 ghost use Rattle.device_api.specs.State.{DeviceState};
-ghost use Rattle.scan_job.specs.declared.job.Job.{Job};
+ghost use Rattle.sane_fixed.specs.declared.status.Status.TheVariants as statuses;
 ghost use Rattle.scan_job.specs.declared.outcome.Outcome.TheVariants.{Done, Ended};
-ghost use Rattle.scan_job.specs.declared.outcome.Why.TheVariants.{Answer, Memory};
 ghost use Rattle.scan_job.specs.declared.outcome.Outcome.{Outcome as AnOutcome};
-ghost use Rattle.sane_fixed.specs.declared.status.Status.TheVariants.{NoMem as OutOfMem};
+ghost use Rattle.scan_job.specs.declared.outcome.Why.TheVariants.{Memory};
 ghost use Rattle.scan_job.specs.declared.report.Reports.{Reports};
 ghost use Rattle.scan_world.specs.Worlds.{seen_world};
-ghost use Rattle.world_contract.specs.Calls.{IsJobAt, outcome_at, starved_at};
-ghost use Rattle.world_contract.specs.Histories.{History};
-ghost use Rattle.world_contract.specs.Endings.{IsEndingExplained};
-ghost use Rattle.world_contract.specs.Promise.{JobIsDone};
+ghost use Rattle.world_contract.specs.Calls.{outcome_at, starved_at};
+ghost use Rattle.worked_worlds.specs.Worked.{SaysAnswered, SaysDone};
 
 use device_api::Device;
 use net_backend::{Outcome, Why};
@@ -22,8 +19,7 @@ use world_contract::World;
 /// Whether it is done: then so that it is right.
 pub(crate) fn is_done(world: &World) -> bool
     ensures { let w = seen_world ⟦<Box<dyn Device> as Device>⟧.state world.now.inner in
-        result ≡ true → (h : History) (job : Job) → IsJobAt h w 0 job
-        → (reports : Reports) × (outcome_at w 0 ≡ Some (Done reports)) × JobIsDone h w 0 job reports }
+        result ≡ true → SaysDone w }
 {
     match world.outcome(0) {
         Some(Outcome::Done(_)) => true,
@@ -31,14 +27,35 @@ pub(crate) fn is_done(world: &World) -> bool
     }
 }
 
-/// Whether it was answered that status.
-pub(crate) fn was_answered(world: &World, status: Status) -> bool
+/// Whether it was answered ACCESS_DENIED.
+pub(crate) fn was_denied(world: &World) -> bool
     ensures { let w = seen_world ⟦<Box<dyn Device> as Device>⟧.state world.now.inner in
-        result ≡ true → (h : History) (job : Job) → IsJobAt h w 0 job
-        → IsEndingExplained h w 0 job (starved_at w 0) status Answer }
+        result ≡ true → SaysAnswered w statuses.AccessDenied }
 {
     match world.outcome(0) {
-        Some(Outcome::Ended(told, Why::Answer)) => *told == status,
+        Some(Outcome::Ended(Status::AccessDenied, Why::Answer)) => true,
+        Some(_) | None => false,
+    }
+}
+
+/// Whether it was answered INVAL.
+pub(crate) fn was_invalid(world: &World) -> bool
+    ensures { let w = seen_world ⟦<Box<dyn Device> as Device>⟧.state world.now.inner in
+        result ≡ true → SaysAnswered w statuses.Inval }
+{
+    match world.outcome(0) {
+        Some(Outcome::Ended(Status::Inval, Why::Answer)) => true,
+        Some(_) | None => false,
+    }
+}
+
+/// Whether it was answered NO_DOCS.
+pub(crate) fn had_no_docs(world: &World) -> bool
+    ensures { let w = seen_world ⟦<Box<dyn Device> as Device>⟧.state world.now.inner in
+        result ≡ true → SaysAnswered w statuses.NoDocs }
+{
+    match world.outcome(0) {
+        Some(Outcome::Ended(Status::NoDocs, Why::Answer)) => true,
         Some(_) | None => false,
     }
 }
@@ -58,7 +75,7 @@ pub(crate) fn end_of(world: &World) -> End
         result ≡ End.Done → (reports : Reports) × (outcome_at w 0 ≡ Some (Done reports)) }
     ensures other { let w = seen_world ⟦<Box<dyn Device> as Device>⟧.state world.now.inner in
         result ≡ End.Other → (starved_at w 0 ≡ false) × ((o : AnOutcome) → outcome_at w 0 ≡ Some o
-        → ((reports : Reports) → o ≢ Done reports) × (o ≢ Ended OutOfMem Memory)) }
+        → ((reports : Reports) → o ≢ Done reports) × (o ≢ Ended statuses.NoMem Memory)) }
 {
     if world.starved(0) {
         return End::OutOfMemory;

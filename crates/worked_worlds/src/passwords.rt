@@ -4,12 +4,12 @@ ghost use Rattle.std.specs.Prelude.{◌≡◌, true, [], ◌∷◌};
 ghost use Rattle.scan_job.specs.declared.job.Task.TheVariants as tasks;
 ghost use Rattle.worked_worlds.specs.Worked.{IsDisallowed, LedFrom, WasPassed, flatbed_with};
 
-use crate::ends::{is_done, was_answered};
+use crate::ends::{is_done, was_denied};
 use crate::worlds::{flatbed_on, one_box, world_of};
 use md5_auth::Users;
 use net_backend::Job;
 use page_picture::Page;
-use sane_fixed::{Status, Text};
+use sane_fixed::Text;
 use std::alloc::Global;
 
 /// Scans on a flatbed whose backend these users may guard. Whether the job is done.
@@ -61,5 +61,5 @@ pub fn scan_with_wrong_password(
         return false;
     };
     world.run_all();
-    was_answered(&world, Status::AccessDenied)
+    was_denied(&world)
 }

@@ -2,6 +2,7 @@
 
 ghost use Rattle.std.specs.Prelude.{◌≡◌, ◌⊎◌, IfErr, IfOk, [], ◌∷◌};
 ghost use Rattle.scan_job.specs.declared.job.Task.TheVariants as tasks;
+ghost use Rattle.scan_world.specs.declared.world_fault.WorldFault.TheVariants as faults;
 ghost use Rattle.world_contract.specs.Examples.{IsScanOf};
 ghost use Rattle.worked_worlds.specs.Worked.{HasBrokenOff, IsPlainScan, flatbed_with};
 
@@ -24,6 +25,19 @@ pub enum NoFile {
     BadJob,
     #[error("the session broke off")]
     BrokenOff,
+}
+
+/// What a refusal of the world comes to.
+fn no_file(fault: WorldFault) -> NoFile
+    ensures { fault ≡ faults.NoMem → result ≡ NoFile.NoMem }
+{
+    match fault {
+        WorldFault::NoMem => NoFile::NoMem,
+        WorldFault::SameName
+        | WorldFault::TooManyDevices
+        | WorldFault::TooManyJobs
+        | WorldFault::BadJob => NoFile::BadJob,
+    }
 }
 
 /// Scans on a flatbed with this page, over the net, and answers the file.
@@ -59,8 +73,7 @@ pub fn scan_surely(
     }
     let mut world = match World::new(alloc, devices, users, [0; 32], jobs) {
         Ok(world) => world,
-        Err((WorldFault::NoMem, _)) => return Err(NoFile::NoMem),
-        Err(_) => return Err(NoFile::BadJob),
+        Err((fault, _)) => return Err(no_file(fault)),
     };
     world.run_all();
     match end_of(&world) {
@@ -71,5 +84,8 @@ pub fn scan_surely(
     let Some(file) = world.file(0) else {
         return Err(NoFile::NoMem);
     };
-    copied(alloc, file).ok_or(NoFile::NoMem)
+    let Some(copy) = copied(alloc, file) else {
+        return Err(NoFile::NoMem);
+    };
+    Ok(copy)
 }

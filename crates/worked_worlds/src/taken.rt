@@ -8,12 +8,12 @@ ghost use Rattle.sane_fixed.specs.declared.byte_order.ByteOrder.TheVariants.{Lit
 ghost use Rattle.scan_world.specs.declared.event.Event.TheVariants.{Unplug};
 ghost use Rattle.worked_worlds.specs.Worked.{IsUnlisted, LedFrom, flatbed_with};
 
-use crate::ends::was_answered;
+use crate::ends::was_invalid;
 use crate::worlds::{flatbed_on, one_box, world_of};
 use md5_auth::Users;
 use net_backend::Job;
 use page_picture::Page;
-use sane_fixed::{Status, Text};
+use sane_fixed::Text;
 use std::alloc::Global;
 use world_contract::Event;
 
@@ -61,5 +61,5 @@ pub fn scan_of_taken_out(
     };
     world.run(events);
     world.run_all();
-    was_answered(&world, Status::Inval)
+    was_invalid(&world)
 }

@@ -6,13 +6,13 @@ ghost use Rattle.page_picture.specs.Page.{PageView};
 ghost use Rattle.world_contract.specs.Endings.{HadNoPage};
 ghost use Rattle.worked_worlds.specs.Worked.{AreScans, LedFrom, feeder_with, memory_source};
 
-use crate::ends::was_answered;
+use crate::ends::had_no_docs;
 use crate::worlds::{copied, one_box, world_of};
 use flatbed_dev::Feeder;
 use md5_auth::Users;
 use net_backend::Job;
 use page_picture::{MemoryPage, Page, Source};
-use sane_fixed::{ByteOrder, Status, Text};
+use sane_fixed::{ByteOrder, Text};
 use std::alloc::Global;
 
 /// Scans on a feeder with an empty tray. Whether that was answered NO_DOCS.
@@ -36,7 +36,7 @@ pub fn scan_no_page(alloc: Global, name: Text, users: Users, job: Job) -> bool
         return false;
     };
     world.run_all();
-    was_answered(&world, Status::NoDocs)
+    had_no_docs(&world)
 }
 
 /// These pages, from memory.
