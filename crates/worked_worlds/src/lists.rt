@@ -5,13 +5,13 @@ ghost use Rattle.scan_job.specs.declared.job.Task.TheVariants as tasks;
 ghost use Rattle.worked_worlds.specs.Worked.{ListsAll, flatbed_with};
 
 use crate::ends::is_done;
-use crate::worlds::{flatbed_on, one_box, world_of};
+use crate::worlds::{flatbed_on, one_box, one_job};
 use md5_auth::Users;
 use net_backend::Job;
 use page_picture::Page;
 use sane_fixed::Text;
 use std::alloc::Global;
-use world_contract::all_are_listed;
+use world_contract::{World, all_are_listed};
 
 /// Lists two flatbeds. Whether the job is done.
 pub fn list_both(
@@ -46,7 +46,10 @@ pub fn list_both(
     if devices.push(other).is_err() {
         return false;
     }
-    let Some(mut world) = world_of(alloc, devices, users, job) else {
+    let Some(jobs) = one_job(alloc, job) else {
+        return false;
+    };
+    let Ok(mut world) = World::new(alloc, devices, users, [0; 32], jobs) else {
         return false;
     };
     world.run_all();

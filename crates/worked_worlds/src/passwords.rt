@@ -5,12 +5,13 @@ ghost use Rattle.scan_job.specs.declared.job.Task.TheVariants as tasks;
 ghost use Rattle.worked_worlds.specs.Worked.{IsDisallowed, LedFrom, WasPassed, flatbed_with};
 
 use crate::ends::{is_done, was_denied};
-use crate::worlds::{flatbed_on, one_box, world_of};
+use crate::worlds::{flatbed_on, one_box, one_job};
 use md5_auth::Users;
 use net_backend::Job;
 use page_picture::Page;
 use sane_fixed::Text;
 use std::alloc::Global;
+use world_contract::World;
 
 /// Scans on a flatbed whose backend these users may guard. Whether the job is done.
 pub fn scan_with_password(alloc: Global, name: Text, page: Page, users: Users, job: Job) -> bool
@@ -28,7 +29,10 @@ pub fn scan_with_password(alloc: Global, name: Text, page: Page, users: Users, j
     let Some(devices) = one_box(alloc, scanner) else {
         return false;
     };
-    let Some(mut world) = world_of(alloc, devices, users, job) else {
+    let Some(jobs) = one_job(alloc, job) else {
+        return false;
+    };
+    let Ok(mut world) = World::new(alloc, devices, users, [0; 32], jobs) else {
         return false;
     };
     world.run_all();
@@ -57,7 +61,10 @@ pub fn scan_with_wrong_password(
     let Some(devices) = one_box(alloc, scanner) else {
         return false;
     };
-    let Some(mut world) = world_of(alloc, devices, users, job) else {
+    let Some(jobs) = one_job(alloc, job) else {
+        return false;
+    };
+    let Ok(mut world) = World::new(alloc, devices, users, [0; 32], jobs) else {
         return false;
     };
     world.run_all();

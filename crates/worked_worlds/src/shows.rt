@@ -5,12 +5,13 @@ ghost use Rattle.scan_job.specs.declared.job.Task.TheVariants as tasks;
 ghost use Rattle.worked_worlds.specs.Worked.{ShowsOptions, flatbed_with};
 
 use crate::ends::is_done;
-use crate::worlds::{flatbed_on, one_box, world_of};
+use crate::worlds::{flatbed_on, one_box, one_job};
 use md5_auth::Users;
 use net_backend::Job;
 use page_picture::Page;
 use sane_fixed::Text;
 use std::alloc::Global;
+use world_contract::World;
 
 /// Shows the options of a flatbed. Whether the job is done.
 pub fn show_options(alloc: Global, name: Text, page: Page, users: Users, job: Job) -> bool
@@ -27,7 +28,10 @@ pub fn show_options(alloc: Global, name: Text, page: Page, users: Users, job: Jo
     let Some(devices) = one_box(alloc, scanner) else {
         return false;
     };
-    let Some(mut world) = world_of(alloc, devices, users, job) else {
+    let Some(jobs) = one_job(alloc, job) else {
+        return false;
+    };
+    let Ok(mut world) = World::new(alloc, devices, users, [0; 32], jobs) else {
         return false;
     };
     world.run_all();

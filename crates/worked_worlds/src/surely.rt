@@ -7,7 +7,7 @@ ghost use Rattle.world_contract.specs.Examples.{IsScanOf};
 ghost use Rattle.worked_worlds.specs.Worked.{HasBrokenOff, IsPlainScan, flatbed_with};
 
 use crate::ends::{End, end_of};
-use crate::worlds::{copied, flatbed_on, one_box};
+use crate::worlds::{copied, flatbed_on, one_box, one_job};
 use md5_auth::Users;
 use net_backend::Job;
 use page_picture::Page;
@@ -67,10 +67,9 @@ pub fn scan_surely(
     let Some(devices) = one_box(alloc, scanner) else {
         return Err(NoFile::NoMem);
     };
-    let mut jobs = Vec::new(alloc);
-    if jobs.push(job).is_err() {
+    let Some(jobs) = one_job(alloc, job) else {
         return Err(NoFile::NoMem);
-    }
+    };
     let mut world = match World::new(alloc, devices, users, [0; 32], jobs) {
         Ok(world) => world,
         Err((fault, _)) => return Err(no_file(fault)),

@@ -9,13 +9,13 @@ ghost use Rattle.scan_world.specs.declared.event.Event.TheVariants.{Unplug};
 ghost use Rattle.worked_worlds.specs.Worked.{IsUnlisted, LedFrom, flatbed_with};
 
 use crate::ends::was_invalid;
-use crate::worlds::{flatbed_on, one_box, world_of};
+use crate::worlds::{flatbed_on, one_box, one_job};
 use md5_auth::Users;
 use net_backend::Job;
 use page_picture::Page;
 use sane_fixed::Text;
 use std::alloc::Global;
-use world_contract::Event;
+use world_contract::{Event, World};
 
 /// The device of that name is taken out.
 fn taken_out(alloc: Global, name: Text) -> Option<Vec<Event>>
@@ -56,7 +56,10 @@ pub fn scan_of_taken_out(
     let Some(events) = taken_out(alloc, taken) else {
         return false;
     };
-    let Some(mut world) = world_of(alloc, devices, users, job) else {
+    let Some(jobs) = one_job(alloc, job) else {
+        return false;
+    };
+    let Ok(mut world) = World::new(alloc, devices, users, [0; 32], jobs) else {
         return false;
     };
     world.run(events);

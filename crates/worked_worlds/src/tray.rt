@@ -7,13 +7,14 @@ ghost use Rattle.world_contract.specs.Endings.{HadNoPage};
 ghost use Rattle.worked_worlds.specs.Worked.{AreScans, LedFrom, feeder_with, memory_source};
 
 use crate::ends::had_no_docs;
-use crate::worlds::{copied, one_box, world_of};
+use crate::worlds::{copied, one_box, one_job};
 use flatbed_dev::Feeder;
 use md5_auth::Users;
 use net_backend::Job;
 use page_picture::{MemoryPage, Page, Source};
 use sane_fixed::{ByteOrder, Text};
 use std::alloc::Global;
+use world_contract::World;
 
 /// Scans on a feeder with an empty tray. Whether that was answered NO_DOCS.
 pub fn scan_no_page(alloc: Global, name: Text, users: Users, job: Job) -> bool
@@ -32,7 +33,10 @@ pub fn scan_no_page(alloc: Global, name: Text, users: Users, job: Job) -> bool
     let Some(devices) = one_box(alloc, scanner) else {
         return false;
     };
-    let Some(mut world) = world_of(alloc, devices, users, job) else {
+    let Some(jobs) = one_job(alloc, job) else {
+        return false;
+    };
+    let Ok(mut world) = World::new(alloc, devices, users, [0; 32], jobs) else {
         return false;
     };
     world.run_all();
@@ -73,7 +77,10 @@ pub fn scan_pages(
         return None;
     };
     let devices = one_box(alloc, scanner)?;
-    let mut world = world_of(alloc, devices, users, job)?;
+    let jobs = one_job(alloc, job)?;
+    let Ok(mut world) = World::new(alloc, devices, users, [0; 32], jobs) else {
+        return None;
+    };
     world.run_all();
     let first_file = copied(alloc, world.file_at(0, 1)?)?;
     let second_file = copied(alloc, world.file_at(0, 2)?)?;

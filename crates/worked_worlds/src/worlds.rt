@@ -1,20 +1,14 @@
-//! Worlds of one job.
+//! What worlds of one job are made of.
 
-ghost use Rattle.std.specs.Prelude.{◌≡◌, IfSome, List, [], ◌∷◌, map};
-ghost use Rattle.page_picture.specs.SourceView.{source_state};
-ghost use Rattle.page_picture.specs.declared.sources.kinds.Source.TheVariants.{Memory};
-ghost use Rattle.scan_world.specs.Worlds.{seen_world};
-ghost use Rattle.world_contract.specs.Histories.{LedTo, begun};
-ghost use Rattle.worked_worlds.specs.Worked.{flatbed_with, memory_source};
+ghost use Rattle.std.specs.Prelude.{◌≡◌, IfSome, [], ◌∷◌};
+ghost use Rattle.worked_worlds.specs.Worked.{flatbed_with};
 
 use device_api::Device;
 use flatbed_dev::Flatbed;
-use md5_auth::Users;
 use net_backend::Job;
 use page_picture::{MemoryPage, Page, Source};
 use sane_fixed::{ByteOrder, Text};
 use std::alloc::Global;
-use world_contract::World;
 
 /// A flatbed of that name with this page in memory.
 pub(crate) fn flatbed_on(alloc: Global, name: Text, page: Page) -> Option<Flatbed>
@@ -51,20 +45,13 @@ pub(crate) fn copied(alloc: Global, bytes: &[u8]) -> Option<Vec<u8>>
     Some(copy)
 }
 
-/// A world of these devices and one job.
-pub(crate) fn world_of(
-    alloc: Global,
-    devices: Vec<Box<dyn Device>>,
-    users: Users,
-    job: Job,
-) -> Option<World>
-    ensures { let states = map ⟦<Box<dyn Device> as Device>⟧.state devices.items in
-        IfSome result (λ w. LedTo (begun states users (job ∷ []))
-        (seen_world ⟦<Box<dyn Device> as Device>⟧.state w.inner)) }
+/// One job.
+pub(crate) fn one_job(alloc: Global, job: Job) -> Option<Vec<Job>>
+    ensures { IfSome result (λ jobs. jobs.items ≡ job ∷ []) }
 {
     let mut jobs = Vec::new(alloc);
     if jobs.push(job).is_err() {
         return None;
     }
-    World::new(alloc, devices, users, [0; 32], jobs).ok()
+    Some(jobs)
 }
