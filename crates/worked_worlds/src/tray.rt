@@ -66,8 +66,8 @@ pub fn scan_pages(
 ) -> Option<(Vec<u8>, Vec<u8>)>
     /// The files of the first two pages of a batch on a feeder are scans of the job, the second one of a start that it asked for
     /// as one page was finished.
-    ensures { IfSome result (λ files.
-        AreScans (feeder_with name (first ∷ second ∷ []) ∷ []) users job files.0.items files.1.items) }
+    ensures { IfSome result (λ files. AreScans
+        (feeder_with name (first ∷ second ∷ []) ∷ []) users job files.0.items files.1.items) }
 {
     let pages = both_pages(alloc, first, second)?;
     let Ok(feeder) = Feeder::new(alloc, name, pages, ByteOrder::Little) else {

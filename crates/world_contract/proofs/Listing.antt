@@ -76,8 +76,8 @@ all_are_listed below h w i job at none =
     let infos : u.infos ≡ infos_of h = ap (λ (f : Fixed). f.1) (all_fixed source_state h.events t k.run.steps u k.run.comes) in
     let table = table_of u w 0 (slice_get w.endpoints 0) refl k.run.stands in
     let here : (n : ℕ) (p : Place DeviceState) → slice_get w.daemon.registry n ≡ Some p → is_gone p.slot ≡ false = λ n p is. (
-        let name : name_at (infos_of h) n ≡ Some p.info.name = ap (λ (x : List DeviceInfo). name_at x n) (sym infos ∙ k.run.stands.is_of.infos) ∙ mapped_at w.daemon.registry n p is in
-        let d = named_at h.devices n p.info.name name in
-        let on = listed_at below h w job l n d.0 d.1 (λ among. none d.0.info.name (contains_in h.events (Unplug d.0.info.name) among)) in
-        not_gone 0 (u.system.make n) table.0 n (u.system.device n) p.info.name p.slot (subst (λ (o : Option (Place DeviceState)). PlaceRefines 0 (u.system.make n) table.0 n (u.system.device n) o) is (table.1.places n)) on) in
+    let name : name_at (infos_of h) n ≡ Some p.info.name = ap (λ (x : List DeviceInfo). name_at x n) (sym infos ∙ k.run.stands.is_of.infos) ∙ mapped_at w.daemon.registry n p is in
+    let d = named_at h.devices n p.info.name name in
+    let on = listed_at below h w job l n d.0 d.1 (λ among. none d.0.info.name (contains_in h.events (Unplug d.0.info.name) among)) in
+    not_gone 0 (u.system.make n) table.0 n (u.system.device n) p.info.name p.slot (subst (λ (o : Option (Place DeviceState)). PlaceRefines 0 (u.system.make n) table.0 n (u.system.device n) o) is (table.1.places n)) on) in
     all_listed w.daemon.registry here ∙ (sym k.run.stands.is_of.infos ∙ infos)

@@ -272,11 +272,13 @@ own_beside h w o s a b ja jb x pair st sound apart bes =
         | inr new ↦ (subst IsPast (sym b_same) new.2, λ too. not_asks new.0 new.1 (bes.other (subst Hit b_same too)).0)
       ];
       other = λ too.
-          let r = bes.other (subst Hit b_same too) in
-          (past r.0, λ hit. elim (back hit) [
-            | inl old ↦ r.1 old
-            | inr new ↦ not_asks new.0 new.1 r.0
-          ]);
+          let r = bes.other (subst Hit b_same too) in (
+            past r.0,
+            λ hit. elim (back hit) [
+              | inl old ↦ r.1 old
+              | inr new ↦ not_asks new.0 new.1 r.0
+            ],
+          );
       unnamed = λ on m.
           let was = on_by st.below.last s a x st.may a true (own a) on in
           elim (met_or h w o s a x (Names Busy) st m) [

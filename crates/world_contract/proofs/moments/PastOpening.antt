@@ -169,6 +169,7 @@ hear_imaging params heard job m (Shaped shape) = tt
 hear_imaging params heard job m (Begun order) = tt
 hear_imaging params heard job m Acked = tt
 hear_imaging params heard job m (Refused status) = tt
+
 hear_late : (g : AbstractProgress) (job : AbstractJob) (m : ClientView) (r : AbstractReply) → IsLateStage (Running g) → IsLateStage (hear_at g job m r).stage
 hear_late Greeting job m r late = absurd late
 hear_late Listing job m r late = absurd late

@@ -69,8 +69,8 @@ came_there all h other u v i x l run can ran =
     let k = kept_by all h u other l in
     let left : left_at u i ≡ moves_left_of ran.0 = ap moves_answered ran.1 in
     let some : 0 < left_at u i = some_left (left_at u i) (λ none.
-        let off = k.promises.left i ran.0 ran.1 (sym left ∙ none) in
-        let clash : true ≡ false = sym (ap is_running ran.2) ∙ off in cc) in
+    let off = k.promises.left i ran.0 ran.1 (sym left ∙ none) in
+    let clash : true ≡ false = sym (ap is_running ran.2) ∙ off in cc) in
     let less = move_lowers (job_event_of i x ∷ []) u v run i x refl can some in
     (ran, λ same. not_less (left_at u i) (subst (λ (w : WorldCore). left_at w i < left_at u i) same less))
 
