@@ -12,5 +12,3 @@ mod local;
 mod program;
 #[cfg(test)]
 mod streams;
-#[cfg(test)]
-mod worked;

@@ -16,17 +16,17 @@ use std::process::Abort;
 
 const RESOLUTION: u32 = 3;
 
-pub(crate) const TWO_ROWS: &[u8] = b"P5\n1 2\n255\n\x07\x09";
+const TWO_ROWS: &[u8] = b"P5\n1 2\n255\n\x07\x09";
 
 /// The settings that show the two-row page as it is.
-pub(crate) const ONE_BY_TWO: &[(&[u8], &[u8])] = &[
+const ONE_BY_TWO: &[(&[u8], &[u8])] = &[
     (b"resolution", b"26"),
     (b"br-x", b"1"),
     (b"br-y", b"2"),
 ];
 
 /// Its whole file, of 33 bytes.
-pub(crate) const TWO_ROWS_FILE: &[u8] = b"P5\n# SANE data follows\n1 2\n255\n\x07\x09";
+const TWO_ROWS_FILE: &[u8] = b"P5\n# SANE data follows\n1 2\n255\n\x07\x09";
 
 fn text(rt: &impl Abort, alloc: Global, bytes: &[u8]) -> Text {
     Text::new(alloc, bytes).expect(rt, "a text")
@@ -41,7 +41,7 @@ fn flatbed(rt: &impl Abort, alloc: Global, source: Source) -> Flatbed {
 }
 
 /// A flatbed on a page file of so many dots per inch.
-pub(crate) fn flatbed_on(rt: &impl Abort, alloc: Global, file: &[u8], dpi: u32) -> Flatbed {
+fn flatbed_on(rt: &impl Abort, alloc: Global, file: &[u8], dpi: u32) -> Flatbed {
     let page = read_page(alloc, file, dpi).expect(rt, "a page");
     flatbed(rt, alloc, Source::Memory(MemoryPage::new(page)))
 }
@@ -57,7 +57,7 @@ fn pairs(rt: &impl Abort, alloc: Global, settings: &[(&[u8], &[u8])]) -> Vec<(Te
 }
 
 /// A job of these settings, in their order.
-pub(crate) fn job(rt: &impl Abort, alloc: Global, settings: &[(&[u8], &[u8])], task: Task) -> Job {
+fn job(rt: &impl Abort, alloc: Global, settings: &[(&[u8], &[u8])], task: Task) -> Job {
     Job {
         settings: pairs(rt, alloc, settings),
         user: text(rt, alloc, b"user"),

@@ -1,6 +1,6 @@
 -- All that is promised of a job, call by call.
 use Rattle.page_picture.specs.SourceView.{source_state}
-use Rattle.std.specs.Prelude.{option_map, slice_get, slice_index_or, ◌<◌, ◌≤◌, ◌-◌, ◌==◌, ◌||◌, nat_lt, if◌then◌else◌, cond, map}
+use Rattle.std.specs.Prelude.{option_and_then, option_map, slice_get, slice_index_or, ◌<◌, ◌≤◌, ◌-◌, ◌==◌, ◌||◌, nat_lt, if◌then◌else◌, cond, map}
 use Rattle.std.specs.Prelude.{min}
 use Rattle.std.proofs.Math.Nat.{le-min, min-eq_left, min-le_left, min-le_right}
 use Rattle.std.proofs.lemmas.Option.{get_or_from_slice_get, slice_get_within}
@@ -20,8 +20,8 @@ use Rattle.scan_world.specs.JobMoves.{moves_left_of}
 use Rattle.scan_world.specs.Endpoints.{finished_page}
 use Rattle.scan_world.specs.declared.endpoint.Endpoint.{Endpoint}
 use Rattle.scan_world.specs.Worlds.{IsFitJob, WorldCore}
-use Rattle.world_contract.specs.Histories.{History}
-use Rattle.world_contract.specs.Page.{AreInForce, Settled}
+use Rattle.world_contract.specs.Histories.{History, history_up_to}
+use Rattle.world_contract.specs.Page.{AreInForce, IsScan, IsSteady, Settled}
 use Rattle.world_contract.specs.Endings.{HadNoPage}
 use Rattle.world_contract.specs.Promise.{CountIsKept, FileIsKept, MoveIsKept, MovesAreKept, OutcomeIsKept, PageIsKept}
 use Rattle.world_contract.specs.Laws.{Below}
@@ -45,7 +45,8 @@ use Rattle.scan_world.specs.FileDraining.{HasFiles, KeepsFile}
 use Rattle.system_model.specs.Client.{AbstractJob as RuledJob}
 use Rattle.world_refines.specs.WorldRefinement.{KeepsFiles, is_laid}
 use Rattle.world_refines.proofs.job_events.Constant.{Fixed, all_fixed}
-use Rattle.world_contract.proofs.Ended.{at_end, comes_there, first_here, laws_of, steps_of_one}
+use Rattle.world_contract.proofs.InTime.{end_file, end_outcome, end_there, explained_in_time, scan_on, steady_on}
+use Rattle.world_contract.proofs.Ended.{comes_there, first_here, laws_of, steps_of_one}
 use Rattle.world_contract.proofs.moments.Listed.{list_kept}
 use Rattle.world_contract.proofs.moments.Unfiled.{empty_file}
 use Rattle.client_replies.specs.ProtocolStates.{scans}
@@ -267,7 +268,7 @@ outcome_kept below h w i job p j = record {
   };
   ended = λ status why e.
       let s = (kept_by below.kept h w job j.led).promises.statuses i p status why j.endpoint_at e in
-      record { not_good = s.0; not_eof = s.1; caused = at_end below h w i job p status why j e };
+      (s.0, s.1, explained_in_time below h w i job p status why j e);
 }
 
 -- what no other job's file is
@@ -285,19 +286,33 @@ task_there below h w i job p j =
     let k = kept_by below.kept h w job j.led in
     (k.run.stands.endpoints i p j.endpoint_at).talks.task ∙ ap (λ (x : Job). x.task) (job_there h w job j.led k i j.job_at)
 
+scan_kept : Below → (h : History) (w : WorldCore) (i : ℕ) (job : Job) (p : Endpoint) (reports : Reports) (file : List ℕ) → IsJob h w i job p → IsSteady h w i job.device → job.task ≡ tasks.Scan → p.client.outcome ≡ Done reports → p.file ≡ Some file → IsScan h w i job 0 file
+scan_kept below h w i job p reports file j steady scan done is =
+    let e = end_there below h w i job p j in
+    scan_on h w i e.until job 0 file
+    (scan_right below (history_up_to h e.until.front) e.until.at i job e.endpoint reports file e.is (steady_on h w i e.until job.device steady) scan (end_outcome h w i job p j e ∙ done) (end_file h w i job p j e ∙ is))
+
 pub file_kept : Below → (h : History) (w : WorldCore) (i : ℕ) (job : Job) (p : Endpoint) → IsJob h w i job p → FileIsKept h w i job p.out_of_memory p.client.outcome p.file
 file_kept below h w i job p j =
     let k = kept_by below.kept h w job j.led in
     record {
-      scanned = λ reports bytes steady scan done f. scan_right below h w i job p reports bytes j steady scan done f;
+      scanned = λ reports bytes steady scan done f. scan_kept below h w i job p reports bytes j steady scan done f;
       whole = λ bytes f is. whole_as p.client.outcome job.task (λ undone. k.promises.short i p bytes j.endpoint_at undone f is) (λ reports done other. no_scan below h w i job p reports bytes j done other f is);
       missing = λ f. k.promises.starved i p j.endpoint_at f;
       empty = λ no. empty_file h w i p j.led j.endpoint_at (ap scans (task_there below h w i job p j) ∙ no);
     }
 
+page_scanned : Below → (h : History) (w : WorldCore) (i k : ℕ) (job : Job) (p : Endpoint) (file : List ℕ) → IsJob h w i job p → IsSteady h w i job.device → finished_page p k ≡ Some file → IsScan h w i job (k - 1) file
+page_scanned below h w i k job p file j steady f =
+    let e = end_there below h w i job p j in
+    let same : finished_page e.endpoint k ≡ finished_page p k = sym (ap (option_and_then (λ (q : Endpoint). finished_page q k)) e.is.endpoint_at) ∙ (sym (e.until.stays.pages k) ∙ ap (option_and_then (λ (q : Endpoint). finished_page q k)) j.endpoint_at) in
+    let page = page_there e.endpoint k file (same ∙ f) in
+    scan_on h w i e.until job (k - 1) file
+    (page_right below (history_up_to h e.until.front) e.until.at i (k - 1) job e.endpoint file e.is (steady_on h w i e.until job.device steady) page.low page.at)
+
 pub page_kept : Below → (h : History) (w : WorldCore) (i k : ℕ) (job : Job) (p : Endpoint) → IsJob h w i job p → PageIsKept h w i job p.out_of_memory (min p.finished 16) k (finished_page p k)
 page_kept below h w i k job p j = record {
-  scanned = λ bytes f. let page = page_there p k bytes f in (page.some, page.finished, λ steady. page_right below h w i (k - 1) job p bytes j steady page.low page.at);
+  scanned = λ bytes f. let page = page_there p k bytes f in (page.some, page.finished, λ steady. page_scanned below h w i k job p bytes j steady f);
   missing = λ some within f. (kept_by below.kept h w job j.led).promises.pages_lost i k p j.endpoint_at some (omega (arith, within, min-le_left p.finished 16)) (omega (arith, within, min-le_right p.finished 16)) f;
 }
 

@@ -27,13 +27,13 @@ use Rattle.world_contract.specs.Histories.{History, LedTo, and_then, begun}
 use Rattle.world_contract.specs.Promise.{CountIsKept, FileIsKept, MoveIsKept, MovesAreKept, OutcomeIsKept, PageIsKept}
 use Rattle.world_contract.specs.Calls.{IsJobAt, IsMoveAt, KeepsPageCount, KeepsScanFile, KeepsMemory, KeepsMove, KeepsMoves, KeepsOutcome, KeepsPage, KeepsRunning, MovesNext, file_answered, finished_at, finished_by, is_starved, left_at, moves_answered, outcome_at, page_answered, starved_at}
 use Rattle.world_contract.specs.Laws.{AllFollow, Below}
-use Rattle.world_contract.proofs.Jobs.{IsJob, item_there}
 use Rattle.world_contract.proofs.Led.{led_then}
 use Rattle.world_contract.proofs.NextMoves.{quiet_loads, quiet_moves, rounds_moves}
 use Rattle.world_contract.proofs.Scanned.{at_first, kept_by}
 use Rattle.world_refines.proofs.job_events.Constant.{Fixed, all_fixed}
 use Rattle.world_contract.proofs.AllKept.{count_kept, file_kept, move_kept, moves_kept, outcome_kept, page_kept}
 use Rattle.world_contract.proofs.Ended.{loss_kept}
+use Rattle.world_contract.proofs.There.{endpoint_there, outcome_there}
 
 -- ---- what the calls were handed
 
@@ -73,19 +73,6 @@ few_in (j ∷ jobs) (p ∷ endpoints) new zero job at =
     let budget : p.budget ≡ (if is_batch job.task then 2 ^ 36 else 2 ^ 34) = ap (λ (q : Endpoint). q.budget) new.0.rest ∙ (budget_is j.task ∙ ap (λ (k : Job). if is_batch k.task then 2 ^ 36 else 2 ^ 34) same) in
     subst (λ (n : ℕ). moves_left_of p ≤ n) budget (at_most (is_running p.client.outcome) p.budget)
 few_in (j ∷ jobs) (p ∷ endpoints) new (suc i) job at = few_in jobs endpoints new.1 i job at
-
--- ---- the endpoint of a job
-
-pub endpoint_there : Below → (h : History) (w : WorldCore) (i : ℕ) (job : Job) → IsJobAt h w i job → (p : Endpoint) × IsJob h w i job p
-endpoint_there below h w i job at =
-    let k = kept_by below.kept h w job at.led in
-    let count : k.run.ghost_then.count ≡ length h.jobs = ap (λ (f : Fixed). f.2) (all_fixed source_state h.events (at_first h w job at.led) k.run.steps k.run.ghost_then k.run.comes) in
-    let as_many : length h.jobs ≡ length w.endpoints = sym count ∙ k.run.stands.is_of.count in
-    let p = item_there w.endpoints i (subst (λ (n : ℕ). i < n) as_many (slice_get_within h.jobs i job at.job_at)) in
-    (p.0, record { led = at.led; job_at = at.job_at; endpoint_at = p.1 })
-
-pub outcome_there : (endpoints : List Endpoint) (i : ℕ) (p : Endpoint) (o : Outcome) → slice_get endpoints i ≡ Some p → option_map (λ (x : Endpoint). x.client.outcome) (slice_get endpoints i) ≡ Some o → p.client.outcome ≡ o
-outcome_there endpoints i p o at e = let both : Some p.client.outcome ≡ Some o = ap (option_map (λ (x : Endpoint). x.client.outcome)) (sym at) ∙ e in cc
 
 -- ---- what the calls answer
 

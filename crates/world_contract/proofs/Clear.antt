@@ -1,13 +1,13 @@
 -- A job in whose way nothing stands is done, or is told as out of memory, or its session broke off.
 use Rattle.std.specs.Prelude.{Contains, length, option_map, slice_get, slice_index_or, ◌<◌}
 use Rattle.std.specs.List.{AllByRecursion}
-use Rattle.std.proofs.Common.{◌≡◌, ◌∙◌, ◌⊎◌, ℕ, zero, suc, List, [], ◌∷◌, ◌++◌, Bool, true, false, Option, Some, None, inl, inr, refl, sym, ap, subst, arith}
+use Rattle.std.proofs.Common.{◌≡◌, ◌≢◌, ◌∙◌, ◌⊎◌, ℕ, zero, suc, List, [], ◌∷◌, ◌++◌, Bool, true, false, Option, Some, None, inl, inr, refl, sym, ap, subst, arith}
 use Rattle.page_picture.specs.SourceView.{source_state}
 use Rattle.sane_fixed.specs.declared.status.Status.{Status}
 use Rattle.sane_fixed.specs.declared.status.Status.TheVariants as statuses
 use Rattle.device_api.specs.State.{DeviceState, HeldPage, is_infallible}
 use Rattle.saned_core.specs.DaemonStates.{Core}
-use Rattle.client_replies.specs.ProtocolStates.{is_running}
+use Rattle.client_replies.specs.ProtocolStates.{is_running, scans}
 use Rattle.scan_job.specs.declared.job.Job.{Job}
 use Rattle.scan_job.specs.declared.outcome.Outcome.{Outcome}
 use Rattle.scan_job.specs.declared.outcome.Outcome.TheVariants.{Running, Done, Ended}
@@ -23,33 +23,28 @@ use Rattle.scan_world.specs.JobEvents.{job_event_of}
 use Rattle.scan_world.specs.JobMoves.{IsFirstMove, IsNext, IsNextMove, in_order}
 use Rattle.scan_world.specs.Rounds.{RoundsRunOut}
 use Rattle.scan_world.specs.Worlds.{Leads, Runs, WorldCore}
-use Rattle.world_refines.specs.FailedSources.{FailedIn}
 use Rattle.world_contract.specs.Calls.{AreNextMoves, IsMoveAt, MovesNext, is_starved, outcome_at, starved_at}
-use Rattle.world_contract.specs.Clear.{BrokeOff, ClearsUp, ComesTo, IsClear}
-use Rattle.world_contract.specs.Endings.{AnswerIsExplained, IsEndingExplained, NamesStatus}
+use Rattle.world_contract.specs.Clear.{BrokeOff, ClearsBy, ClearsUp, ComesTo, IsClear, IsEither, SharesClear}
+use Rattle.world_contract.specs.Endings.{AnswerIsExplained, DeviceFailed, IsEndingExplained, NamesStatus}
 use Rattle.world_contract.specs.Histories.{History, LedTo, Moment, and_then, history_up_to}
 use Rattle.world_contract.specs.Laws.{Below}
-use Rattle.world_contract.specs.Page.{CameFor, Settled}
+use Rattle.world_contract.specs.Page.{CameFor, CameInTime, Settled}
 use Rattle.world_contract.specs.Page.CameFor.{AtFirst, WithEvent}
+use Rattle.world_contract.specs.Page.CameInTime.{FromFirst, AsItRan}
 use Rattle.world_contract.specs.Promise.{OutcomeIsKept}
 use Rattle.world_contract.specs.Sessions.{Has}
-use Rattle.world_contract.proofs.Calls.{endpoint_there, outcome_call, ran_out}
+use Rattle.world_contract.proofs.Calls.{outcome_call, ran_out}
 use Rattle.world_contract.proofs.Ended.{loss_kept}
 use Rattle.world_contract.proofs.Led.{led_then}
-use Rattle.world_contract.proofs.Lists.{In, all_front, contains_in}
+use Rattle.world_contract.proofs.Lists.{In, all_front, contains_in, in_list, in_split}
 use Rattle.world_contract.proofs.NextMoves.{LoadsNothing, quiet_loads, quiet_moves}
 use Rattle.world_contract.proofs.Refused.{cancel_next}
+use Rattle.world_contract.proofs.There.{endpoint_there, outcome_there}
+use Rattle.world_contract.proofs.moments.Beside.{Pair, not_both}
+use Rattle.world_contract.proofs.moments.Entries.{unsome}
 use Rattle.world_contract.proofs.Unhindered.{IsOf, firm_here, has_own, is_of, listed_here, some_page}
 
 -- ---- events
-
-in_at : {X : Type 0} (xs : List X) (k : ℕ) (x : X) → k < length xs → slice_index_or xs k x ≡ x → In x xs
-in_at [] k x low e = absurd (omega (arith, low))
-in_at (y ∷ ys) zero x low e = inl (sym e)
-in_at (y ∷ ys) (suc k) x low e = inr (in_at ys k x (omega (arith, low)) e)
-
-in_list : {X : Type 0} (xs : List X) (x : X) → Contains xs x → In x xs
-in_list xs x c = in_at xs c.0 x c.1 c.2
 
 in_either : (xs ys : List Event) (e : Event) → In e (xs ++ ys) → In e xs ⊎ In e ys
 in_either [] ys e among = inr among
@@ -100,6 +95,14 @@ old_events h ms front back e quiet split x among = elim (in_either h.events ms x
 settled_back : (h : History) (es : List Event) (job : Job) → Settled (history_up_to h es) job → Settled h job
 settled_back h es job s = record { device = s.device; is_there = s.is_there; named = s.named; setup = s.setup; placed = s.placed; in_force = s.in_force }
 
+settled_more : (h : History) (es : List Event) (job : Job) → Settled h job → Settled (history_up_to h es) job
+settled_more h es job s = record { device = s.device; is_there = s.is_there; named = s.named; setup = s.setup; placed = s.placed; in_force = s.in_force }
+
+-- a page that came as a job ran came
+came_ever : (h : History) (w : WorldCore) (i : ℕ) (name : List ℕ) (held : HeldPage) → CameInTime h w i name held → CameFor h name held
+came_ever h w i name held (FromFirst device there named among) = AtFirst device there named among
+came_ever h w i name held (AsItRan source at ran is) = WithEvent source (in_split h.events at.front at.back (Load name source) at.split) is
+
 came_back : (h : History) (es : List Event) → AreOld h es → (name : List ℕ) (held : HeldPage) → CameFor (history_up_to h es) name held → CameFor h name held
 came_back h es old name held (AtFirst device there named among) = AtFirst device there named among
 came_back h es old name held (WithEvent source among is) = by_case (old (Load name source) (in_list es (Load name source) among))
@@ -110,66 +113,61 @@ came_back h es old name held (WithEvent source among is) = by_case (old (Load na
 
 -- ---- what stands in front of an event
 
-unlisted_not : Below → (h : History) (es : List Event) (v : WorldCore) (i : ℕ) (job : Job) → LedTo (history_up_to h es) v → AreOld h es → IsClear h i job → In (Unplug job.device) es → ⊥
+unlisted_not : {Q : ℕ → Type 0} → Below → (h : History) (es : List Event) (v : WorldCore) (i : ℕ) (job : Job) → LedTo (history_up_to h es) v → AreOld h es → IsClear h i job Q → In (Unplug job.device) es → ⊥
 unlisted_not below h es v i job led old clear among = elim (old (Unplug job.device) among) [
   | inl nothing ↦ nothing
   | inr here ↦ clear.left (Unplug job.device) (contains_in h.events (Unplug job.device) here) refl
 ]
 
-clear_of : (below : Below) (h : History) (es : List Event) (v : WorldCore) (i : ℕ) (job : Job) (led : LedTo (history_up_to h es) v) (clear : IsClear h i job) (d : DeviceState) → Has v i job.device d → IsOf (history_up_to h es) clear.device d
+clear_of : {Q : ℕ → Type 0} → (below : Below) (h : History) (es : List Event) (v : WorldCore) (i : ℕ) (job : Job) (led : LedTo (history_up_to h es) v) (clear : IsClear h i job Q) (d : DeviceState) → Has v i job.device d → IsOf (history_up_to h es) clear.device d
 clear_of below h es v i job led clear d has = is_of below (history_up_to h es) v job led clear.device clear.is_there i d (subst (λ (n : List ℕ). Has v i n d) (sym clear.named) has)
 
-paged : Below → (h : History) (es : List Event) (v : WorldCore) (i : ℕ) (job : Job) → LedTo (history_up_to h es) v → IsClear h i job → (d : DeviceState) → Has v i job.device d → d.pages ≡ [] → ⊥
-paged below h es v i job led clear d has none = some_page (history_up_to h es) clear.device d (clear_of below h es v i job led clear d has) clear.plain none
+paged : {Q : ℕ → Type 0} → Below → (h : History) (es : List Event) (v : WorldCore) (i : ℕ) (job : Job) → LedTo (history_up_to h es) v → IsClear h i job Q → scans job.task ≡ true → (d : DeviceState) → Has v i job.device d → d.pages ≡ [] → ⊥
+paged below h es v i job led clear scanning d has none = some_page (history_up_to h es) clear.device d (clear_of below h es v i job led clear d has) (clear.plain scanning) none
 
-firm : Below → (h : History) (es : List Event) (v : WorldCore) (core : Core) (i : ℕ) (job : Job) → LedTo (history_up_to h es) v → AreOld h es → IsClear h i job → FailedIn v core i job.device → ⊥
-firm below h es v core i job led old clear failed =
-    let has : Has v i job.device failed.lease.device = record {
-      session = failed.held.session;
-      at = record { endpoint = failed.endpoint; is_there = failed.is_there; id = failed.id; linked = failed.linked; stands = failed.held.stands };
-      word = failed.word;
-      lease = failed.lease;
-      held = failed.held.held;
-      is = refl;
-      named = failed.named;
-    } in
-    let sure : is_infallible failed.lease.device ≡ true = firm_here (history_up_to h es) clear.device failed.lease.device (clear_of below h es v i job led clear failed.lease.device has) clear.plain
-    (λ held came. clear.firm held (subst (λ (n : List ℕ). CameFor h n held) clear.named (came_back h es old clear.device.info.name held came))) in
+firm : {Q : ℕ → Type 0} → Below → (h : History) (es : List Event) (v x : WorldCore) (i : ℕ) (job : Job) → LedTo (history_up_to h es) v → AreOld h es → IsClear h i job Q → scans job.task ≡ true → DeviceFailed v x i job.device → ⊥
+firm below h es v x i job led old clear scanning failed =
+    let sure : is_infallible failed.device ≡ true = firm_here (history_up_to h es) clear.device failed.device (clear_of below h es v i job led clear failed.device failed.has) (clear.plain scanning)
+    (λ held came. clear.firm scanning held (subst (λ (n : List ℕ). CameFor h n held) clear.named (came_back h es old clear.device.info.name held came))) in
     let clash : true ≡ false = sym sure ∙ failed.stopped.can_fail in cc
 
 -- ---- what the daemon answers
 
-answered : Below → (h : History) (ms : List Event) (v : WorldCore) (i : ℕ) (job : Job) → AllByRecursion LoadsNothing ms → IsClear h i job → (status : Status) → AnswerIsExplained (and_then h ms) v i job status → ⊥
+-- that the device is busy, since another of these jobs has it
+abbrev Held : (ℕ → Type 0) → ℕ → Status → Type 0
+Held Q i status = (status ≡ statuses.DeviceBusy) × ((j : ℕ) × (j ≢ i) × Q j)
+
+answered : {Q : ℕ → Type 0} → Below → (h : History) (ms : List Event) (v : WorldCore) (i : ℕ) (job : Job) → AllByRecursion LoadsNothing ms → IsClear h i job Q → (status : Status) → AnswerIsExplained (and_then h ms) v i job status → Held Q i status
 unfolding settled_back
-answered below h ms v i job quiet clear statuses.Good x = x
-answered below h ms v i job quiet clear statuses.Unsupported x = x
-answered below h ms v i job quiet clear statuses.Cancelled x = x
+answered below h ms v i job quiet clear statuses.Good x = absurd x
+answered below h ms v i job quiet clear statuses.Unsupported x = absurd x
+answered below h ms v i job quiet clear statuses.Cancelled x = absurd x
 answered below h ms v i job quiet clear statuses.DeviceBusy (asked, j, d, other, has) =
     let own = has_own below (history_up_to h asked.at.front) asked.at.before job asked.at.led_before j job.device d has in
-    other (clear.alone j own.0 own.1 own.2)
-answered below h ms v i job quiet clear statuses.Inval (inl unforced) = clear.forced unforced
-answered below h ms v i job quiet clear statuses.Inval (inr (inl (asked, none))) =
+    (refl, (j, other, clear.alone j own.0 own.1 own.2))
+answered below h ms v i job quiet clear statuses.Inval (inl unforced) = absurd (clear.forced (λ s. unforced (settled_more h (h.events ++ ms) job s)))
+answered below h ms v i job quiet clear statuses.Inval (inr (inr (asked, none))) =
     let old = old_events h ms asked.at.front asked.at.back _ quiet asked.at.split in
-    listed_here below (history_up_to h asked.at.front) asked.at.before job asked.at.led_before clear.device clear.is_there clear.named
-    (λ among. unlisted_not below h asked.at.front asked.at.before i job asked.at.led_before old clear among) none
-answered below h ms v i job quiet clear statuses.Inval (inr (inr none)) =
+    absurd (listed_here below (history_up_to h asked.at.front) asked.at.before job asked.at.led_before clear.device clear.is_there clear.named
+    (λ among. unlisted_not below h asked.at.front asked.at.before i job asked.at.led_before old clear among) none)
+answered below h ms v i job quiet clear statuses.Inval (inr (inl none)) =
     let old : AreOld h (h.events ++ ms) = λ e among. elim (in_either h.events ms e among) [
       | inl here ↦ inr here
       | inr there ↦ inl (quiet_in ms e quiet there)
     ] in
-    clear.meant (settled_back h (h.events ++ ms) job none.settled) none.held (came_back h (h.events ++ ms) old job.device none.held none.came) none.none
-answered below h ms v i job quiet clear statuses.Eof x = x
-answered below h ms v i job quiet clear statuses.Jammed x = x
-answered below h ms v i job quiet clear statuses.NoDocs (asked, finished, (d, has, none)) = paged below h asked.at.front asked.at.before i job asked.at.led_before clear d has none
-answered below h ms v i job quiet clear statuses.CoverOpen x = x
-answered below h ms v i job quiet clear statuses.IoError (inl (asked, failed)) =
-    firm below h asked.at.front asked.at.before asked.at.behind.daemon i job asked.at.led_before (old_events h ms asked.at.front asked.at.back _ quiet asked.at.split) clear failed
-answered below h ms v i job quiet clear statuses.IoError (inr (turn, failed, sent)) =
-    firm below h turn.0.front turn.0.before turn.0.behind.daemon i job turn.0.led_before (old_events h ms turn.0.front turn.0.back _ quiet turn.0.split) clear failed
-answered below h ms v i job quiet clear statuses.NoMem x = x
-answered below h ms v i job quiet clear statuses.AccessDenied (asked, judged) = let clash : true ≡ false = sym (clear.allowed judged.sent.resource judged.guarded) ∙ judged.is in cc
+    absurd (clear.meant none.scanning (settled_back h (h.events ++ ms) job none.settled) none.held (came_back h (h.events ++ ms) old job.device none.held (came_ever (and_then h ms) v i job.device none.held none.came)) none.none)
+answered below h ms v i job quiet clear statuses.Eof x = absurd x
+answered below h ms v i job quiet clear statuses.Jammed x = absurd x
+answered below h ms v i job quiet clear statuses.NoDocs (scanning, asked, finished, (d, has, none)) = absurd (paged below h asked.at.front asked.at.before i job asked.at.led_before clear scanning d has none)
+answered below h ms v i job quiet clear statuses.CoverOpen x = absurd x
+answered below h ms v i job quiet clear statuses.IoError (scanning, inl (asked, failed)) =
+    absurd (firm below h asked.at.front asked.at.before asked.at.behind i job asked.at.led_before (old_events h ms asked.at.front asked.at.back _ quiet asked.at.split) clear scanning failed)
+answered below h ms v i job quiet clear statuses.IoError (scanning, inr (turn, failed, sent)) =
+    absurd (firm below h turn.0.front turn.0.before turn.0.behind i job turn.0.led_before (old_events h ms turn.0.front turn.0.back _ quiet turn.0.split) clear scanning failed)
+answered below h ms v i job quiet clear statuses.NoMem x = absurd x
+answered below h ms v i job quiet clear statuses.AccessDenied (asked, judged) = absurd (let clash : true ≡ false = sym (clear.allowed judged.sent.resource judged.guarded) ∙ judged.is in cc)
 
-unnamed : (h : History) (ms : List Event) (v : WorldCore) (i : ℕ) (job : Job) (status : Status) → IsClear h i job → NamesStatus (and_then h ms) v i job status → ⊥
+unnamed : {Q : ℕ → Type 0} → (h : History) (ms : List Event) (v : WorldCore) (i : ℕ) (job : Job) (status : Status) → IsClear h i job Q → NamesStatus (and_then h ms) v i job status → ⊥
 unfolding settled_back
 unnamed h ms v i job status clear (turn, scanning, (settled, told)) = let clash : None ≡ Some status = sym (clear.unnamed (settled_back h (h.events ++ ms) job settled)) ∙ told in cc
 
@@ -300,11 +298,11 @@ broke_off below h ms more back old new i job led job_at quiet split n =
 -- ---- the endings of a clear job
 
 -- what is so in front of the moves, and of them
-record Way (h : History) (ms : List Event) (old new : WorldCore) (i : ℕ) (job : Job) : Type 0 where
+record Way (h : History) (ms : List Event) (old new : WorldCore) (i : ℕ) (job : Job) (Q : ℕ → Type 0) : Type 0 where
   below : Below
   led : LedTo h old
   job_at : slice_get h.jobs i ≡ Some job
-  clear : IsClear h i job
+  clear : IsClear h i job Q
   next : AreNextMoves ms old new
   quiet : AllByRecursion LoadsNothing ms
 
@@ -314,47 +312,107 @@ quiet_front ms more back split quiet = all_front LoadsNothing more back (subst (
 next_in : (h : History) (ms more back : List Event) (e : Event) (old new : WorldCore) → ms ≡ more ++ e ∷ back → AreNextMoves ms old new → NextAt more e back old new
 next_in h ms more back e old new split next = next_at more back e old new (subst (λ (es : List Event). AreNextMoves es old new) split next)
 
-lost : (h : History) (ms : List Event) (old new : WorldCore) (i : ℕ) (job : Job) → Way h ms old new i job → Moment (and_then h ms) new (LoseControl i) → BrokeOff (and_then h ms) new i job
+lost : {Q : ℕ → Type 0} → (h : History) (ms : List Event) (old new : WorldCore) (i : ℕ) (job : Job) → Way h ms old new i job Q → Moment (and_then h ms) new (LoseControl i) → BrokeOff (and_then h ms) new i job
 lost h ms old new i job way at = elim (split_at h.events ms at.front at.back (LoseControl i) at.split) [
   | inl here ↦ absurd (way.clear.left (LoseControl i) (contains_in h.events (LoseControl i) here) refl)
   | inr there ↦ broke_off way.below h ms there.0 at.back old new i job way.led way.job_at (quiet_front ms there.0 (LoseControl i ∷ at.back) there.1 way.quiet) there.1 (next_in h ms there.0 at.back (LoseControl i) old new there.1 way.next)
 ]
 
-no_image_lost : (h : History) (ms : List Event) (old new : WorldCore) (i : ℕ) (job : Job) → Way h ms old new i job → Moment (and_then h ms) new (LoseImage i) → ⊥
+no_image_lost : {Q : ℕ → Type 0} → (h : History) (ms : List Event) (old new : WorldCore) (i : ℕ) (job : Job) → Way h ms old new i job Q → Moment (and_then h ms) new (LoseImage i) → ⊥
 no_image_lost h ms old new i job way at = elim (split_at h.events ms at.front at.back (LoseImage i) at.split) [
   | inl here ↦ way.clear.left (LoseImage i) (contains_in h.events (LoseImage i) here) refl
   | inr there ↦ (let n = next_in h ms there.0 at.back (LoseImage i) old new there.1 way.next in not_image n.between.daemon n.j i (slice_get n.between.endpoints n.j) n.next)
 ]
 
-not_cancelled : (h : History) (ms : List Event) (old new : WorldCore) (i : ℕ) (job : Job) → Way h ms old new i job → Contains (h.events ++ ms) (Cancel i) → ⊥
+not_cancelled : {Q : ℕ → Type 0} → (h : History) (ms : List Event) (old new : WorldCore) (i : ℕ) (job : Job) → Way h ms old new i job Q → Contains (h.events ++ ms) (Cancel i) → ⊥
 not_cancelled h ms old new i job way among = elim (in_either h.events ms (Cancel i) (in_list (h.events ++ ms) (Cancel i) among)) [
   | inl here ↦ way.clear.left (Cancel i) (contains_in h.events (Cancel i) here) refl
   | inr there ↦ (let s = split_in ms (Cancel i) there in let n = next_in h ms s.0 s.1 (Cancel i) old new s.2 way.next in cancel_next n.between.daemon n.j i (slice_get n.between.endpoints n.j) n.next)
 ]
 
-ended : (h : History) (ms : List Event) (old new : WorldCore) (i : ℕ) (job : Job) → Way h ms old new i job → (status : Status) (why : Why) → IsEndingExplained (and_then h ms) new i job (starved_at new i) status why → ComesTo (and_then h ms) new i job (Ended status why)
+ended : {Q : ℕ → Type 0} → (h : History) (ms : List Event) (old new : WorldCore) (i : ℕ) (job : Job) → Way h ms old new i job Q → (status : Status) (why : Why) → IsEndingExplained (and_then h ms) new i job (starved_at new i) status why → ComesTo (and_then h ms) new i job (Ended status why) ⊎ ((why ≡ whys.Answer) × Held Q i status)
 ended h ms old new i job way status whys.Answer (inl (other, named)) = absurd (unnamed h ms new i job status way.clear named)
-ended h ms old new i job way status whys.Answer (inr x) = absurd (answered way.below h ms new i job way.quiet way.clear status x)
+ended h ms old new i job way status whys.Answer (inr x) = inr (refl, answered way.below h ms new i job way.quiet way.clear status x)
 ended h ms old new i job way status whys.Cancelled (same, among) = absurd (not_cancelled h ms old new i job way among)
-ended h ms old new i job way status whys.Lost (same, inl (inl happened)) = inr (inr (lost h ms old new i job way happened.0))
+ended h ms old new i job way status whys.Lost (same, inl (inl happened)) = inl (inr (inr (lost h ms old new i job way happened.0)))
 ended h ms old new i job way status whys.Lost (same, inl (inr happened)) = absurd (no_image_lost h ms old new i job way happened.0)
-ended h ms old new i job way status whys.Lost (same, inr starved) = inr (inl (inl starved))
+ended h ms old new i job way status whys.Lost (same, inr starved) = inl (inr (inl (inl starved)))
 ended h ms old new i job way status whys.Malformed x = absurd x
 ended h ms old new i job way status whys.Short (same, named) = absurd (unnamed h ms new i job statuses.Eof way.clear named)
 ended h ms old new i job way status whys.Long x = absurd x
-ended h ms old new i job way status whys.Setting (same, unforced) = absurd (way.clear.forced unforced)
+ended h ms old new i job way status whys.Setting (same, unforced) = absurd (way.clear.forced (λ s. unforced (settled_more h (h.events ++ ms) job s)))
 ended h ms old new i job way status whys.Plain x = absurd x
-ended h ms old new i job way status whys.Memory (same, starved) = inr (inl (inr (ap (λ (s : Status). Ended s whys.Memory) same)))
+ended h ms old new i job way status whys.Memory (same, starved) = inl (inr (inl (inr (ap (λ (s : Status). Ended s whys.Memory) same))))
 ended h ms old new i job way status whys.Sink x = absurd x
 
-comes : (h : History) (ms : List Event) (old new : WorldCore) (i : ℕ) (job : Job) → Way h ms old new i job → (outcome : Outcome) → (outcome ≡ Running → ⊥) → OutcomeIsKept (and_then h ms) new i job (starved_at new i) outcome → ComesTo (and_then h ms) new i job outcome
+-- it was answered that the device is busy, since another of these jobs has it
+abbrev BusyBy : (ℕ → Type 0) → ℕ → Outcome → Type 0
+BusyBy Q i outcome = (outcome ≡ Ended statuses.DeviceBusy whys.Answer) × ((j : ℕ) × (j ≢ i) × Q j)
+
+busy_or : {A : Type 0} {Q : ℕ → Type 0} {i : ℕ} {status : Status} {why : Why} → A ⊎ ((why ≡ whys.Answer) × Held Q i status) → A ⊎ BusyBy Q i (Ended status why)
+busy_or (inl a) = inl a
+busy_or {why = why} (inr (answer, (busy, by))) = inr (ap (λ (s : Status). Ended s why) busy ∙ ap (λ (y : Why). Ended statuses.DeviceBusy y) answer, by)
+
+-- which none is, where no other job names it
+only_clear : {A : Type 0} {i : ℕ} {outcome : Outcome} → A ⊎ BusyBy (λ (j : ℕ). j ≡ i) i outcome → A
+only_clear (inl a) = a
+only_clear (inr (busy, (j, other, same))) = absurd (other same)
+
+comes : {Q : ℕ → Type 0} → (h : History) (ms : List Event) (old new : WorldCore) (i : ℕ) (job : Job) → Way h ms old new i job Q → (outcome : Outcome) → (outcome ≡ Running → ⊥) → OutcomeIsKept (and_then h ms) new i job (starved_at new i) outcome → ComesTo (and_then h ms) new i job outcome ⊎ BusyBy Q i outcome
 comes h ms old new i job way Running runs kept = absurd (runs refl)
-comes h ms old new i job way (Done reports) runs kept = inl (reports, refl)
-comes h ms old new i job way (Ended status why) runs kept = ended h ms old new i job way status why (kept.ended status why refl).caused
+comes h ms old new i job way (Done reports) runs kept = inl (inl (reports, refl))
+comes h ms old new i job way (Ended status why) runs kept = busy_or (ended h ms old new i job way status why (kept.ended status why refl).2)
 
 pub clears_up : Below → (w v : WorldCore) → RoundsRunOut source_state w v → ClearsUp w v
 clears_up below w v rounds h led i job at clear =
     let out = ran_out below w v rounds h led in
     let o = outcome_call below v i (outcome_at v i) refl (and_then h out.moves) job (record { led = out.led; job_at = at }) in
-    let way : Way h out.moves w v i job = record { below = below; led = led; job_at = at; clear = clear; next = out.next; quiet = quiet_moves out.moves w v out.next } in
-    record { out = out; outcome = o.0; is = o.1; comes = comes h out.moves w v i job way o.0 (out.over i job o.0 at o.1) o.2 }
+    let way : Way h out.moves w v i job (λ (j : ℕ). j ≡ i) = record { below = below; led = led; job_at = at; clear = clear; next = out.next; quiet = quiet_moves out.moves w v out.next } in
+    record { out = out; outcome = o.0; is = o.1; comes = only_clear (comes h out.moves w v i job way o.0 (out.over i job o.0 at o.1) o.2) }
+
+pub clears_by : Below → (events : List Event) (w v : WorldCore) → ClearsBy events w v
+clears_by below events w v h led next i job at clear outcome is over =
+    let quiet = quiet_moves events w v next in
+    let on = led_then h events w v led (quiet_loads events quiet) (moves_run events w v next) in
+    let o = outcome_call below v i (outcome_at v i) refl (and_then h events) job (record { led = on; job_at = at }) in
+    let way : Way h events w v i job (λ (j : ℕ). j ≡ i) = record { below = below; led = led; job_at = at; clear = clear; next = next; quiet = quiet } in
+    let same : o.0 ≡ outcome = unsome o.0 outcome (sym o.1 ∙ is) in
+    only_clear (comes h events w v i job way outcome over (subst (OutcomeIsKept (and_then h events) v i job (starved_at v i)) same o.2))
+
+-- ---- of two on one device
+
+told_busy : {A : Type 0} {Q : ℕ → Type 0} {i : ℕ} {outcome : Outcome} → A ⊎ BusyBy Q i outcome → A ⊎ (outcome ≡ Ended statuses.DeviceBusy whys.Answer)
+told_busy (inl a) = inl a
+told_busy (inr b) = inr b.0
+
+pub shares_clear : Below → (w v : WorldCore) → RoundsRunOut source_state w v → SharesClear w v
+unfolding settled_back
+shares_clear below w v rounds h led i j a b apart at there named clear clear_too =
+    let out = ran_out below w v rounds h led in
+    let quiet = quiet_moves out.moves w v out.next in
+    let p = endpoint_there below (and_then h out.moves) v i a (record { led = out.led; job_at = at }) in
+    let q = endpoint_there below (and_then h out.moves) v j b (record { led = out.led; job_at = there }) in
+    let o = outcome_call below v i (outcome_at v i) refl (and_then h out.moves) a (record { led = out.led; job_at = at }) in
+    let r = outcome_call below v j (outcome_at v j) refl (and_then h out.moves) b (record { led = out.led; job_at = there }) in
+    let way : Way h out.moves w v i a (IsEither i j) = record { below = below; led = led; job_at = at; clear = clear; next = out.next; quiet = quiet } in
+    let way_too : Way h out.moves w v j b (IsEither i j) = record { below = below; led = led; job_at = there; clear = clear_too; next = out.next; quiet = quiet } in
+    let pair : Pair (and_then h out.moves) a i j a b = record {
+      a_at = at;
+      b_at = there;
+      a_named = refl;
+      b_named = named;
+      apart = apart;
+      only = clear.alone;
+      a_nothing = λ s. clear.unnamed (settled_back h (h.events ++ out.moves) a s);
+      b_nothing = λ s. clear_too.unnamed (settled_back h (h.events ++ out.moves) b s);
+    } in
+    record {
+      out = out;
+      first = o.0;
+      first_is = o.1;
+      second = r.0;
+      second_is = r.1;
+      comes = told_busy (comes h out.moves w v i a way o.0 (out.over i a o.0 at o.1) o.2);
+      comes_too = told_busy (comes h out.moves w v j b way_too r.0 (out.over j b r.0 there r.1) r.2);
+      one = λ busy too. not_both below (and_then h out.moves) v i j a b p.0 q.0 out.led pair p.1.endpoint_at q.1.endpoint_at (outcome_there v.endpoints i p.0 o.0 p.1.endpoint_at o.1 ∙ busy) (outcome_there v.endpoints j q.0 r.0 q.1.endpoint_at r.1 ∙ too);
+    }

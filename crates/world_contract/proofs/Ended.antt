@@ -41,7 +41,7 @@ use Rattle.world_refines.specs.GhostStates.{job_state, place_named, place_of_inf
 use Rattle.world_refines.specs.NewWorlds.{make_of}
 use Rattle.world_refines.specs.WorldRefinement.{client_at_greeting}
 use Rattle.world_contract.specs.Calls.{HadUnsaidReply}
-use Rattle.world_contract.specs.Endings.{AnswerIsExplained, IsEndingExplained, IsUnforced, NamesStatus}
+use Rattle.world_contract.specs.Endings.{IsUnforced, NamesStatus}
 use Rattle.world_contract.specs.Histories.{History, LedTo, history_up_to}
 use Rattle.world_contract.specs.Laws.{Below}
 use Rattle.world_contract.proofs.Along.{Here, Laws, NotForced, Own, device_named, forced_there}
@@ -49,6 +49,7 @@ use Rattle.world_contract.proofs.Connected.{all_behind}
 use Rattle.world_contract.proofs.Jobs.{IsJob}
 use Rattle.world_contract.proofs.Nearest.{none_nearest}
 use Rattle.world_contract.proofs.OfJobs.{all_of_jobs}
+use Rattle.world_contract.proofs.Rows.{AnswerEver, EndingEver}
 use Rattle.world_contract.proofs.Pages.{IsOfOne, all_of_one, first_slot}
 use Rattle.world_contract.proofs.Scanned.{at_first, fresh_there, infos_of, untouched_at_first}
 use Rattle.world_contract.proofs.Sources.{have_sources, loads_fit, sources_of}
@@ -134,21 +135,22 @@ none_by None e = refl
 none_by (Some r) e = absurd (let clash : Some r.0 ≡ None = e in cc)
 
 unforced : (h : History) (i : ℕ) (job : Job) → Own h i job → NotForced h job → IsUnforced h job
-unforced h i job o none device there named =
-    let at = device_named h job.device device o.apart there named in
+unforced h i job o none s =
+    let device = s.device in
+    let at = device_named h job.device device o.apart s.is_there s.named in
     let b = sources_of h (place_named (infos_of h) job.device) in
     let ruled : abstract_in_force (make_of b (Some device)) (map requested_setting job.settings.items) ≡ None = subst (λ (x : Option DeviceState). abstract_in_force (make_of b x) (map requested_setting job.settings.items) ≡ None) at none in
-    none_nearest device.setup.scene.kind device.setup.order job.settings.items (none_by (devices.in_force device.setup.scene.kind device.setup.order job.settings.items) (sym (forced_there o.same (make_of b (Some device)) job) ∙ ap (option_map (λ (f : SettingsResult). f.options)) ruled))
+    none_nearest device.setup.scene.kind device.setup.order job.settings.items (none_by (devices.in_force device.setup.scene.kind device.setup.order job.settings.items) (sym (forced_there o.same (make_of b (Some device)) job) ∙ ap (option_map (λ (f : SettingsResult). f.options)) ruled)) s.placed s.setup s.in_force
 
 -- ---- the table
 
-explained_as : (h : History) (w : WorldCore) (i : ℕ) (job : Job) (starved : Bool) (status : Code) (why as_why : Reason) → why ≡ as_why → IsEndingExplained h w i job starved status as_why → IsEndingExplained h w i job starved status why
-explained_as h w i job starved status why as_why e x = subst (IsEndingExplained h w i job starved status) (sym e) x
+explained_as : (h : History) (w : WorldCore) (i : ℕ) (job : Job) (starved : Bool) (status : Code) (why as_why : Reason) → why ≡ as_why → EndingEver h w i job starved status as_why → EndingEver h w i job starved status why
+explained_as h w i job starved status why as_why e x = subst (EndingEver h w i job starved status) (sym e) x
 
-answered_as : (h : History) (w : WorldCore) (i : ℕ) (job : Job) (starved : Bool) (status as_status : Code) (why : Reason) → (status ≡ as_status) × (why ≡ whys.Answer) → AnswerIsExplained h w i job as_status → IsEndingExplained h w i job starved status why
-answered_as h w i job starved status as_status why e x = explained_as h w i job starved status why whys.Answer e.1 (inr (subst (AnswerIsExplained h w i job) (sym e.0) x))
+answered_as : (h : History) (w : WorldCore) (i : ℕ) (job : Job) (starved : Bool) (status as_status : Code) (why : Reason) → (status ≡ as_status) × (why ≡ whys.Answer) → AnswerEver h w i job as_status → EndingEver h w i job starved status why
+answered_as h w i job starved status as_status why e x = explained_as h w i job starved status why whys.Answer e.1 (inr (subst (AnswerEver h w i job) (sym e.0) x))
 
-row : (h : History) (w : WorldCore) (i : ℕ) (job : Job) (starved : Bool) (status : Code) (why : Reason) (v : Why) (c : Cause) → why_of why ≡ Some v → (c ≡ LinkOutOfMemory → starved ≡ true) → Evid h w i job c → Explains c (abstract_status status) v → IsEndingExplained h w i job starved status why
+row : (h : History) (w : WorldCore) (i : ℕ) (job : Job) (starved : Bool) (status : Code) (why : Reason) (v : Why) (c : Cause) → why_of why ≡ Some v → (c ≡ LinkOutOfMemory → starved ≡ true) → Evid h w i job c → Explains c (abstract_status status) v → EndingEver h w i job starved status why
 row h w i job starved status why v GaveUp is z e x = let b = both_are status why words.GivenUp words.Cancelled v is x in explained_as h w i job starved status why whys.Cancelled b.1 (b.0, e)
 row h w i job starved status why v LinkLost is z e x = let b = both_are status why words.IoError words.Lost v is x in explained_as h w i job starved status why whys.Lost b.1 (b.0, inl e)
 row h w i job starved status why v WasUnsaid is z e x = absurd x
@@ -171,23 +173,23 @@ row h w i job starved status why v TrayRanOut is z e x = absurd x
 row h w i job starved status why v ClientOutOfMemory is z e x = let b = both_are status why words.NoMem words.Memory v is x in explained_as h w i job starved status why whys.Memory b.1 (b.0, e)
 
 -- settings that cannot be in force
-unforced_row : (h : History) (w : WorldCore) (i : ℕ) (job : Job) (starved : Bool) (status : Code) (why : Reason) (v : Why) → status ≡ codes.Inval → why_of why ≡ Some v → (v ≡ words.Setting) ⊎ (v ≡ words.Answer) → IsUnforced h job → IsEndingExplained h w i job starved status why
+unforced_row : (h : History) (w : WorldCore) (i : ℕ) (job : Job) (starved : Bool) (status : Code) (why : Reason) (v : Why) → status ≡ codes.Inval → why_of why ≡ Some v → (v ≡ words.Setting) ⊎ (v ≡ words.Answer) → IsUnforced h job → EndingEver h w i job starved status why
 unforced_row h w i job starved status why v inval is (inl e) none = explained_as h w i job starved status why whys.Setting (why_is why words.Setting (is ∙ ap (λ (x : Why). Some x) e)) (inval, none)
 unforced_row h w i job starved status why v inval is (inr e) none = answered_as h w i job starved status codes.Inval why (inval, why_is why words.Answer (is ∙ ap (λ (x : Why). Some x) e)) (inl none)
 
-table : (h : History) (w : WorldCore) (i : ℕ) (job : Job) (starved : Bool) (met : List Cause) (status : Code) (why : Reason) (v : Why) → Own h i job → why_of why ≡ Some v → (IsCauseAmong LinkOutOfMemory met → starved ≡ true) → EndedBy h w i job met (abstract_status status) v → IsEndingExplained h w i job starved status why
+table : (h : History) (w : WorldCore) (i : ℕ) (job : Job) (starved : Bool) (met : List Cause) (status : Code) (why : Reason) (v : Why) → Own h i job → why_of why ≡ Some v → (IsCauseAmong LinkOutOfMemory met → starved ≡ true) → EndedBy h w i job met (abstract_status status) v → EndingEver h w i job starved status why
 table h w i job starved met status why v o is z (inl (c, e, m, x)) = row h w i job starved status why v c is (λ same. z (subst (λ (y : Cause). IsCauseAmong y met) same m)) e x
 table h w i job starved met status why v o is z (inr n) = unforced_row h w i job starved status why v (code_is status words.Inval n.1.0) is n.1.1 (unforced h i job o n.0)
 
 -- ---- the job at its end
 
-woken_ended : (st : JobStage) (m : ClientView) (status : Status) (why : Why) → m.stage ≡ st → (client_at_greeting st m).stage ≡ Ended status why → st ≡ Ended status why
+pub woken_ended : (st : JobStage) (m : ClientView) (status : Status) (why : Why) → m.stage ≡ st → (client_at_greeting st m).stage ≡ Ended status why → st ≡ Ended status why
 woken_ended Idle m status why e h = absurd (let clash : Running rules.Greeting ≡ Ended status why = h in cc)
 woken_ended (Running g) m status why e h = sym e ∙ h
 woken_ended Done m status why e h = sym e ∙ h
 woken_ended (Ended s w) m status why e h = sym e ∙ h
 
-ended_reads : (place : DeviceInfo → ℕ) (errand : JobTarget) (job : rules.AbstractJob) (pages : List (List Frame)) (o : Outcome) (progress : Progress) (notes : Notes) (past : JoinHistory) (m : ClientView) (status : Code) (why : Reason) → OutcomeRefines place errand job pages o progress notes past m → o ≡ outcomes.Ended status why → EndedAs status why m
+pub ended_reads : (place : DeviceInfo → ℕ) (errand : JobTarget) (job : rules.AbstractJob) (pages : List (List Frame)) (o : Outcome) (progress : Progress) (notes : Notes) (past : JoinHistory) (m : ClientView) (status : Code) (why : Reason) → OutcomeRefines place errand job pages o progress notes past m → o ≡ outcomes.Ended status why → EndedAs status why m
 ended_reads place errand job pages o progress notes past m status why h e = subst (λ (x : Outcome). OutcomeRefines place errand job pages x progress notes past m) e h
 
 both_along : (P Q : SystemState → Transition → Type 0) (s : SystemState) (xs : List Transition) → AllAlong P s xs → AllAlong Q s xs → AllAlong (λ (t : SystemState) (x : Transition). P t x × Q t x) s xs
@@ -200,7 +202,7 @@ comes_there below h w job l =
     let t = at_first h w job l in
     let new = below.new (sources_of h) h.jobs job h.devices l.first l.endpoints l.daemon l.names l.limits (have_sources h) l.fit in
     let first : LedTo (history_up_to h []) l.first = record { first = l.first; endpoints = l.endpoints; daemon = l.daemon; users_are = l.users_are; names = l.names; limits = l.limits; fit = l.fit; loads = tt; runs = refl } in
-    come below.follows below.histories h w job h.events [] t l.first refl first l.loads (loads_fit h) l.runs new (ap (λ (users : List Entry). (users, infos_of h, length h.jobs, λ (k : ℕ). slice_index_or h.jobs k job)) l.users_are)
+    come below.follows below.histories below.last below.kept h w job h.events [] t l.first refl first l.loads (loads_fit h) l.runs new (ap (λ (users : List Entry). (users, infos_of h, length h.jobs, λ (k : ℕ). slice_index_or h.jobs k job)) l.users_are)
 
 pub laws_of : Below → Laws
 laws_of below = record { legal = below.marks; sound = below.histories; last = below.last; grounds = below.grounds }
@@ -234,7 +236,7 @@ judged_there below h w i job l job_at =
     let t = at_first h w job l in
     subst (JudgedAt h w i job) (sym k.rules_are) (all_judged (laws_of below) h w i job k.steps t.system (first_here below h w i job l job_at) (steps_of_one below h w job l) (both_along (AnsweredSo h w job) (HappenedSo h w job) t.system k.steps k.answered k.happened) k.legal tt)
 
-pub at_end : Below → (h : History) (w : WorldCore) (i : ℕ) (job : Job) (endpoint : Endpoint) (status : Code) (why : Reason) → IsJob h w i job endpoint → endpoint.client.outcome ≡ outcomes.Ended status why → IsEndingExplained h w i job endpoint.out_of_memory status why
+pub at_end : Below → (h : History) (w : WorldCore) (i : ℕ) (job : Job) (endpoint : Endpoint) (status : Code) (why : Reason) → IsJob h w i job endpoint → endpoint.client.outcome ≡ outcomes.Ended status why → EndingEver h w i job endpoint.out_of_memory status why
 at_end below h w i job endpoint status why j is =
     let k = comes_there below h w job j.led in
     let u = k.ghost_then in

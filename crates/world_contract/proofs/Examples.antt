@@ -28,13 +28,13 @@ use Rattle.scan_world.specs.JobEvents.{is_done}
 use Rattle.scan_world.specs.Worlds.{WorldCore}
 use Rattle.world_contract.specs.Histories.{History, LedTo, and_then, begun}
 use Rattle.world_contract.specs.Settings.{AreSettingsPut}
-use Rattle.world_contract.specs.Page.{AreInForce, CameFor, IsScan, IsSteady}
-use Rattle.world_contract.specs.Page.CameFor.{AtFirst, WithEvent}
+use Rattle.world_contract.specs.Page.{AreInForce, CameInTime, IsScan, IsSteady}
+use Rattle.world_contract.specs.Page.CameInTime.{FromFirst, AsItRan}
 use Rattle.world_contract.specs.Promise.{FileIsKept}
 use Rattle.world_contract.specs.Calls.{IsJobAt, KeepsScanFile, KeepsOutcome, KeepsRunning, outcome_at, starved_at}
 use Rattle.world_contract.specs.Examples.{HasExplanation, IsScanOf, until_busy}
 use Rattle.world_contract.proofs.Along.{get_at}
-use Rattle.world_contract.proofs.Lists.{all_then, at_all}
+use Rattle.world_contract.proofs.Lists.{all_then, at_all, in_split}
 use Rattle.world_contract.proofs.NextMoves.{LoadsNothing, quiet_moves}
 
 only_one : {X : Type 0} → (x : X) (k : ℕ) (d : X) → k < length (x ∷ []) → slice_index_or (x ∷ []) k d ≡ x
@@ -82,12 +82,11 @@ only_of_two devices name asked source other are asks own device there named =
 no_load : (events : List Event) (name : List ℕ) (source : Source) → AllByRecursion LoadsNothing events → Contains events (Load name source) → ⊥
 no_load events name source quiet there = at_all LoadsNothing events there.0 (Load name source) quiet (get_at events there.0 (Load name source) there.1 ∙ ap (λ (e : Event). Some e) there.2)
 
-page_is : (h : History) (name other : List ℕ) (source : SourceState) (held : HeldPage) → IsOnly h.devices name source other → AllByRecursion LoadsNothing h.events → CameFor h other held → source.page ≡ held.page
-page_is h name other source held only quiet (AtFirst device there named among) =
+page_is : (h : History) (w : WorldCore) (i : ℕ) (name other : List ℕ) (source : SourceState) (held : HeldPage) → IsOnly h.devices name source other → AllByRecursion LoadsNothing h.events → CameInTime h w i other held → held_from source ≡ held
+page_is h w i name other source held only quiet (FromFirst device there named among) =
     let same : new_scanner Flatbed name source Little ≡ device = only device there named in
-    let one : held_from source ≡ held = contains_one (held_from source) held (subst (λ (d : DeviceState). Contains d.pages held) (sym same) among) in
-    ap (λ (x : HeldPage). x.page) one
-page_is h name other source held only quiet (WithEvent laid there is) = absurd (no_load h.events other laid quiet there)
+    contains_one (held_from source) held (subst (λ (d : DeviceState). Contains d.pages held) (sym same) among)
+page_is h w i name other source held only quiet (AsItRan laid at ran is) = absurd (no_load h.events other laid quiet (in_split h.events at.front at.back (Load other laid) at.split))
 
 on_flatbed : (name : List ℕ) (source : SourceState) (placed : List Placement) (setup : Setup) (job : Job) → AreInForce (new_scanner Flatbed name source Little) job placed setup → AreSettingsPut (defaults Flatbed Little) job.settings.items placed setup
 unfolding defaults
@@ -97,7 +96,7 @@ scan_of_one : (h : History) (w : WorldCore) (i count : ℕ) (job : Job) (bytes :
 scan_of_one h w i count job bytes name source only quiet scan =
     let s = scan.settled in
     let same : new_scanner Flatbed name source Little ≡ s.device = only s.device s.is_there s.named in
-    let page : source.page ≡ scan.held.page = page_is h name job.device source scan.held only quiet scan.came in
+    let page : source.page ≡ scan.held.page = ap (λ (x : HeldPage). x.page) (page_is h w i name job.device source scan.held only quiet scan.came) in
     record {
       setup = s.setup;
       placed = s.placed;
@@ -113,12 +112,8 @@ done_reports (Done reports) e = (reports, refl)
 done_reports (Ended status why) e = absurd (let clash : false ≡ true = e in cc)
 
 -- the pages of the flatbed, where events bring none, are that of its source
-steady_for_all : (h : History) (name other : List ℕ) (source : SourceState) → IsOnly h.devices name source other → source.steady ≡ true → AllByRecursion LoadsNothing h.events → IsSteady h other
-steady_for_all h name other source only steady quiet held (AtFirst device there named among) =
-    let same : new_scanner Flatbed name source Little ≡ device = only device there named in
-    let one : held_from source ≡ held = contains_one (held_from source) held (subst (λ (d : DeviceState). Contains d.pages held) (sym same) among) in
-    ap (λ (x : HeldPage). x.steady) (sym one) ∙ steady
-steady_for_all h name other source only steady quiet held (WithEvent laid there is) = absurd (no_load h.events other laid quiet there)
+steady_for_all : (h : History) (w : WorldCore) (i : ℕ) (name other : List ℕ) (source : SourceState) → IsOnly h.devices name source other → source.steady ≡ true → AllByRecursion LoadsNothing h.events → IsSteady h w i other
+steady_for_all h w i name other source only steady quiet held came = ap (λ (x : HeldPage). x.steady) (sym (page_is h w i name other source held only quiet came)) ∙ steady
 
 both_quiet : (events : List Event) → events ≡ until_busy → AllByRecursion LoadsNothing events
 both_quiet events are = subst (AllByRecursion LoadsNothing) (sym are) (tt, (tt, (tt, (tt, (tt, (tt, (tt, (tt, (tt, tt)))))))))
@@ -134,7 +129,7 @@ once old new name source states users job jobs outcome bytes only own steady led
     let kept : FileIsKept h new 0 job (starved_at new 0) outcome (Some bytes) = file h job at outcome there in
     let this : IsOnly states name source job.device = only out.led.names in
     let quiet = quiet_moves out.moves old new out.next in
-    scan_of_one h new 0 0 job bytes name source this quiet (kept.scanned reports.0 bytes (steady_for_all h name job.device source this steady quiet) scan reports.1 refl)
+    scan_of_one h new 0 0 job bytes name source this quiet (kept.scanned reports.0 bytes (steady_for_all h new 0 name job.device source this steady quiet) scan reports.1 refl)
 
 pub beside : (old mid new : WorldCore) (name : List ℕ) (source : SourceState) (states : List DeviceState) (users : List Entry) (first second : Job) (jobs : List Job) (outcome : Outcome) (bytes : List ℕ) (events : List Event) →
     states ≡ new_scanner Flatbed name source Little ∷ [] → jobs ≡ first ∷ second ∷ [] → source.steady ≡ true → LedTo (begun states users jobs) old → events ≡ until_busy → ((h : History) → LedTo h old → LedTo (and_then h events) mid) → KeepsRunning mid new →
@@ -148,7 +143,7 @@ beside old mid new name source states users first second jobs outcome bytes even
     let kept : FileIsKept h new 0 first (starved_at new 0) outcome (Some bytes) = file h first at outcome there in
     let quiet = all_then LoadsNothing events out.moves (both_quiet events are) (quiet_moves out.moves mid new out.next) in
     let this : IsOnly states name source first.device = only_device states name first.device source devices in
-    scan_of_one h new 0 0 first bytes name source this quiet (kept.scanned reports.0 bytes (steady_for_all h name first.device source this steady quiet) scan reports.1 refl)
+    scan_of_one h new 0 0 first bytes name source this quiet (kept.scanned reports.0 bytes (steady_for_all h new 0 name first.device source this steady quiet) scan reports.1 refl)
 
 pub busy : (old mid new : WorldCore) (name : List ℕ) (source : SourceState) (states : List DeviceState) (users : List Entry) (first second : Job) (jobs : List Job) (outcome : Outcome) (given : Option Outcome) (events : List Event) →
     states ≡ new_scanner Flatbed name source Little ∷ [] → jobs ≡ first ∷ second ∷ [] → source.steady ≡ true → LedTo (begun states users jobs) old → events ≡ until_busy → ((h : History) → LedTo h old → LedTo (and_then h events) mid) → KeepsRunning mid new →
@@ -160,7 +155,7 @@ busy old mid new name source states users first second jobs outcome given events
     let at : IsJobAt h new 1 second = record { led = out.led; job_at = ap (λ (js : List Job). slice_get js 1) own } in
     let o = kept h second at in
     let same : o.0 ≡ outcome = (let both : Some o.0 ≡ Some outcome = sym o.1 ∙ is in cc) in
-    record { history = h; jobs = own; world = new; led = out.led; starved = starved_at new 1; caused = (o.2.ended DeviceBusy Answer (same ∙ told)).caused }
+    record { history = h; jobs = own; world = new; led = out.led; starved = starved_at new 1; caused = (o.2.ended DeviceBusy Answer (same ∙ told)).2 }
 
 -- ---- the same of boxes
 

@@ -1,4 +1,5 @@
 pub mod Lists
+pub mod Rows
 pub mod Jobs
 pub mod Led
 pub mod Mine
@@ -21,6 +22,8 @@ pub mod Along
 pub mod Ended
 pub mod Placed
 pub mod Reported
+pub mod There
+pub mod InTime
 pub mod AllKept
 pub mod NextMoves
 pub mod Calls
@@ -30,5 +33,6 @@ pub mod Examples
 pub mod moments
 pub mod Refused
 pub mod Unhindered
+pub mod Listing
 pub mod Clear
 pub mod PlainJob

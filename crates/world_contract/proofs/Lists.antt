@@ -14,10 +14,25 @@ contains_at [] k x e = absurd (let clash : None ≡ Some x = e in cc)
 contains_at (y ∷ ys) zero x e = (0, omega arith, (let same : Some y ≡ Some x = e in cc))
 contains_at (y ∷ ys) (suc k) x e = let r = contains_at ys k x e in (suc r.0, omega (arith, r.1), r.2)
 
+in_at : {X : Type 0} (xs : List X) (k : ℕ) (x : X) → k < length xs → slice_index_or xs k x ≡ x → In x xs
+in_at [] k x low e = absurd (omega (arith, low))
+in_at (y ∷ ys) zero x low e = inl (sym e)
+in_at (y ∷ ys) (suc k) x low e = inr (in_at ys k x (omega (arith, low)) e)
+
+pub in_list : {X : Type 0} (xs : List X) (x : X) → Contains xs x → In x xs
+in_list xs x c = in_at xs c.0 x c.1 c.2
+
 pub contains_in : {X : Type 0} (xs : List X) (x : X) → In x xs → Contains xs x
 contains_in [] x e = absurd e
 contains_in (y ∷ ys) x (inl e) = (0, omega arith, sym e)
 contains_in (y ∷ ys) x (inr e) = let r = contains_in ys x e in (suc r.0, omega (arith, r.1), r.2)
+
+in_middle : {X : Type 0} (front back : List X) (x : X) → In x (front ++ x ∷ back)
+in_middle [] back x = inl refl
+in_middle (y ∷ front) back x = inr (in_middle front back x)
+
+pub in_split : {X : Type 0} (xs front back : List X) (x : X) → xs ≡ front ++ x ∷ back → Contains xs x
+in_split {X = X} xs front back x split = subst (λ (ys : List X). Contains ys x) (sym split) (contains_in (front ++ x ∷ back) x (in_middle front back x))
 
 pub all_then : {X : Type 0} (P : X → Type 0) (xs ys : List X) → AllByRecursion P xs → AllByRecursion P ys → AllByRecursion P (xs ++ ys)
 all_then P [] ys a b = b

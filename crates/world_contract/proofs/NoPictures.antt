@@ -12,7 +12,7 @@ use Rattle.system_model.specs.AbstractDevices.{AbstractDevice}
 use Rattle.system_model.specs.Client.{JobStage, Idle, Running, Done, Ended, AbstractProgress, Greeting, Listing, Opening, Allowing, Describing, Putting, Getting, Starting, Shaping, Imaging, ClientView, request_awaited}
 use Rattle.system_model.specs.SystemStates.{SessionView, JobState}
 use Rattle.system_model.specs.Transitions.{IsUnderWay}
-use Rattle.system_model.specs.Sync.{InSync, Pauses, Ready}
+use Rattle.system_model.specs.Sync.{InSync, Pauses, Ready, Scans}
 use Rattle.system_model.specs.Invariants.{StageInvariant}
 use Rattle.world_contract.proofs.Options.{IsForced}
 
@@ -51,6 +51,27 @@ starting i k p dev (Running g) rest on (inr (inl h)) e = none_asked p.todo rest 
 starting i k p dev (Running g) rest on (inr (inr h)) e = none_asked p.todo rest h.todo e
 starting i k p dev Done rest on h e = absurd on
 starting i k p dev (Ended status why) rest on h e = absurd on
+
+synced_scans : (i : ℕ) (k : Make) (b : SessionView) (m : ClientView) (dev : AbstractDevice) (g : AbstractProgress) (rest : List AbstractRequest) → Start ∷ rest ≡ request_awaited g → InSync i k b m dev g → Scans b.job.task
+synced_scans i k b m dev Greeting rest e h = absurd (let clash : Start ∷ rest ≡ Init ∷ [] = e in cc)
+synced_scans i k b m dev Listing rest e h = absurd (let clash : Start ∷ rest ≡ GetDevices ∷ [] = e in cc)
+synced_scans i k b m dev Opening rest e h = absurd (let clash : Start ∷ rest ≡ Open ∷ [] = e in cc)
+synced_scans i k b m dev (Allowing c) rest e h = absurd (let clash : Start ∷ rest ≡ Authorize c ∷ [] = e in cc)
+synced_scans i k b m dev (Describing left) rest e h = absurd (let clash : Start ∷ rest ≡ Describe ∷ [] = e in cc)
+synced_scans i k b m dev (Putting n value requested left) rest e h = absurd (let clash : Start ∷ rest ≡ Set n value ∷ [] = e in cc)
+synced_scans i k b m dev (Getting n left) rest e h = absurd (let clash : Start ∷ rest ≡ Get n ∷ [] = e in cc)
+synced_scans i k b m dev Starting rest e (inl h) = h.scans
+synced_scans i k b m dev Starting rest e (inr h) = h.continues.scans
+synced_scans i k b m dev Shaping rest e h = absurd (let clash : Start ∷ rest ≡ Parameters ∷ [] = e in cc)
+synced_scans i k b m dev (Imaging params heard) rest e h = absurd (let clash : Start ∷ rest ≡ [] = e in cc)
+
+pub starting_scans : (i : ℕ) (k : Make) (p : JobState) (dev : AbstractDevice) (stage : JobStage) (rest : List AbstractRequest) → IsUnderWay stage → StageInvariant i k p dev stage → p.todo ≡ Start ∷ rest → Scans p.session.job.task
+starting_scans i k p dev Idle rest on h e = none_asked p.todo rest h.1 e
+starting_scans i k p dev (Running g) rest on (inl h) e = synced_scans i k p.session p.client dev g rest (sym e ∙ h.todo) h.in_sync
+starting_scans i k p dev (Running g) rest on (inr (inl h)) e = none_asked p.todo rest h.todo e
+starting_scans i k p dev (Running g) rest on (inr (inr h)) e = none_asked p.todo rest h.todo e
+starting_scans i k p dev Done rest on h e = absurd on
+starting_scans i k p dev (Ended status why) rest on h e = absurd on
 
 -- ---- no frames are no picture
 

@@ -66,12 +66,12 @@ plain_is_clear name source users job named none firm meant allowed =
       device = device;
       is_there = (0, omega arith, refl);
       named = sym named;
-      plain = refl;
+      plain = λ scanning. refl;
       alone = λ j other at same. only_job job other j at;
-      forced = λ unforced. unforced device (0, omega arith, refl) (sym named) [] (defaults Flatbed Little) (at_defaults source name job none);
+      forced = λ unforced. unforced (record { device = device; is_there = (0, omega arith, refl); named = sym named; setup = defaults Flatbed Little; placed = []; in_force = at_defaults source name job none });
       unnamed = λ s. ap (λ (t : Setup). t.told) (setup_is name source users job none s) ∙ told_none;
-      meant = λ s held came is. meant (ap (λ (p : PageView). meaning_of p (defaults Flatbed Little).scene) (ap (λ (x : HeldPage). x.page) (page_is name source users job held came)) ∙ (ap (λ (t : Setup). meaning_of held.page t.scene) (sym (setup_is name source users job none s)) ∙ is));
-      firm = λ held came. ap (λ (x : HeldPage). x.infallible) (sym (page_is name source users job held came)) ∙ firm;
+      meant = λ scanning s held came is. meant (ap (λ (p : PageView). meaning_of p (defaults Flatbed Little).scene) (ap (λ (x : HeldPage). x.page) (page_is name source users job held came)) ∙ (ap (λ (t : Setup). meaning_of held.page t.scene) (sym (setup_is name source users job none s)) ∙ is));
+      firm = λ scanning held came. ap (λ (x : HeldPage). x.infallible) (sym (page_is name source users job held came)) ∙ firm;
       allowed = allowed;
       left = λ event there. absurd (no_member event there);
     }

@@ -55,21 +55,21 @@ inval h w i job starved nothing forced listed meant = by_answer h w i job status
   where
     by_case : AnswerIsExplained h w i job statuses.Inval → ⊥
     by_case (inl unforced) = forced unforced
-    by_case (inr (inl (asked, none))) = listed asked.n asked.at none
-    by_case (inr (inr none)) = meant none.asked.n none.asked.at none.device none.has (ap (λ (x : PageView). meaning_of x none.device.setup.scene) (sym none.first) ∙ (ap (λ (x : Setup). meaning_of none.held.page x.scene) (sym none.options) ∙ none.none))
+    by_case (inr (inr (asked, none))) = listed asked.n asked.at none
+    by_case (inr (inl none)) = meant none.asked.n none.asked.at none.device none.has (ap (λ (x : PageView). meaning_of x none.device.setup.scene) (sym none.first) ∙ (ap (λ (x : Setup). meaning_of none.held.page x.scene) (sym none.options) ∙ none.none))
 
 pub denied : DeniedIsNoLie
 denied h w i job starved nothing right = by_answer h w i job statuses.AccessDenied nothing (λ (asked, d). (let clash : true ≡ false = sym (right d.sent.resource) ∙ d.is in cc))
 
 pub empty : EmptyIsNoLie
-empty h w i job starved nothing some = by_answer h w i job statuses.NoDocs nothing (λ (asked, finished, (d, has, none)). some asked.n asked.at d has none)
+empty h w i job starved nothing some = by_answer h w i job statuses.NoDocs nothing (λ (scanning, asked, finished, (d, has, none)). some asked.n asked.at d has none)
 
 pub failed : FailedIsNoLie
 failed h w i job starved nothing none = by_answer h w i job statuses.IoError nothing by_case
   where
     by_case : AnswerIsExplained h w i job statuses.IoError → ⊥
-    by_case (inl (asked, failed)) = none (ToDaemon i asked.n) asked.at failed
-    by_case (inr (turn, failed, sent)) = none _ turn.0 failed
+    by_case (scanning, inl (asked, failed)) = none (ToDaemon i asked.n) asked.at failed
+    by_case (scanning, inr (turn, failed, sent)) = none _ turn.0 failed
 
 pub lost : LostIsNoLie
 lost h w i job control image (same, inl (inl happened)) = control happened
@@ -109,7 +109,7 @@ counted h w i job reports count finished batch other some kept = by_case (kept c
   where
     by_case : (finished ≡ count) ⊎ ((0 < finished) × (finished < count) × HadNoPage h w i job finished) → ⊥
     by_case (inl all) = other all
-    by_case (inr (more, fewer, (asked, behind, (d, has, none)))) = some asked.n asked.at d has none
+    by_case (inr (more, fewer, (scanning, asked, behind, (d, has, none)))) = some asked.n asked.at d has none
 
 -- the device that the settings of a job that is done are put on is there
 pub nowhere : NowhereIsNoLie

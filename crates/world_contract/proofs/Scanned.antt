@@ -23,7 +23,7 @@ use Rattle.world_refines.specs.MainTheorem.{AllIsKept, PromisesAreKept, RunRefin
 use Rattle.world_refines.proofs.job_events.Constant.{Fixed, all_fixed, makes_stay}
 use Rattle.world_refines.proofs.state.Infos.{is_name, name_here}
 use Rattle.world_contract.specs.Histories.{History, LedTo}
-use Rattle.world_contract.specs.Page.{IsSteady}
+use Rattle.world_contract.proofs.Rows.{IsSteadyEver}
 use Rattle.world_contract.proofs.Marked.{starts_there}
 use Rattle.world_contract.proofs.Begun.{all_begun, wants_all}
 use Rattle.world_contract.proofs.Sources.{sources_of, loads_fit, make_at, have_sources, steady_there}
@@ -107,7 +107,7 @@ pub name_of : (h : History) (name : List ℕ) (device : DeviceState) → slice_g
 name_of h name device at = name_by h name (position (is_name name) (infos_of h)) device refl at
 
 -- where all pages that came for the job's device are steady, its sources are
-pub steady_for : (h : History) (w : WorldCore) (job : Job) (l : LedTo h w) (k : PromisesAreKept source_state h.events (at_first h w job l) l.first w) (i : ℕ) → slice_get h.jobs i ≡ Some job → IsSteady h job.device → (make_for k.run.ghost_then.system i).steady ≡ true
+pub steady_for : (h : History) (w : WorldCore) (job : Job) (l : LedTo h w) (k : PromisesAreKept source_state h.events (at_first h w job l) l.first w) (i : ℕ) → slice_get h.jobs i ≡ Some job → IsSteadyEver h job.device → (make_for k.run.ghost_then.system i).steady ≡ true
 steady_for h w job l k i at steady = ap (λ (make : Make). make.steady) (make_there h w job l k i at) ∙ steady_there h (place_named (infos_of h) job.device) job.device (λ device there. name_of h job.device device there) steady
 
 pub meant_there : (h : History) (w : WorldCore) (i : ℕ) (job : Job) (l : LedTo h w) (k : PromisesAreKept source_state h.events (at_first h w job l) l.first w) (begin : Begin) (file : List ℕ) → slice_get h.jobs i ≡ Some job →

@@ -17,8 +17,9 @@ use Rattle.world_refines.specs.NewWorlds.{HaveSourcesAt, PageSources, info_of_st
 use Rattle.world_refines.specs.MainTheorem.{AreFittingLoads, IsFittingLoad}
 use Rattle.world_contract.specs.Histories.{History}
 use Rattle.world_contract.proofs.Lists.{In, contains_at, contains_in}
-use Rattle.world_contract.specs.Page.{CameFor, IsSteady}
+use Rattle.world_contract.specs.Page.{CameFor}
 use Rattle.world_contract.specs.Page.CameFor.{AtFirst, WithEvent}
+use Rattle.world_contract.proofs.Rows.{IsSteadyEver}
 
 -- ---- by a test of pages
 
@@ -204,13 +205,13 @@ CanFail h name = (held : HeldPage) × CameFor h name held × (held.infallible �
 pub can_fail_there : (h : History) (d : ℕ) (name : List ℕ) → ((s : DeviceState) → slice_get h.devices d ≡ Some s → s.info.name ≡ name) → one_comes is_fallible_page h d ≡ true → CanFail h name
 can_fail_there h d name named e = let r = comes_there is_fallible_page h d name named e in (r.0, r.1, turned_off r.0.infallible r.2)
 
-none_unsteady : (h : History) (name : List ℕ) → IsSteady h name → Comes is_unsteady_page h name → ⊥
+none_unsteady : (h : History) (name : List ℕ) → IsSteadyEver h name → Comes is_unsteady_page h name → ⊥
 none_unsteady h name steady (held, came, is) = false≢true (sym (turned_off held.steady is) ∙ steady held came)
 
 not_so : (b : Bool) → (b ≡ true → ⊥) → not b ≡ true
 not_so true n = absurd (n refl)
 not_so false n = refl
 
-pub steady_there : (h : History) (d : ℕ) (name : List ℕ) → ((s : DeviceState) → slice_get h.devices d ≡ Some s → s.info.name ≡ name) → IsSteady h name → (make_at h d).steady ≡ true
+pub steady_there : (h : History) (d : ℕ) (name : List ℕ) → ((s : DeviceState) → slice_get h.devices d ≡ Some s → s.info.name ≡ name) → IsSteadyEver h name → (make_at h d).steady ≡ true
 steady_there h d name named steady =
     steady_of_make (sources_of h d) (slice_get h.devices d) ∙ not_so (one_comes is_unsteady_page h d) (λ e. none_unsteady h name steady (comes_there is_unsteady_page h d name named e))

@@ -61,7 +61,7 @@ here_or_later h w u v i job status why e es seen is split led ran leads led_on r
       ran = ran;
       ended = there ∙ sym same;
       led_behind = led_on;
-      caused = (keeps.ended status why (is_ended status other why reason same)).caused;
+      caused = (keeps.ended status why (is_ended status other why reason same)).2;
     }
 
 ends_from : Below → (h : History) (w : WorldCore) (i : ℕ) (job : Job) (status : Status) (why : Why) → slice_get h.jobs i ≡ Some job → outcome_at w i ≡ Some (Ended status why) → (es seen : List Event) (u : WorldCore) → h.events ≡ seen ++ es → LedTo (history_up_to h seen) u → AreTrueLoads source_state es → Runs source_state es u w → outcome_at u i ≡ Some Running → EndedIn h w i job status why

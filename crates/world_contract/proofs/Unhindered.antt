@@ -67,7 +67,7 @@ mark_stays s (Returned i d) n on = on
 mark_stays s (Loaded d page) n on = on
 mark_stays s (Removed d) n on = absurd n
 
-listed_stays : (ms : List Mark) (s t : DeviceView) → MarksLead s ms t → AllByRecursion IsNotRemoved ms → s.listed ≡ true → t.listed ≡ true
+pub listed_stays : (ms : List Mark) (s t : DeviceView) → MarksLead s ms t → AllByRecursion IsNotRemoved ms → s.listed ≡ true → t.listed ≡ true
 listed_stays [] s t g n on = ap (λ (x : DeviceView). x.listed) (sym g) ∙ on
 listed_stays (m ∷ ms) s t g n on = listed_stays ms (view_after_mark s m) t g.1 n.1 (mark_stays s m n.0 on)
 
@@ -102,7 +102,7 @@ step_stays h d name s (By j deed) is none of true e = all_each (IsMine j (wanted
 step_stays h d name s (Loads place page) is none of true e = (tt, tt)
 step_stays h d name s (Unplugs place) is none of true e = absurd (none (taken_out h place name of.event of.among of.is (subst (λ (n : ℕ). name_at (infos_of h) n ≡ Some name) (eqb-true d place e) is)))
 
-all_stay : (h : History) (d : ℕ) (name : List ℕ) (xs : List Transition) (s : SystemState) → name_at (infos_of h) d ≡ Some name → (In (Unplug name) h.events → ⊥) → AllByRecursion (IsOfOne h) xs → AllByRecursion IsNotRemoved (all_marks d s xs)
+pub all_stay : (h : History) (d : ℕ) (name : List ℕ) (xs : List Transition) (s : SystemState) → name_at (infos_of h) d ≡ Some name → (In (Unplug name) h.events → ⊥) → AllByRecursion (IsOfOne h) xs → AllByRecursion IsNotRemoved (all_marks d s xs)
 all_stay h d name [] s is none of = tt
 all_stay h d name (x ∷ xs) s is none of = all_then IsNotRemoved (marks_at d s x) (all_marks d (after_transition s x) xs) (step_stays h d name s x is none of.0 (eqb d (touched_device s x)) refl) (all_stay h d name xs (after_transition s x) is none of.1)
 

@@ -6,6 +6,7 @@ pub mod Stands
 pub mod Tray
 pub mod Whole
 pub mod Sends
+pub mod Ran
 pub mod Finished
 pub mod Moments
 pub mod Judged
@@ -23,3 +24,5 @@ pub mod Started
 pub mod Filed
 pub mod Opened
 pub mod Counted
+pub mod PastOpening
+pub mod Beside

@@ -1,5 +1,5 @@
 -- A JOB IN WHOSE WAY NOTHING STANDS, and what it comes to.
-use Rattle.std.specs.Prelude.{ℕ, ◌≡◌, ◌≢◌, ◌⊎◌, true, false, Some, None, List, [], ◌∷◌, Contains, slice_get}
+use Rattle.std.specs.Prelude.{ℕ, ◌≡◌, ◌≢◌, ◌⊎◌, true, false, Some, None, List, [], ◌∷◌, Contains, map, slice_get}
 use Rattle.md5_auth.specs.declared.users.Entry.{Entry}
 use Rattle.md5_auth.specs.ChallengeReading.{challenge_of}
 use Rattle.page_picture.specs.Meaning.{meaning_of}
@@ -7,13 +7,15 @@ use Rattle.page_picture.specs.Source.{SourceState}
 use Rattle.page_picture.specs.declared.scene.DeviceKind.TheVariants.{Flatbed}
 use Rattle.device_api.specs.State.{DeviceState, HeldPage, feeds}
 use Rattle.device_api.specs.Values.{defaults}
+use Rattle.dispatch.specs.Table.{listed_infos}
 use Rattle.virtual_scanner.specs.New.{new_scanner}
 use Rattle.sane_fixed.specs.declared.byte_order.ByteOrder.TheVariants.{Little}
 use Rattle.sane_fixed.specs.declared.status.Status.{Status}
 use Rattle.sane_fixed.specs.declared.status.Status.TheVariants as statuses
+use Rattle.client_replies.specs.ProtocolStates.{scans}
 use Rattle.scan_job.specs.declared.job.Job.{Job}
 use Rattle.scan_job.specs.declared.outcome.Outcome.{Outcome}
-use Rattle.scan_job.specs.declared.outcome.Outcome.TheVariants.{Done, Ended}
+use Rattle.scan_job.specs.declared.outcome.Outcome.TheVariants.{Done, Ended, Running}
 use Rattle.scan_job.specs.declared.outcome.Why.{Why}
 use Rattle.scan_job.specs.declared.outcome.Why.TheVariants as whys
 use Rattle.scan_job.specs.declared.report.Reports.{Reports}
@@ -21,7 +23,7 @@ use Rattle.scan_world.specs.declared.event.Event.{Event}
 use Rattle.scan_world.specs.declared.event.Event.TheVariants.{Cancel, LoseControl, LoseImage, Unplug}
 use Rattle.scan_world.specs.Worlds.{WorldCore}
 use Rattle.world_refines.specs.GhostStates.{backend_of, is_allowed_for, is_guarded}
-use Rattle.world_contract.specs.Calls.{HadUnsaidReply, RunsOut, outcome_at, starved_at}
+use Rattle.world_contract.specs.Calls.{AreNextMoves, HadUnsaidReply, IsJobAt, RunsOut, outcome_at, starved_at}
 use Rattle.world_contract.specs.Endings.{IsUnforced}
 use Rattle.world_contract.specs.Histories.{History, LedTo, Moment, and_then, begun, history_up_to}
 use Rattle.world_contract.specs.Lies.{NamesNothing}
@@ -41,21 +43,22 @@ IsAllowedAlways users job =
     (sent : List ℕ) → is_guarded users (backend_of job.device) ≡ true
     → is_allowed_for users job.user job.password (backend_of job.device) (challenge_of sent) ≡ true
 
--- **clear (`IsClear`, `LeavesAlone`, `IsAllowedAlways`)**: nothing stands in the way of a job: its device is there, no
--- feeder, and named by no other job; its settings can be in force, name no status, and mean a picture on each page that
--- came for it, of sources that cannot fail; no line of the users names its backend, or its password is right
--- for each challenge; and no event gave it up, took a connection of it, or took its device out.
-pub record IsClear (h : History) (i : ℕ) (job : Job) : Type 0 where
+-- **clear (`IsClear`, `LeavesAlone`, `IsAllowedAlways`)**: nothing stands in the way of a job: its device is there, and
+-- named by these jobs alone, as by itself; its settings can be in force and name no status; where it scans, they mean a
+-- picture on each page that came for it, of sources that cannot fail, and it is no feeder; no line of the users names its
+-- backend, or its password is right for each challenge; and no event gave it up, took a connection of it, or took its
+-- device out.
+pub record IsClear (h : History) (i : ℕ) (job : Job) (Among : ℕ → Type 0) : Type 0 where
   pub device : DeviceState
   pub is_there : Contains h.devices device
   pub named : device.info.name ≡ job.device
-  pub plain : feeds device ≡ false
-  pub alone : (j : ℕ) (other : Job) → slice_get h.jobs j ≡ Some other → other.device ≡ job.device → j ≡ i
+  pub plain : scans job.task ≡ true → feeds device ≡ false
+  pub alone : (j : ℕ) (other : Job) → slice_get h.jobs j ≡ Some other → other.device ≡ job.device → Among j
   pub forced : IsUnforced h job → ⊥
   pub unnamed : NamesNothing h job
-  pub meant : (s : Settled h job) (held : HeldPage) → CameFor h job.device held
+  pub meant : scans job.task ≡ true → (s : Settled h job) (held : HeldPage) → CameFor h job.device held
       → meaning_of held.page s.setup.scene ≢ None
-  pub firm : (held : HeldPage) → CameFor h job.device held → held.infallible ≡ true
+  pub firm : scans job.task ≡ true → (held : HeldPage) → CameFor h job.device held → held.infallible ≡ true
   pub allowed : IsAllowedAlways h.users job
   pub left : (event : Event) → Contains h.events event → LeavesAlone i job event
 
@@ -66,7 +69,7 @@ PlainIsClear =
     (name : List ℕ) (source : SourceState) (users : List Entry) (job : Job) → job.device ≡ name
     → job.settings.items ≡ [] → source.infallible ≡ true
     → meaning_of source.page (defaults Flatbed Little).scene ≢ None → IsAllowedAlways users job
-    → IsClear (begun (new_scanner Flatbed name source Little ∷ []) users (job ∷ [])) 0 job
+    → IsClear (begun (new_scanner Flatbed name source Little ∷ []) users (job ∷ [])) 0 job (λ j. j ≡ 0)
 
 -- its next move was the loss of its control connection: in front of that it was told as out of memory, or in a delivery
 -- of its request its session had answered with a reply that cannot be said
@@ -75,9 +78,9 @@ BrokeOff h w i job =
     (at : Moment h w (LoseControl i))
     × ((starved_at at.before i ≡ true) ⊎ HadUnsaidReply (history_up_to h at.front) at.before i job)
 
--- **comes to (`ComesTo`, `BrokeOff`, `ComesClear`, `ClearsUp`)**: a job that is done, or is told as out of memory, or
--- whose next move was the loss of its connection, for want of memory or at a reply that cannot be said; that `run_all`
--- brings each clear job there.
+-- **comes to (`ComesTo`, `BrokeOff`, `ComesClear`, `ClearsUp`, `ClearsBy`)**: a job that is done, or is told as out of
+-- memory, or whose next move was the loss of its connection, for want of memory or at a reply that cannot be said; that
+-- `run_all` brings each clear job there, and so do next moves that are run, where it is over behind them.
 abbrev pub ComesTo : History → WorldCore → ℕ → Job → Outcome → Type 0
 ComesTo h w i job outcome =
     ((reports : Reports) × (outcome ≡ Done reports))
@@ -92,8 +95,43 @@ pub record ComesClear (h : History) (old new : WorldCore) (i : ℕ) (job : Job) 
 
 abbrev pub ClearsUp : WorldCore → WorldCore → Type 0
 ClearsUp old new =
-    (h : History) → LedTo h old → (i : ℕ) (job : Job) → slice_get h.jobs i ≡ Some job → IsClear h i job
+    (h : History) → LedTo h old → (i : ℕ) (job : Job) → slice_get h.jobs i ≡ Some job → IsClear h i job (λ j. j ≡ i)
     → ComesClear h old new i job
+
+-- **two (`BothCome`, `SharesClear`, `IsEither`)**: of two jobs that name one device, and are clear but for each other,
+-- each comes to what a clear job comes to, or is answered that the device is busy; and one at most is.
+abbrev pub IsEither : ℕ → ℕ → ℕ → Type 0
+IsEither i j k = (k ≡ i) ⊎ (k ≡ j)
+
+pub record BothCome (h : History) (old new : WorldCore) (i j : ℕ) (a b : Job) : Type 0 where
+  pub out : RunsOut h old new
+  pub first : Outcome
+  pub first_is : outcome_at new i ≡ Some first
+  pub second : Outcome
+  pub second_is : outcome_at new j ≡ Some second
+  pub comes : ComesTo (and_then h out.moves) new i a first ⊎ (first ≡ Ended statuses.DeviceBusy whys.Answer)
+  pub comes_too : ComesTo (and_then h out.moves) new j b second ⊎ (second ≡ Ended statuses.DeviceBusy whys.Answer)
+  pub one : first ≡ Ended statuses.DeviceBusy whys.Answer → second ≢ Ended statuses.DeviceBusy whys.Answer
+
+abbrev pub SharesClear : WorldCore → WorldCore → Type 0
+SharesClear old new =
+    (h : History) → LedTo h old → (i j : ℕ) (a b : Job) → i ≢ j → slice_get h.jobs i ≡ Some a
+    → slice_get h.jobs j ≡ Some b → b.device ≡ a.device → IsClear h i a (IsEither i j) → IsClear h j b (IsEither i j)
+    → BothCome h old new i j a b
+
+-- `run`, of events that are next moves, one after another: a job that was clear in front of them and is over behind them
+abbrev pub ClearsBy : List Event → WorldCore → WorldCore → Type 0
+ClearsBy events old new =
+    (h : History) → LedTo h old → AreNextMoves events old new → (i : ℕ) (job : Job) → slice_get h.jobs i ≡ Some job
+    → IsClear h i job (λ j. j ≡ i) → (outcome : Outcome) → outcome_at new i ≡ Some outcome → outcome ≢ Running
+    → ComesTo (and_then h events) new i job outcome
+
+-- **listed (`AllAreListed`)**: where no event took a device out, all devices are listed, once, in their order.
+abbrev pub AllAreListed : Type 0
+AllAreListed =
+    (h : History) (w : WorldCore) (i : ℕ) (job : Job) → IsJobAt h w i job
+    → ((name : List ℕ) → Contains h.events (Unplug name) → ⊥)
+    → listed_infos w.daemon.registry ≡ map (λ (d : DeviceState). d.info) h.devices
 
 -- **no lie (`StoppedIsNoLie`)**: no clear job ends that is not told as out of memory and whose session did not break
 -- off.

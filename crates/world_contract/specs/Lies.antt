@@ -17,19 +17,18 @@ use Rattle.scan_job.specs.declared.outcome.Outcome.{Outcome}
 use Rattle.scan_job.specs.declared.report.Report.{Report}
 use Rattle.scan_job.specs.declared.report.Reports.{Reports}
 use Rattle.scan_world.specs.declared.event.Event.{Event}
-use Rattle.scan_world.specs.declared.event.Event.TheVariants.{Cancel, LoseControl, ToDaemon}
+use Rattle.scan_world.specs.declared.event.Event.TheVariants.{Cancel, DataToClient, LoseControl, LoseImage, ToClient, ToDaemon}
 use Rattle.scan_world.specs.declared.event.JobEvent.{JobEvent}
-use Rattle.scan_world.specs.declared.event.JobEvent.TheVariants as moves
 use Rattle.scan_world.specs.JobEvents.{job_event_of}
 use Rattle.scan_world.specs.Worlds.{WorldCore}
-use Rattle.world_refines.specs.FailedSources.{CutIn, FailedIn}
+use Rattle.world_refines.specs.FailedSources.{CutIn}
 use Rattle.world_refines.specs.GhostStates.{backend_of, is_allowed_for, is_guarded}
 use Rattle.world_contract.specs.Calls.{CancelEnds, IsGoodMove, MoveLowers, OneHolder, PageStays, RunsOut, left_at, outcome_at, starved_at}
-use Rattle.world_contract.specs.Endings.{IsEndingExplained, IsUnforced}
+use Rattle.world_contract.specs.Endings.{DeviceFailed, IsEndingExplained, IsUnforced}
 use Rattle.world_contract.specs.Histories.{History, Moment}
 use Rattle.world_contract.specs.Page.{IsSteady, Settled}
 use Rattle.world_contract.specs.Promise.{CountIsKept, FileIsKept, JobIsDone, MoveIsKept, PageIsKept}
-use Rattle.world_contract.specs.Sessions.{CanAt, Happened, Has, HasFinished}
+use Rattle.world_contract.specs.Sessions.{AtJob, CanAt, Happened, Has}
 
 -- ---- of an ending
 
@@ -88,21 +87,21 @@ EmptyIsNoLie =
 abbrev pub FailedIsNoLie : Type 0
 FailedIsNoLie =
     (h : History) (w : WorldCore) (i : ℕ) (job : Job) (starved : Bool) → NamesNothing h job
-    → ((e : Event) (at : Moment h w e) → FailedIn at.before at.behind.daemon i job.device → ⊥)
+    → ((e : Event) (at : Moment h w e) → DeviceFailed at.before at.behind i job.device → ⊥)
     → IsEndingExplained h w i job starved IoError whys.Answer → ⊥
 
 -- lost, where no connection of it that stood was lost, and it is not told as out of memory
 abbrev pub LostIsNoLie : Type 0
 LostIsNoLie =
-    (h : History) (w : WorldCore) (i : ℕ) (job : Job) → (Happened h w i moves.LoseControl → ⊥)
-    → (Happened h w i moves.LoseImage → ⊥) → IsEndingExplained h w i job false IoError whys.Lost → ⊥
+    (h : History) (w : WorldCore) (i : ℕ) (job : Job) → (Happened h w i (LoseControl i) → ⊥)
+    → (Happened h w i (LoseImage i) → ⊥) → IsEndingExplained h w i job false IoError whys.Lost → ⊥
 
 -- out of memory at the client, to which nothing could come
 abbrev pub MemoryIsNoLie : Type 0
 MemoryIsNoLie =
     (h : History) (w : WorldCore) (i : ℕ) (job : Job) (starved : Bool)
-    → ((n : ℕ) → Happened h w i (moves.ToClient n) → ⊥)
-    → ((n : ℕ) → Happened h w i (moves.DataToClient n) → ⊥) → IsEndingExplained h w i job starved NoMem whys.Memory → ⊥
+    → ((n : ℕ) → Happened h w i (ToClient i n) → ⊥)
+    → ((n : ℕ) → Happened h w i (DataToClient i n) → ⊥) → IsEndingExplained h w i job starved NoMem whys.Memory → ⊥
 
 -- cancelled, though nobody gave it up
 abbrev pub CancelledIsNoLie : Type 0
@@ -182,14 +181,15 @@ DenotesNone h i job bytes before =
 abbrev pub FileIsNoLie : Type 0
 FileIsNoLie =
     (h : History) (w : WorldCore) (i : ℕ) (job : Job) (starved : Bool) (reports : Reports) (bytes : List ℕ)
-    → IsSteady h job.device → job.task ≡ tasks.Scan → Always h w i (DenotesNone h i job bytes)
+    → IsSteady h w i job.device → job.task ≡ tasks.Scan → Always h w i (DenotesNone h i job bytes)
     → FileIsKept h w i job starved (Done reports) (Some bytes) → ⊥
 
 -- page k of another page, as of the first again
 abbrev pub PageIsNoLie : Type 0
 PageIsNoLie =
     (h : History) (w : WorldCore) (i : ℕ) (job : Job) (starved : Bool) (finished k : ℕ) (bytes : List ℕ)
-    → IsSteady h job.device → Always h w i (λ before. HasFinished before i (k - 1) → DenotesNone h i job bytes before)
+    → IsSteady h w i job.device
+    → Always h w i (λ before. AtJob before i (λ p. p.finished ≡ k - 1) → DenotesNone h i job bytes before)
     → PageIsKept h w i job starved finished k (Some bytes) → ⊥
 
 -- a whole file of a job that is not done

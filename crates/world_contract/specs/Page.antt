@@ -11,32 +11,32 @@ use Rattle.device_api.specs.State.{DeviceState, HeldPage, held_from, is_at_rest,
 use Rattle.device_api.specs.InForce.{Placement}
 use Rattle.device_api.specs.Values.{defaults}
 use Rattle.scan_job.specs.declared.job.Job.{Job}
+use Rattle.scan_job.specs.declared.outcome.Outcome.TheVariants.{Running}
 use Rattle.scan_world.specs.declared.event.Event.TheVariants.{Load}
 use Rattle.scan_world.specs.Worlds.{WorldCore}
-use Rattle.world_contract.specs.Histories.{History}
-use Rattle.world_contract.specs.Sessions.{Asked, Has, HasFinished, IsAtStart}
+use Rattle.world_contract.specs.Histories.{History, Moment}
+use Rattle.world_contract.specs.Sessions.{Asked, AtJob, Has, IsAtStart}
 use Rattle.world_contract.specs.Settings.{AreSettingsPut}
 
--- **scan (`CameFor`, `IsSteady`, `AreInForce`, `Settled`, `StartedOn`, `IsScan`)**: a page that was in a device of a
--- name as the world was made, or came for one with an event, taken or not; that each of them is steady; the settings of
+-- **scan (`CameInTime`, `IsSteady`, `AreInForce`, `Settled`, `StartedOn`, `IsScan`)**: a page that was in a device of a
+-- name as the world was made, or came for one, taken or not, as the job ran; that each of them is steady; the settings of
 -- a job in force on a device, each given the nearest admitted value; the device that a job names, with the options that
 -- its settings put in force there; that a job asked for a start while so many of its pages were finished, on this page,
 -- which the device that its session had at rest had first; a file that denotes exactly what the settings mean on such a
 -- page, that of such a start.
-pub data CameFor (h : History) (name : List ℕ) (held : HeldPage) : Type 0 where
-  AtFirst : (device : DeviceState) → Contains h.devices device → device.info.name ≡ name → Contains device.pages held
-      → CameFor h name held
-  WithEvent : (source : Source) → Contains h.events (Load name source) → held_from (source_state source) ≡ held
-      → CameFor h name held
+pub data CameInTime (h : History) (w : WorldCore) (i : ℕ) (name : List ℕ) (held : HeldPage) : Type 0 where
+  FromFirst : (device : DeviceState) → Contains h.devices device → device.info.name ≡ name → Contains device.pages held
+      → CameInTime h w i name held
+  AsItRan : (source : Source) (at : Moment h w (Load name source)) → AtJob at.before i (λ p. p.client.outcome ≡ Running)
+      → held_from (source_state source) ≡ held → CameInTime h w i name held
 
 -- each of them is of a source that gives the page's rows at each pass
-abbrev pub IsSteady : History → List ℕ → Type 0
-IsSteady h name = (held : HeldPage) → CameFor h name held → held.steady ≡ true
+abbrev pub IsSteady : History → WorldCore → ℕ → List ℕ → Type 0
+IsSteady h w i name = (held : HeldPage) → CameInTime h w i name held → held.steady ≡ true
 
 -- the job's settings are in force on a device: from its defaults on, each in turn was given the nearest admitted value
 abbrev pub AreInForce : DeviceState → Job → List Placement → Setup → Type 0
-AreInForce device job placed setup =
-    AreSettingsPut (defaults device.setup.scene.kind device.setup.order) job.settings.items placed setup
+AreInForce d job placed setup = AreSettingsPut (defaults d.setup.scene.kind d.setup.order) job.settings.items placed setup
 
 -- the device that the job names, and the options that its settings put in force there
 pub record Settled (h : History) (job : Job) : Type 0 where
@@ -51,7 +51,7 @@ pub record Settled (h : History) (job : Job) : Type 0 where
 -- page first.
 pub record StartedOn (h : History) (w : WorldCore) (i : ℕ) (job : Job) (count : ℕ) (page : PageView) : Type 0 where
   pub asked : Asked h w i IsAtStart
-  pub finished : HasFinished asked.at.before i count
+  pub finished : AtJob asked.at.before i (λ p. p.finished ≡ count)
   pub device : DeviceState
   pub has : Has asked.at.before i job.device device
   pub rests : is_at_rest device.phase ≡ true
@@ -63,8 +63,16 @@ pub record StartedOn (h : History) (w : WorldCore) (i : ℕ) (job : Job) (count 
 pub record IsScan (h : History) (w : WorldCore) (i : ℕ) (job : Job) (count : ℕ) (file : List ℕ) : Type 0 where
   pub settled : Settled h job
   pub held : HeldPage
-  pub came : CameFor h job.device held
+  pub came : CameInTime h w i job.device held
   pub started : StartedOn h w i job count held.page
   pub picture : Picture
   pub meant : meaning_of held.page settled.setup.scene ≡ Some picture
   pub denotes : Denotes file picture
+
+-- **came for a device (`CameFor`)**: a page that was in a device of a name as the world was made, or that an event
+-- brought for one, taken or not, whenever that was.
+pub data CameFor (h : History) (name : List ℕ) (held : HeldPage) : Type 0 where
+  AtFirst : (device : DeviceState) → Contains h.devices device → device.info.name ≡ name → Contains device.pages held
+      → CameFor h name held
+  WithEvent : (source : Source) → Contains h.events (Load name source) → held_from (source_state source) ≡ held
+      → CameFor h name held

@@ -32,29 +32,21 @@ pub record JobIsDone (h : History) (w : WorldCore) (i : ℕ) (job : Job) (report
   pub listed : job.task ≡ tasks.List → (asked : Asked h w i IsAtList)
       × (reports.devices ≡ listed_infos asked.at.before.daemon.registry)
 
--- a job that ended otherwise names a status, and has its cause
-pub record JobHasEnded (h : History) (w : WorldCore) (i : ℕ) (job : Job) (starved : Bool)
-    (status : Status) (why : Why) : Type 0 where
-  pub not_good : status ≢ Good
-  pub not_eof : status ≢ Eof
-  pub caused : IsEndingExplained h w i job starved status why
-
--- **kept (`OutcomeIsKept`, `JobIsDone`, `JobHasEnded`, `FileIsKept`, `PageIsKept`, `CountIsKept`, `MoveIsKept`,
+-- **kept (`OutcomeIsKept`, `JobIsDone`, `FileIsKept`, `PageIsKept`, `CountIsKept`, `MoveIsKept`,
 -- `MovesAreKept`, `JobAnswers`, `JobIsKept`)**: what each call answers of a job is right, and all of them together.
 --
--- `outcome`
-pub record OutcomeIsKept (h : History) (w : WorldCore) (i : ℕ) (job : Job) (starved : Bool)
-    (outcome : Outcome) : Type 0 where
-  pub done : (reports : Reports) → outcome ≡ Done reports → JobIsDone h w i job reports
-  pub ended : (status : Status) (why : Why) → outcome ≡ Ended status why → JobHasEnded h w i job starved status why
+-- `outcome`: a job that ended otherwise names a status, and that is explained
+pub record OutcomeIsKept (h : History) (w : WorldCore) (i : ℕ) (job : Job) (starved : Bool) (o : Outcome) : Type 0 where
+  pub done : (reports : Reports) → o ≡ Done reports → JobIsDone h w i job reports
+  pub ended : (status : Status) (why : Why) → o ≡ Ended status why
+      → (status ≢ Good) × (status ≢ Eof) × IsEndingExplained h w i job starved status why
 
 -- `file`
 pub record FileIsKept (h : History) (w : WorldCore) (i : ℕ) (job : Job) (starved : Bool)
     (outcome : Outcome) (file : Option (List ℕ)) : Type 0 where
-  -- of a scan that is done, where the pages that came for its device are steady: exactly the picture that its
-  -- settings mean on that of its
-  -- start
-  pub scanned : (reports : Reports) (bytes : List ℕ) → IsSteady h job.device → job.task ≡ tasks.Scan
+  -- of a scan that is done, where the pages that came for its device in time are steady: exactly the picture that its
+  -- settings mean on that of its start
+  pub scanned : (reports : Reports) (bytes : List ℕ) → IsSteady h w i job.device → job.task ≡ tasks.Scan
       → outcome ≡ Done reports → file ≡ Some bytes → IsScan h w i job 0 bytes
   -- it is whole only of such a scan: of a job that runs, that ended otherwise, or that is no scan it is not
   pub whole : (bytes : List ℕ) → file ≡ Some bytes → IsWhole bytes → (reports : Reports) × (job.task ≡ tasks.Scan)
@@ -68,7 +60,7 @@ pub record FileIsKept (h : History) (w : WorldCore) (i : ℕ) (job : Job) (starv
 pub record PageIsKept (h : History) (w : WorldCore) (i : ℕ) (job : Job) (starved : Bool)
     (finished k : ℕ) (file : Option (List ℕ)) : Type 0 where
   pub scanned : (bytes : List ℕ) → file ≡ Some bytes → (0 < k) × (k ≤ finished)
-      × (IsSteady h job.device → IsScan h w i job (k - 1) bytes)
+      × (IsSteady h w i job.device → IsScan h w i job (k - 1) bytes)
   pub missing : 0 < k → k ≤ finished → file ≡ None → starved ≡ true
 
 -- `finished`: a batch that is done has all its pages, or fewer, one at least, and then its device had no more as it

@@ -21,8 +21,7 @@ pub record IsSettingReported (setting : List ℕ × List ℕ) (placed : Placemen
 -- one report for each setting, in their order
 abbrev pub AreSettingsReported : List (List ℕ × List ℕ) → List Placement → List Report → Type 0
 AreSettingsReported [] [] [] = Unit {0}
-AreSettingsReported (setting ∷ settings) (placed ∷ more) (report ∷ reports) = IsSettingReported setting placed report
-    × AreSettingsReported settings more reports
+AreSettingsReported (s ∷ settings) (p ∷ ps) (r ∷ rs) = IsSettingReported s p r × AreSettingsReported settings ps rs
 AreSettingsReported settings placed reports = ⊥
 
 -- option n as a show tells it: with the value that GET answers, where that can be read

@@ -1,5 +1,5 @@
 -- WHAT STANDS OF A JOB in a world: its session, what that has, and what its client waits for; and what came to it.
-use Rattle.std.specs.Prelude.{ℕ, ◌≡◌, Some, List, [], slice_get}
+use Rattle.std.specs.Prelude.{ℕ, ◌≡◌, ◌≢◌, Some, List, [], slice_get}
 use Rattle.device_api.specs.State.{DeviceState}
 use Rattle.dispatch.specs.declared.table.place.Lease.{Lease}
 use Rattle.saned_requests.specs.declared.session.Session.{Session}
@@ -8,11 +8,12 @@ use Rattle.saned_core.specs.declared.session_slot.SessionId.{SessionId}
 use Rattle.saned_core.specs.DaemonStates.{session_of}
 use Rattle.client_replies.specs.declared.progress.Progress.{Progress}
 use Rattle.client_replies.specs.declared.progress.Progress.TheVariants as stages
+use Rattle.scan_job.specs.declared.outcome.Outcome.TheVariants.{Running}
 use Rattle.scan_world.specs.declared.endpoint.Endpoint.{Endpoint}
+use Rattle.scan_world.specs.declared.event.Event.{Event}
 use Rattle.scan_world.specs.declared.event.Event.TheVariants.{ToDaemon}
 use Rattle.scan_world.specs.declared.event.JobEvent.{JobEvent}
-use Rattle.scan_world.specs.declared.event.JobEvent.TheVariants as moves
-use Rattle.scan_world.specs.JobEvents.{Can, job_event_of}
+use Rattle.scan_world.specs.JobEvents.{Can}
 use Rattle.scan_world.specs.Worlds.{WorldCore}
 use Rattle.world_contract.specs.Histories.{History, Moment}
 
@@ -41,9 +42,9 @@ pub record Has (w : WorldCore) (i : ℕ) (name : List ℕ) (d : DeviceState) : T
 abbrev pub CanAt : WorldCore → ℕ → JobEvent → Type 0
 CanAt w i x = (p : Endpoint) × (slice_get w.endpoints i ≡ Some p) × Can w.daemon p x
 
--- the client of job i waits for this
-abbrev pub WaitsAt : WorldCore → ℕ → (Progress → Type 0) → Type 0
-WaitsAt w i Waits = (p : Endpoint) × (slice_get w.endpoints i ≡ Some p) × Waits p.client.progress
+-- this is so of the endpoint of job i
+abbrev pub AtJob : WorldCore → ℕ → (Endpoint → Type 0) → Type 0
+AtJob w i Is = (p : Endpoint) × (slice_get w.endpoints i ≡ Some p) × Is p
 
 -- the answer to GET_DEVICES
 abbrev pub IsAtList : Progress → Type 0
@@ -61,30 +62,25 @@ abbrev pub IsAtStart : Progress → Type 0
 IsAtStart (stages.Starting first) = Unit {0}
 IsAtStart progress = ⊥
 
--- so many pages of job i are finished
-abbrev pub HasFinished : WorldCore → ℕ → ℕ → Type 0
-HasFinished w i count = (p : Endpoint) × (slice_get w.endpoints i ≡ Some p) × (p.finished ≡ count)
-
--- nothing that the client of job i wrote is still on its way
-abbrev pub HasSent : WorldCore → ℕ → Type 0
-HasSent w i = (p : Endpoint) → slice_get w.endpoints i ≡ Some p → p.client.out ≡ []
-
 -- ---- what came to the job
 
--- **came to a job (`Happened`, `CanAt`, `Asked`, `WaitsAt`, `IsAtList`, `IsAtOpen`, `IsAtStart`, `HasFinished`,
--- `HasSent`)**: an event of a job that could happen to it, in the world in front of it; and of these the delivery of
--- the last bytes of a request, while its client waited for the answer to that: of a list, of the device's opening, with
--- its authorization, or of a start; so many pages of the job are finished; nothing that its client wrote is on its way.
+-- **came to a job (`CameAsItRan`, `Happened`, `Asked`, `AtJob`, `IsAtList`, `IsAtOpen`, `IsAtStart`)**: an event of a job
+-- that came as it ran and changed the world; and of these the delivery of the last bytes of a request, while its client
+-- waited for the answer to that: of a list, of the device's opening, with its authorization, or of a start.
 --
--- an event of job i that could happen to it
-abbrev pub Happened : History → WorldCore → ℕ → JobEvent → Type 0
-Happened h w i x = (at : Moment h w (job_event_of i x)) × CanAt at.before i x
+-- job i ran in front of the event, which changed the world
+abbrev pub CameAsItRan : ℕ → WorldCore → WorldCore → Type 0
+CameAsItRan i before behind = AtJob before i (λ p. p.client.outcome ≡ Running) × (behind ≢ before)
+
+-- an event that came to job i
+abbrev pub Happened : History → WorldCore → ℕ → Event → Type 0
+Happened h w i e = (at : Moment h w e) × CameAsItRan i at.before at.behind
 
 -- the delivery to the daemon of the last bytes of a request, whose answer the client of job i waited for
 pub record Asked (h : History) (w : WorldCore) (i : ℕ) (Waits : Progress → Type 0) : Type 0 where
   pub n : ℕ
   pub at : Moment h w (ToDaemon i n)
-  pub waits : WaitsAt at.before i Waits
-  pub could : CanAt at.before i (moves.ToDaemon n)
-  -- where the session goes on
-  pub whole : (s : Session DeviceState) → SessionAt at.behind i s → HasSent at.behind i
+  pub came : CameAsItRan i at.before at.behind
+  pub waits : AtJob at.before i (λ p. Waits p.client.progress)
+  -- where the session goes on, nothing that its client wrote is on its way
+  pub whole : (s : Session DeviceState) (now : SessionAt at.behind i s) → now.endpoint.client.out ≡ []

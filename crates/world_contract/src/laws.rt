@@ -5,7 +5,7 @@ ghost use Rattle.page_picture.specs.SourceView.{source_state};
 ghost use Rattle.scan_world.specs.declared.event.Event.{Event};
 ghost use Rattle.scan_world.specs.Worlds.{Runs, WorldCore};
 ghost use Rattle.world_contract.specs.Calls.{CancelEnds, MoveLowers, MovesFall, OthersStay, OverStays};
-ghost use Rattle.world_contract.specs.Clear.{PlainIsClear};
+ghost use Rattle.world_contract.specs.Clear.{AllAreListed, PlainIsClear};
 ghost use Rattle.world_contract.specs.Laws.{AllFollow, AllIsRight, Below};
 
 use system_model::{
@@ -76,3 +76,12 @@ pub fn a_plain_job_is_clear()
     /// defaults, where its source cannot fail, and its password is right, if a line of the users names its backend.
     ensures { PlainIsClear }
 {}
+
+/// Where no event took a device out.
+#[tactic(none)]
+pub fn all_are_listed()
+    /// In a world with a job, to which no event led that took a device out, all devices are listed, once, in their order.
+    ensures { AllAreListed }
+{
+    what_stands_below();
+}

@@ -7,7 +7,7 @@ mod lies;
 mod world;
 
 pub use example::{scan_beside, scan_once, scan_with_another};
-pub use laws::{a_plain_job_is_clear, all_is_right, jobs_end_once};
+pub use laws::{a_plain_job_is_clear, all_are_listed, all_is_right, jobs_end_once};
 pub use lies::{
     a_file_is_no_lie, a_holder_is_no_lie, a_move_is_no_lie, a_report_is_no_lie, a_run_is_no_lie,
     an_ending_is_no_lie,

@@ -8,7 +8,7 @@ ghost use Rattle.world_refines.specs.MainTheorem.{IsTrueLoad};
 ghost use Rattle.scan_world.specs.Worlds.{HasFaultAmong, IsInitialWorld, MayRun, Runs, seen_world};
 ghost use Rattle.world_contract.specs.Histories.{History, LedTo, and_then, begun};
 ghost use Rattle.world_contract.specs.Calls.{CancelEnds, FewMoves, ImageLossEnds, IsMoveAt, KeepsPageCount, KeepsScanFile, KeepsMemory, KeepsEnding, KeepsMove, KeepsMoves, KeepsOutcome, KeepsPage, KeepsRunning, LossEnds, MoveLowers, MovesFall, OneHolder, OthersStay, OverStays, PageStays, ScansStay, SessionsStay, StartsOnFirst, file_answered, finished_at, left_at, outcome_at, page_answered, starved_at};
-ghost use Rattle.world_contract.specs.Clear.{ClearsUp};
+ghost use Rattle.world_contract.specs.Clear.{ClearsBy, ClearsUp, SharesClear};
 
 use crate::laws::what_stands_below;
 use device_api::Device;
@@ -176,6 +176,12 @@ impl World {
             let w = seen self.old.inner in
             let v = seen self.new.inner in
             (h : History) → LedTo h w → StartsOnFirst events.items w v }
+        /// Where its events are next moves, one after another, a job in whose way nothing stood in front of them, and which
+        /// is over behind them, is done, or is told as out of memory, or lost its connection as its next move.
+        /// Carried by: `clear` of `World::run`: `ClearsBy`
+        ensures clear { let w = seen_world ⟦<Box<dyn Device> as Device>⟧.state self.old.inner in
+            let v = seen_world ⟦<Box<dyn Device> as Device>⟧.state self.new.inner in
+            ClearsBy events.items w v }
     {
         ask_pages(events.as_slice());
         what_stands_below();
@@ -194,13 +200,20 @@ impl World {
         /// lost its connection as its next move, for want of memory or at a reply that cannot be said.
         /// Carried by: `clear` of `World::run_all`: `ClearsUp`
         ///
-        /// Nothing stands in its way where its device is there, no feeder, and named by no other job; its sources cannot
-        /// fail; its settings can be in force, name no status and mean a picture on each page that came; its password is
-        /// allowed; and no event cancelled it, lost a connection of it, or took its device out.
+        /// Nothing stands in its way where its device is there, and named by no other job; its settings can be in force and
+        /// name no status; its password is allowed; no event cancelled it, lost a connection of it, or took its device
+        /// out; and where it scans, its device is no feeder, its sources cannot fail, and the settings mean a picture on
+        /// each page that came.
         /// Carried by: `clear` of `World::run_all`: `IsClear`
         ensures clear { let w = seen_world ⟦<Box<dyn Device> as Device>⟧.state self.old.inner in
             let v = seen_world ⟦<Box<dyn Device> as Device>⟧.state self.new.inner in
             ClearsUp w v }
+        /// Of two jobs that name one device, where else nothing stood in the way of either, each comes to the same, or was
+        /// answered DEVICE_BUSY; and one at most was.
+        /// Carried by: `shared` of `World::run_all`: `SharesClear`
+        ensures shared { let w = seen_world ⟦<Box<dyn Device> as Device>⟧.state self.old.inner in
+            let v = seen_world ⟦<Box<dyn Device> as Device>⟧.state self.new.inner in
+            SharesClear w v }
         ensures over { let w = seen_world ⟦<Box<dyn Device> as Device>⟧.state self.old.inner in
             let v = seen_world ⟦<Box<dyn Device> as Device>⟧.state self.new.inner in
             OverStays w v }
@@ -235,11 +248,11 @@ impl World {
         ///
         /// A job that ended otherwise names a status that is neither GOOD nor EOF, and the table of endings has its
         /// status and its why, with what explains them.
-        /// Carried by: `kept` of `World::outcome`: `JobHasEnded`, `IsEndingExplained`
+        /// Carried by: `kept` of `World::outcome`: `ended` of `OutcomeIsKept`, `IsEndingExplained`
         ///
-        /// What explains an ending is an event of the job, and but for a cancel one that could happen to it: those
-        /// before it led to the world in front of it, and it and those behind it to the world that is asked. Without an
-        /// event are told only settings no device can have, and memory that ran out.
+        /// What explains an ending is an event of the job, and but for a cancel one that came as the job ran and changed
+        /// the world: those before it led to the world in front of it, and it and those behind it to the world that is
+        /// asked. Without an event are told only settings no device can have, and memory that ran out.
         /// Carried by: `Happened`, `Asked`, `Moment` of `IsEndingExplained`
         ///
         /// An answered status is the one that `read-return-value` says, as the job's settings put it in force, in a
@@ -250,30 +263,30 @@ impl World {
         /// Else DEVICE_BUSY was answered only where another job's session had the device as the job asked for it;
         /// ACCESS_DENIED only where a line of the users names its backend, and its user and password are not allowed
         /// for the challenge that its session had sent.
-        /// Carried by: `WasHeld`, `WasDisallowed` of `IsEndingExplained`
+        /// Carried by: `AnswerIsExplained`, `HasPassed` of `IsEndingExplained`
         ///
         /// Else INVAL was answered only where the device was not listed as the job asked for it; where settings can be
-        /// in force on no device of the name, as also where a setting ended the job; or where the device, as a start
-        /// was asked for, had the options of the settings, which mean no picture on its page.
-        /// Carried by: `WasUnlisted`, `IsUnforced`, `HadNoPicture` of `IsEndingExplained`
+        /// in force on no device of the name, as also where a setting ended the job; or, to a job that scans, where the
+        /// device, as a start was asked for, had the options of the settings, which mean no picture on its page.
+        /// Carried by: `AnswerIsExplained`, `IsUnforced`, `HadNoPicture` of `IsEndingExplained`
         ///
-        /// Else NO_DOCS was answered only where the device that its session had had no page, as the job asked for a
-        /// start while none of its pages was finished.
+        /// Else NO_DOCS was answered only to a job that scans, where the device that its session had had no page, as the
+        /// job asked for a start while none of its pages was finished.
         /// Carried by: `HadNoPage` of `IsEndingExplained`
         ///
-        /// Else IO_ERROR was answered only where the source of the first page failed as the job asked for a start, or
-        /// in a turn of its frame: its session had the device, and behind the event that is stopped, and the failure
-        /// counted.
-        /// Carried by: `HadFailed` of `IsEndingExplained`
+        /// Else IO_ERROR was answered only to a job that scans, where the source of the first page failed as it asked for
+        /// a start, or in a turn of its frame: its session had the device, and behind the event that is stopped, and the
+        /// failure counted.
+        /// Carried by: `HadFailed`, `DeviceFailed` of `IsEndingExplained`
         ///
-        /// In a turn the end with IO_ERROR came behind the bytes of the frame, unless its connection went for want of
-        /// memory; so the end of a page that a feeder gave whole is none, though it lets go of that page with its count.
+        /// In a turn the end with IO_ERROR came behind the bytes of the frame; so the end of a page that a feeder gave
+        /// whole is none, though it lets go of that page with its count.
         /// Carried by: `SendsFailure` of `HadFailed`
         ///
         /// As lost a job ended only where a connection of it that stood was lost, or where it is told as out of memory;
         /// as starved, which is NO_MEM, only where a piece came to its client; as cancelled only where it was
         /// cancelled.
-        /// Carried by: `WasLost`, `WasStarved`, `Cancelled` of `IsEndingExplained`
+        /// Carried by: `IsEndingExplained`
         ensures kept { let w = seen_world ⟦<Box<dyn Device> as Device>⟧.state self.now.inner in
             KeepsOutcome w i (option_map (λ o. o.now) result) }
         /// A job that ended did so in one of the events: the world in front of it had it running, the world behind it
@@ -291,8 +304,8 @@ impl World {
         ensures is { let w = seen_world ⟦<Box<dyn Device> as Device>⟧.state self.now.inner in
             option_map (λ f. f.now) result ≡ file_answered w i }
         /// The file of a scan that is done denotes exactly the picture that the job's settings mean on a page that came
-        /// for the device that it names, where all that did are steady; one that is not takes this from the jobs of
-        /// that device alone.
+        /// for the device that it names, where all that did as it ran are steady; one that is not takes this from the
+        /// jobs of that device alone, and none that comes later takes it.
         /// Carried by: `kept` of `World::file`: `scanned` of `FileIsKept`
         ///
         /// That page is the one which the device that its session had, at rest, had first as the job asked for a start,

@@ -10,6 +10,7 @@ use std::alloc::Global;
 use std::process::Abort;
 use virtual_scanner::VirtualScanner;
 
+mod calls;
 mod examples;
 mod jobs;
 mod losses;

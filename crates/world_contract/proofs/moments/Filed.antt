@@ -35,12 +35,13 @@ use Rattle.world_refines.proofs.job_events.Constant.{Fixed, all_fixed, makes_sta
 use Rattle.world_contract.specs.Endings.{HadNoPage}
 use Rattle.world_contract.specs.Histories.{History, LedTo}
 use Rattle.world_contract.specs.Laws.{Below}
-use Rattle.world_contract.specs.Page.{CameFor, IsScan, IsSteady, StartedOn}
+use Rattle.world_contract.specs.Page.{CameFor, StartedOn}
 use Rattle.world_contract.proofs.Begun.{wants_all}
 use Rattle.world_contract.proofs.Ended.{comes_there, first_here, laws_of, steps_of_one}
 use Rattle.world_contract.proofs.Jobs.{IsJob}
 use Rattle.world_contract.proofs.Lists.{contains_at}
 use Rattle.world_contract.proofs.Nearest.{nearest_for}
+use Rattle.world_contract.proofs.Rows.{IsScanEver, IsSteadyEver}
 use Rattle.world_contract.proofs.Scanned.{at_first, infos_of, job_there, kept_by, name_of, wants_there}
 use Rattle.world_contract.proofs.Sources.{make_at, sources_of, steady_there}
 use Rattle.world_contract.proofs.moments.Counted.{CountsTo, counts}
@@ -62,7 +63,7 @@ make_of_it below h w job l i at =
     ∙ (ap (λ (m : ℕ → Make). m (wanted_place (after_all t.system k.steps) i)) (makes_stay t.system k.steps)
     ∙ ap (λ (d : ℕ). make_at h d) (wants_all k.steps t.system i ∙ wants_there h w job l i at))
 
-steady_then : (below : Below) (h : History) (w : WorldCore) (job : Job) (l : LedTo h w) (i : ℕ) → slice_get h.jobs i ≡ Some job → IsSteady h job.device → (make_for (comes_there below h w job l).ghost_then.system i).steady ≡ true
+steady_then : (below : Below) (h : History) (w : WorldCore) (job : Job) (l : LedTo h w) (i : ℕ) → slice_get h.jobs i ≡ Some job → IsSteadyEver h job.device → (make_for (comes_there below h w job l).ghost_then.system i).steady ≡ true
 steady_then below h w job l i at steady = ap (λ (make : Make). make.steady) (make_of_it below h w job l i at) ∙ steady_there h (place_named (infos_of h) job.device) job.device (λ device there. name_of h job.device device there) steady
 
 meant_then : (below : Below) (h : History) (w : WorldCore) (i : ℕ) (job : Job) (l : LedTo h w) (begin : Begin) (file : List ℕ) → slice_get h.jobs i ≡ Some job → IsMeant (make_for (comes_there below h w job l).ghost_then.system i) ((comes_there below h w job l).ghost_then.jobs i).settings.items begin file → IsMeant (make_at h (place_named (infos_of h) job.device)) job.settings.items begin file
@@ -124,7 +125,7 @@ one_page u w i job p reports h done at own scan =
 
 -- ---- a file that is meant
 
-pub is_scan : (h : History) (w : WorldCore) (i : ℕ) (job : Job) (count : ℕ) (begin : Begin) (file : List ℕ) → StartFact h w i job count begin → IsMeant (make_at h (place_named (infos_of h) job.device)) job.settings.items begin file → IsScan h w i job count file
+pub is_scan : (h : History) (w : WorldCore) (i : ℕ) (job : Job) (count : ℕ) (begin : Begin) (file : List ℕ) → StartFact h w i job count begin → IsMeant (make_at h (place_named (infos_of h) job.device)) job.settings.items begin file → IsScanEver h w i job count file
 is_scan h w i job count begin file fact meant =
     let there = fact.begun in
     let device = there.0.0 in
@@ -151,7 +152,7 @@ is_scan h w i job count begin file fact meant =
       denotes = m.denotes;
     }
 
-pub scan_right : Below → (h : History) (w : WorldCore) (i : ℕ) (job : Job) (p : Endpoint) (reports : Reports) (file : List ℕ) → IsJob h w i job p → IsSteady h job.device → job.task ≡ tasks.Scan → p.client.outcome ≡ Done reports → p.file ≡ Some file → IsScan h w i job 0 file
+pub scan_right : Below → (h : History) (w : WorldCore) (i : ℕ) (job : Job) (p : Endpoint) (reports : Reports) (file : List ℕ) → IsJob h w i job p → IsSteadyEver h job.device → job.task ≡ tasks.Scan → p.client.outcome ≡ Done reports → p.file ≡ Some file → IsScanEver h w i job 0 file
 scan_right below h w i job p reports file j steady scan done is =
     let k = comes_there below h w job j.led in
     let u = k.ghost_then in
@@ -162,7 +163,7 @@ scan_right below h w i job p reports file j steady scan done is =
     let fact = start_of below h w i job j.led j.job_at 0 s.begin low (ap (λ (bs : List Begin). slice_get bs 0) s.started) in
     is_scan h w i job 0 s.begin file fact (meant_then below h w i job j.led s.begin file j.job_at (s.meant (steady_then below h w job j.led i j.job_at steady)))
 
-pub page_right : Below → (h : History) (w : WorldCore) (i n : ℕ) (job : Job) (p : Endpoint) (file : List ℕ) → IsJob h w i job p → IsSteady h job.device → n < p.finished → slice_get p.pages n ≡ Some (Some file) → IsScan h w i job n file
+pub page_right : Below → (h : History) (w : WorldCore) (i n : ℕ) (job : Job) (p : Endpoint) (file : List ℕ) → IsJob h w i job p → IsSteadyEver h job.device → n < p.finished → slice_get p.pages n ≡ Some (Some file) → IsScanEver h w i job n file
 page_right below h w i n job p file j steady low is =
     let k = comes_there below h w job j.led in
     let u = k.ghost_then in

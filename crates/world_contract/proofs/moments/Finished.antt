@@ -27,7 +27,7 @@ use Rattle.scan_world.specs.Worlds.{WorldCore}
 use Rattle.world_refines.specs.GhostStates.{Ghost, place_of_info}
 use Rattle.world_refines.specs.WorldRefinement.{KeepsFiles, WorldRefines, client_at_greeting, is_laid}
 use Rattle.world_refines.proofs.frames.Paged.{woken_pages}
-use Rattle.world_contract.specs.Sessions.{HasFinished}
+use Rattle.world_contract.proofs.Rows.{HasFinished}
 use Rattle.world_contract.proofs.moments.Entries.{past_end}
 use Rattle.world_refines.proofs.requests.Waiting.{woken}
 

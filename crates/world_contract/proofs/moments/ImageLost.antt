@@ -37,7 +37,7 @@ some_text None x e is = absurd (let clash : false ≡ true = is in cc)
 some_text (Some image) x e is = subst IsSome e refl
 
 -- while a job runs it has a data connection for the data of a frame alone, and its loss counts
-counts_there : (u : Ghost) (w : WorldCore) (i : ℕ) (p : Endpoint) → WorldRefines u w → slice_get w.endpoints i ≡ Some p → IsUnderWay (u.system.job i).client.stage → IsSome p.image → is_lost_by links.Image p.client.outcome p.client.progress ≡ true
+pub counts_there : (u : Ghost) (w : WorldCore) (i : ℕ) (p : Endpoint) → WorldRefines u w → slice_get w.endpoints i ≡ Some p → IsUnderWay (u.system.job i).client.stage → IsSome p.image → is_lost_by links.Image p.client.outcome p.client.progress ≡ true
 counts_there u w i p h at on image =
     let s = h.endpoints i p at in
     image_counts (place_of_info u.infos) (u.jobs i) (u.history i) (u.pages i) (u.wires i) (u.system.job i) p s.talks s.means (some_text p.image (u.wires i).image s.carries.image image) on

@@ -30,26 +30,27 @@ use Rattle.system_model.specs.Invariants.{IsCaused, StageInvariant}
 use Rattle.system_model.specs.ModelPromises.{CausesAreGrounded}
 use Rattle.system_model.specs.SystemStates.{JobState, SystemState, listed_devices, make_for, device_for, wanted_place}
 use Rattle.system_model.specs.Transitions.{By, IsActionEnabled, IsHistory, IsEnabled, IsUnderWay, Loads, Transition, Unplugs, after_transition, after_all}
-use Rattle.scan_world.specs.declared.event.Event.TheVariants.{Cancel}
-use Rattle.scan_world.specs.declared.event.JobEvent.TheVariants.{DataTurn}
+use Rattle.scan_world.specs.declared.event.Event.TheVariants.{Cancel, DataTurn}
 use Rattle.scan_world.specs.Worlds.{WorldCore}
 use Rattle.daemon_refines.specs.ContextRefinement.{abstract_device}
 use Rattle.world_refines.specs.FailedSources.{AllAlong, FailedIn}
 use Rattle.world_refines.specs.GhostStates.{backend_of, is_allowed_for, name_at, place_named}
 use Rattle.world_refines.proofs.job_events.Constant.{Fixed}
 use Rattle.world_contract.specs.Calls.{HadUnsaidReply}
-use Rattle.world_contract.specs.Endings as rows
+use Rattle.world_contract.specs.Endings.{HadNoPage, HasPassed}
 use Rattle.world_contract.specs.Histories.{History}
 use Rattle.world_contract.specs.Page.{CameFor}
-use Rattle.world_contract.specs.Sessions.{Asked, Happened, Has, HasFinished, IsAtOpen, IsAtStart, WaitsAt}
+use Rattle.world_contract.specs.Sessions.{Asked, Happened, Has, IsAtOpen, IsAtStart}
 use Rattle.world_contract.proofs.Along.{Fine, Here, IsTold, Laws, NotForced, Own, fine_then, own_place, settled_by, told_by}
 use Rattle.world_contract.proofs.Asked.{AsksGuarded, asks_then}
 use Rattle.world_contract.proofs.Begun.{job_same, party_stays}
 use Rattle.world_contract.proofs.Events.{stops_event}
 use Rattle.world_contract.proofs.Evident.{Begins, Comes, IsAnswer, IsFailedAnswer, Opens, all_come, causes_by, met_by}
 use Rattle.world_contract.proofs.Lists.{all_each, all_then, contains_in}
-use Rattle.world_contract.proofs.NoPictures.{IsSet, no_meaning, starting}
+use Rattle.world_contract.proofs.NoPictures.{IsSet, no_meaning, starting, starting_scans}
 use Rattle.world_contract.proofs.Options.{streaming}
+use Rattle.world_contract.proofs.Rows as rows
+use Rattle.world_contract.proofs.Rows.{HasFinished, WaitsAt}
 use Rattle.world_contract.proofs.Pages.{HasDevice, IsOfDevice, IsOfOne, name_there}
 use Rattle.world_contract.proofs.Scanned.{infos_of, name_of}
 use Rattle.world_contract.proofs.Sources.{make_at}
@@ -65,22 +66,22 @@ use Rattle.world_contract.proofs.moments.Waiting.{WaitsFor, waits_there}
 
 -- the job scans, and its options name that status of a turn
 abbrev pub IsNamed : History → WorldCore → ℕ → Job → Status → Type 0
-IsNamed h w i job status = Happened h w i DataTurn × (scans job.task ≡ true) × IsTold h job status
+IsNamed h w i job status = Happened h w i (DataTurn i) × (scans job.task ≡ true) × IsTold h job status
 
 abbrev pub Evid : History → WorldCore → ℕ → Job → Cause → Type 0
 Evid h w i job GaveUp = Contains h.events (Cancel i)
 Evid h w i job LinkLost = rows.WasLost h w i
 Evid h w i job LinkOutOfMemory = Unit {0}
 Evid h w i job WasUnsaid = HadUnsaidReply h w i job
-Evid h w i job SourceFailed = rows.HadFailed h w i job
+Evid h w i job SourceFailed = rows.MayHaveFailed h w i job
 Evid h w i job NamesEof = IsNamed h w i job Eof
 Evid h w i job (Names status) = IsNamed h w i job status
 Evid h w i job Unforced = ⊥
 Evid h w i job WasUnlisted = rows.WasUnlisted h w i job
-Evid h w i job HadNoPicture = rows.HadNoPicture h w i job
+Evid h w i job HadNoPicture = rows.HadNoPictureEver h w i job
 Evid h w i job WasHeld = rows.WasHeld h w i job
 Evid h w i job Disallowed = rows.WasDisallowed h w i job
-Evid h w i job TrayWasEmpty = rows.HadNoPage h w i job 0
+Evid h w i job TrayWasEmpty = HadNoPage h w i job 0
 Evid h w i job TrayRanOut = Unit {0}
 Evid h w i job ClientOutOfMemory = rows.WasStarved h w i
 
@@ -99,9 +100,9 @@ of_deed h i x y e o = subst (own_of h i) e o
 happened_by : (h : History) (w : WorldCore) (job : Job) (s : SystemState) (i : ℕ) (x y : Action) → x ≡ y → StepSo h w job s (By i x) → HappenedSo h w job s (By i y)
 happened_by h w job s i x y e so = subst (λ (z : Action). HappenedSo h w job s (By i z)) e so.1
 
-link_lost : (h : History) (w : WorldCore) (job : Job) (s : SystemState) (i : ℕ) (x : Action) → (x ≡ Actions.Loses false) ⊎ (x ≡ Actions.LosesImage false) → StepSo h w job s (By i x) → rows.WasLost h w i
-link_lost h w job s i x (inl a) so = inl (happened_by h w job s i x (Actions.Loses false) a so)
-link_lost h w job s i x (inr a) so = inr (happened_by h w job s i x (Actions.LosesImage false) a so)
+link_lost : (h : History) (w : WorldCore) (job : Job) (s : SystemState) (i : ℕ) (x : Action) → IsUnderWay (s.job i).client.stage → (x ≡ Actions.Loses false) ⊎ (x ≡ Actions.LosesImage false) → StepSo h w job s (By i x) → rows.WasLost h w i
+link_lost h w job s i x on (inl a) so = inl (happened_by h w job s i x (Actions.Loses false) a so on)
+link_lost h w job s i x on (inr a) so = inr (happened_by h w job s i x (Actions.LosesImage false) a so on)
 
 -- ---- by the world in front of the event
 
@@ -120,7 +121,7 @@ abbrev pub asked_there : (h : History) (w : WorldCore) (i : ℕ) (job : Job) (s 
 asked_there h w i job s Waits q rest on a todo is = record {
   n = a.1.n;
   at = a.1.at;
-  could = a.1.could;
+  came = a.1.came;
   whole = a.1.whole;
   waits = subst (WaitsAt a.1.at.before i) is (waits_there a.1.ghost a.1.at.before i q rest a.1.stands (subst (λ (u : SystemState). IsUnderWay (u.job i).client.stage) (sym a.1.state) on) (ap (λ (u : SystemState). (u.job i).todo) a.1.state ∙ todo));
 }
@@ -162,7 +163,7 @@ not_listed h w i job s e on a opens none =
     (asked_open h w i job s on a opens, unlisted_none a.1.ghost a.1.at.before job.device a.1.stands there)
 
 -- whether its user and password are allowed for the challenge that its session had sent
-pub judged_by : (h : History) (w : WorldCore) (i : ℕ) (job : Job) (s : SystemState) (allowed : Bool) → Here h i job s → IsUnderWay (s.job i).client.stage → (s.job i).served ≡ true → (a : Front h w job s i) → (c : Challenge) → (s.job i).session.awaited ≡ Some c → (s.job i).session.job.allows c ≡ allowed → rows.HasPassed h a.1.at.before i job allowed
+pub judged_by : (h : History) (w : WorldCore) (i : ℕ) (job : Job) (s : SystemState) (allowed : Bool) → Here h i job s → IsUnderWay (s.job i).client.stage → (s.job i).served ≡ true → (a : Front h w job s i) → (c : Challenge) → (s.job i).session.awaited ≡ Some c → (s.job i).session.job.allows c ≡ allowed → HasPassed h a.1.at.before i job allowed
 judged_by h w i job s allowed e on served a c awaited allows =
     let linked = linked_by i (make_for s i) (s.job i) (device_for s i) (s.job i).client.stage (e.sound.talks i) on served in
     let r = awaits_there a.1.ghost a.1.at.before i c a.1.stands (slice_get a.1.at.before.endpoints i) refl (ap (λ (u : SystemState). (u.job i).served) a.1.state ∙ served) (ap (λ (u : SystemState). (u.job i).linked) a.1.state ∙ linked) (ap (λ (u : SystemState). (u.job i).session.awaited) a.1.state ∙ awaited) in
@@ -194,16 +195,27 @@ finished_there h w i job s e on a rest todo rests =
     subst (HasFinished a.1.at.before i) (as_many (make_for s i) p.session.job.settings p.session.started p.client.pages ready.0.pictures)
     (subst (λ (u : SystemState). HasFinished a.1.at.before i (length (u.job i).session.started)) a.1.state count)
 
+scans_so : (task : Task) → Scans (task_of task) → scans task ≡ true
+scans_so tasks.List is = absurd is
+scans_so tasks.Show is = absurd is
+scans_so tasks.SetOnly is = absurd is
+scans_so tasks.Scan is = refl
+scans_so (tasks.Batch count) is = refl
+
+-- a job that asks for a start scans
+starts_scan : (h : History) (i : ℕ) (job : Job) (s : SystemState) → Here h i job s → IsUnderWay (s.job i).client.stage → (rest : List AbstractRequest) → (s.job i).todo ≡ Start ∷ rest → scans job.task ≡ true
+starts_scan h i job s e on rest todo = scans_so job.task (subst (λ (j : RuledJob). Scans j.task) e.is (starting_scans i (make_for s i) (s.job i) (device_for s i) (s.job i).client.stage rest on (e.sound.talks i) todo))
+
 none_begun : (xs : List Begin) → is_some_begun xs ≡ false → length xs ≡ 0
 none_begun [] e = refl
 none_begun (x ∷ xs) e = absurd (let clash : true ≡ false = e in cc)
 
-pub no_page : (h : History) (w : WorldCore) (i : ℕ) (job : Job) (s : SystemState) → Here h i job s → IsUnderWay (s.job i).client.stage → Front h w job s i → (rest : List AbstractRequest) → (s.job i).todo ≡ Start ∷ rest → (device_for s i).phase ≡ Resting → HasNone i (device_for s i) → rows.HadNoPage h w i job (length (s.job i).client.pages)
+pub no_page : (h : History) (w : WorldCore) (i : ℕ) (job : Job) (s : SystemState) → Here h i job s → IsUnderWay (s.job i).client.stage → Front h w job s i → (rest : List AbstractRequest) → (s.job i).todo ≡ Start ∷ rest → (device_for s i).phase ≡ Resting → HasNone i (device_for s i) → HadNoPage h w i job (length (s.job i).client.pages)
 no_page h w i job s e on a rest todo rests held =
     let r = has_there h w i job s i e.own_job e.fine a held.0 in
-    (asked_start h w i job s on a rest todo, finished_there h w i job s e on a rest todo rests, (r.0, r.1, held.1 r.0 r.2 r.3))
+    (starts_scan h i job s e on rest todo, asked_start h w i job s on a rest todo, finished_there h w i job s e on a rest todo rests, (r.0, r.1, held.1 r.0 r.2 r.3))
 
-no_meaning_there : (h : History) (w : WorldCore) (i : ℕ) (job : Job) (s : SystemState) → Here h i job s → IsUnderWay (s.job i).client.stage → (a : Front h w job s i) → (rest : List AbstractRequest) → (s.job i).todo ≡ Start ∷ rest → IsSet i (make_for s i) (s.job i).session (device_for s i) → (page : Page) (later : List Page) → (device_for s i).tray ≡ page ∷ later → picture_frames (make_for s i) (device_for s i).options page ≡ [] → (device_for s i).phase ≡ Resting → rows.HadNoPicture h w i job
+no_meaning_there : (h : History) (w : WorldCore) (i : ℕ) (job : Job) (s : SystemState) → Here h i job s → IsUnderWay (s.job i).client.stage → (a : Front h w job s i) → (rest : List AbstractRequest) → (s.job i).todo ≡ Start ∷ rest → IsSet i (make_for s i) (s.job i).session (device_for s i) → (page : Page) (later : List Page) → (device_for s i).tray ≡ page ∷ later → picture_frames (make_for s i) (device_for s i).options page ≡ [] → (device_for s i).phase ≡ Resting → rows.HadNoPictureEver h w i job
 no_meaning_there h w i job s e on a rest todo set page later tray none rests =
     let settled = settled_by h i job s e.own_job e.fine e.is set.0 set.1 in
     let r = has_there h w i job s i e.own_job e.fine a set.0 in
@@ -211,6 +223,7 @@ no_meaning_there h w i job s e on a rest todo set page later tray none rests =
     let first = page_there (Some i) (device_for s i) r.0 page later rests tray r.2 r.3 in
     let came = (subst (AllByRecursion (IsOfDevice h (wanted_place s i))) tray (e.fine.slots (wanted_place s i)).pages).0 settled.0.device settled.2 in
     record {
+      scanning = starts_scan h i job s e on rest todo;
       asked = asked_start h w i job s on a rest todo;
       device = r.0;
       has = r.1;
@@ -222,37 +235,36 @@ no_meaning_there h w i job s e on a rest todo set page later tray none rests =
       none = ap (λ (p : Page). meaning_of p settled.0.setup.scene) came.2 ∙ (ap (λ (y : Setup). meaning_of page y.scene) settled.1 ∙ no_meaning (make_for s i) (device_for s i).options page none);
     }
 
-source_failed : (h : History) (w : WorldCore) (i : ℕ) (job : Job) (s : SystemState) (x : Action) → (IsFailedAnswer x × Begins (s.job i)) ⊎ ((fault : FailureCounts) × (x ≡ Actions.TurnsFault fault)) → IsUnderWay (s.job i).client.stage → StepSo h w job s (By i x) → slice_get h.jobs i ≡ Some job → rows.HadFailed h w i job
-source_failed h w i job s x (inl (a, begins)) on so at =
-    let m : AnswersAt h w job s i (Some a.1) = (subst (λ (y : Action). AnsweredSo h w job s (By i y)) a.2 so.0) on in
-    inl (asked_start h w i job s on (Some a.1, m) begins.0 begins.1, subst (λ (j : Job). FailedIn m.at.before m.at.behind.daemon i j.device) (get_or_from_slice_get h.jobs i job job at) m.failed)
-source_failed h w i job s x (inr a) on so at =
-    let f = happened_by h w job s i x (Actions.TurnsFault a.0) a.1 so in
-    inr (f.0, subst (λ (j : Job). FailedIn f.0.0.before f.0.0.behind.daemon i j.device) (get_or_from_slice_get h.jobs i job job at) f.1, f.2)
+source_failed : (h : History) (w : WorldCore) (i : ℕ) (job : Job) (s : SystemState) (x : Action) → Here h i job s → (IsFailedAnswer x × Begins (s.job i)) ⊎ ((fault : FailureCounts) × (x ≡ Actions.TurnsFault fault)) → IsUnderWay (s.job i).client.stage → StepSo h w job s (By i x) → IsEnabled s (By i x) → slice_get h.jobs i ≡ Some job → rows.MayHaveFailed h w i job
+source_failed h w i job s x e (inl (a, begins)) on so may at =
+    let m : AnswersAt h w job s i (Some a.1) = (subst (λ (y : Action). AnsweredSo h w job s (By i y)) a.2 so.0) on in (
+      starts_scan h i job s e on begins.0 begins.1,
+      inl (asked_start h w i job s on (Some a.1, m) begins.0 begins.1, subst (λ (j : Job). FailedIn m.at.before m.at.behind.daemon i j.device) (get_or_from_slice_get h.jobs i job job at) m.failed),
+    )
+source_failed h w i job s x e (inr a) on so may at =
+    let f = happened_by h w job s i x (Actions.TurnsFault a.0) a.1 so on in
+    let turns = subst (λ (y : Action). IsEnabled s (By i y)) a.1 may in
+    let streamed = streaming i (make_for s i) (s.job i) (device_for s i) (s.job i).client.stage on (e.sound.talks i) turns.3.0 in (
+      scans_so job.task (subst (λ (j : RuledJob). Scans j.task) e.is streamed.1),
+      inr (f.0, subst (λ (j : Job). FailedIn f.0.0.before f.0.0.behind.daemon i j.device) (get_or_from_slice_get h.jobs i job job at) f.1, f.2),
+    )
 
 served_by_step : (i : ℕ) (k : Make) (p : JobState) (dev : AbstractDevice) (x : Action) → IsAnswer x → IsActionEnabled i k p dev x → p.served ≡ true
 served_by_step i k p dev x a may = (subst (IsActionEnabled i k p dev) a.2 may).0
 
-scans_so : (task : Task) → Scans (task_of task) → scans task ≡ true
-scans_so tasks.List is = absurd is
-scans_so tasks.Show is = absurd is
-scans_so tasks.SetOnly is = absurd is
-scans_so tasks.Scan is = refl
-scans_so (tasks.Batch count) is = refl
-
-named_by : (h : History) (w : WorldCore) (i : ℕ) (job : Job) (s : SystemState) (status : Status) → Here h i job s → IsUnderWay (s.job i).client.stage → (s.job i).session.transfer ≡ Streaming → (device_for s i).holder ≡ Some i → read_status_of (make_for s i) (device_for s i).options ≡ Some status → Happened h w i DataTurn → IsNamed h w i job status
+named_by : (h : History) (w : WorldCore) (i : ℕ) (job : Job) (s : SystemState) (status : Status) → Here h i job s → IsUnderWay (s.job i).client.stage → (s.job i).session.transfer ≡ Streaming → (device_for s i).holder ≡ Some i → read_status_of (make_for s i) (device_for s i).options ≡ Some status → Happened h w i (DataTurn i) → IsNamed h w i job status
 named_by h w i job s status e on streams held reads turn =
     let streamed = streaming i (make_for s i) (s.job i) (device_for s i) (s.job i).client.stage on (e.sound.talks i) streams in
     (turn, scans_so job.task (subst (λ (j : RuledJob). Scans j.task) e.is streamed.1), told_by h i job s status e.own_job e.fine e.is held streamed.0 reads)
 
 evid : (h : History) (w : WorldCore) (i : ℕ) (job : Job) (s : SystemState) (x : Action) → Here h i job s → IsUnderWay (s.job i).client.stage → own_of h i x → StepSo h w job s (By i x) → IsEnabled s (By i x) → (c : Cause) → Comes i (make_for s i) (s.job i) (device_for s i) x c → Evid h w i job c
 evid h w i job s x e on of so may GaveUp c = let o = of_deed h i x Actions.Stops c of in stops_event (Contains h.events) (infos_of h) i o.event (contains_in h.events o.event o.among) o.is
-evid h w i job s x e on of so may LinkLost c = link_lost h w job s i x c so
+evid h w i job s x e on of so may LinkLost c = link_lost h w job s i x on c so
 evid h w i job s x e on of so may LinkOutOfMemory c = tt
 evid h w i job s x e on of so may WasUnsaid c = subst (HadUnsaidReply h w i) (get_or_from_slice_get h.jobs i job job e.own_job.at) (happened_by h w job s i x (Actions.Breaks false) c so on)
-evid h w i job s x e on of so may SourceFailed c = source_failed h w i job s x c on so e.own_job.at
-evid h w i job s x e on of so may NamesEof c = named_by h w i job s Eof e on c.1 c.2 c.3 (happened_by h w job s i x Actions.TurnsShort c.0 so)
-evid h w i job s x e on of so may (Names status) c = named_by h w i job s status e on c.1 c.2 c.3 (happened_by h w job s i x (Actions.TurnsNamed status) c.0 so)
+evid h w i job s x e on of so may SourceFailed c = source_failed h w i job s x e c on so may e.own_job.at
+evid h w i job s x e on of so may NamesEof c = named_by h w i job s Eof e on c.1 c.2 c.3 (happened_by h w job s i x Actions.TurnsShort c.0 so on)
+evid h w i job s x e on of so may (Names status) c = named_by h w i job s status e on c.1 c.2 c.3 (happened_by h w job s i x (Actions.TurnsNamed status) c.0 so on)
 evid h w i job s x e on of so may Unforced c = absurd c
 evid h w i job s x e on of so may WasUnlisted c = not_listed h w i job s e on (front_by h w i job s x c.0 on so) c.1 c.2
 evid h w i job s x e on of so may HadNoPicture c =
@@ -264,9 +276,9 @@ evid h w i job s x e on of so may TrayWasEmpty c =
     let rests = first_rests i (make_for s i) p (device_for s i) p.client.stage (e.sound.talks i) on c.1 in
     let ready = starts_ready i (make_for s i) p (device_for s i) p.client.stage c.1.0 on (e.sound.talks i) c.1.1 rests in
     let none : length p.client.pages ≡ 0 = sym (as_many (make_for s i) p.session.job.settings p.session.started p.client.pages ready.0.pictures) ∙ none_begun p.session.started c.1.3 in
-    subst (rows.HadNoPage h w i job) none (no_page h w i job s e on (front_by h w i job s x c.0 on so) c.1.0 c.1.1 rests (empty_there i (make_for s i) p (device_for s i) p.client.stage (e.sound.talks i) on c.1))
+    subst (HadNoPage h w i job) none (no_page h w i job s e on (front_by h w i job s x c.0 on so) c.1.0 c.1.1 rests (empty_there i (make_for s i) p (device_for s i) p.client.stage (e.sound.talks i) on c.1))
 evid h w i job s x e on of so may TrayRanOut c = tt
-evid h w i job s x e on of so may ClientOutOfMemory c = happened_by h w job s i x Actions.RunsOutOfMemory c so
+evid h w i job s x e on of so may ClientOutOfMemory c = happened_by h w job s i x Actions.RunsOutOfMemory c so on
 
 -- ---- what the job met
 

@@ -18,7 +18,7 @@ use Rattle.system_model.specs.Client.{AbstractProgress, JobStage, Idle, Running,
 use Rattle.system_model.specs.Daemon.{FailureCounts}
 use Rattle.system_model.specs.Devices.{Make}
 use Rattle.system_model.specs.Invariants.{Invariant, StageInvariant}
-use Rattle.system_model.specs.ModelPromises.{HistoriesKeepInvariant}
+use Rattle.system_model.specs.ModelPromises.{HistoriesKeepInvariant, OutcomesLast}
 use Rattle.system_model.specs.SystemStates.{JobState, SystemState, listed_devices, make_for, device_for}
 use Rattle.system_model.specs.Transitions.{By, IsEnabled, IsHistory, IsUnderWay, Loads, Transition, Unplugs, after_transition, after_all}
 use Rattle.scan_world.specs.declared.endpoint.Endpoint.{Endpoint}
@@ -26,11 +26,12 @@ use Rattle.scan_world.specs.declared.event.Event.{Event}
 use Rattle.scan_world.specs.declared.event.Event.TheVariants.{Connect, ToDaemon, ToClient, DataConnect, DataTurn, DataToClient, LoseControl, LoseImage, Cancel, Load, Unplug}
 use Rattle.scan_world.specs.declared.event.JobEvent.{JobEvent}
 use Rattle.scan_world.specs.declared.event.JobEvent.TheVariants as moves
+use Rattle.scan_world.specs.JobEvents.{job_event_of}
 use Rattle.scan_world.specs.Worlds.{Runs, WorldCore}
 use Rattle.world_refines.specs.GhostEvents.{GhostCan, GhostHappens}
 use Rattle.world_refines.specs.GhostStates.{Ghost}
 use Rattle.world_refines.specs.FailedSources.{AllAlong, CutIn, FailedIn, FailsInSome, FailsSo, HasFailed, InEvent}
-use Rattle.world_refines.specs.MainTheorem.{AreFittingLoads, AreTrueLoads, EventsFollow, GhostComes, GhostComesAll}
+use Rattle.world_refines.specs.MainTheorem.{AllIsKept, AreFittingLoads, AreTrueLoads, EventsFollow, GhostComes, GhostComesAll}
 use Rattle.world_refines.specs.WorldRefinement.{WorldRefines}
 use Rattle.world_refines.proofs.frames.Seeing.{data_decides}
 use Rattle.world_refines.proofs.frames.TurnEvents.{turn_decides}
@@ -43,14 +44,15 @@ use Rattle.world_refines.proofs.requests.OneAnswer.{all_requests}
 use Rattle.world_refines.proofs.state.Failing.{along_each, along_then, fails_more}
 use Rattle.world_refines.proofs.state.Taking.{DecidesAt, nobody_can}
 use Rattle.world_contract.specs.Calls.{HadUnsaidReply}
-use Rattle.world_contract.specs.Endings.{SendsFailure, WasStarved}
 use Rattle.world_contract.specs.Histories.{History, LedTo, Moment, history_up_to}
-use Rattle.world_contract.specs.Sessions.{CanAt, Happened, HasSent, SessionAt}
+use Rattle.world_contract.specs.Sessions.{CameAsItRan, CanAt, Happened, SessionAt}
 use Rattle.world_contract.proofs.Led.{led_then}
+use Rattle.world_contract.proofs.Rows.{SendsOrLoses, WasStarved}
 use Rattle.world_contract.proofs.Events.{answers_event, breaks_event, chokes_event, fault_event, image_event, loses_event, named_event, short_event}
 use Rattle.world_contract.proofs.Scanned.{infos_of}
 use Rattle.world_contract.proofs.Traced.{AreOf, StepOf, comes_of}
 use Rattle.world_contract.proofs.moments.Entries.{own_party, past_end}
+use Rattle.world_contract.proofs.moments.Ran.{WereOn, came_there, runs_there, were_on}
 use Rattle.world_contract.proofs.moments.Sends.{AllSend, FaultSends, event_sends}
 use Rattle.world_contract.proofs.moments.Whole.{all_sent}
 
@@ -76,8 +78,8 @@ pub record AnswersAt (h : History) (w : WorldCore) (other : Job) (s : SystemStat
   pub stands : WorldRefines ghost at.before
   pub state : ghost.system ≡ s
   pub failed : FailedThere fault at.before at.behind.daemon i (job_at h other i).device
-  pub could : CanAt at.before i (moves.ToDaemon n)
-  pub whole : (session : Session DeviceState) → SessionAt at.behind i session → HasSent at.behind i
+  pub came : CameAsItRan i at.before at.behind
+  pub whole : (session : Session DeviceState) (now : SessionAt at.behind i session) → now.endpoint.client.out ≡ []
 
 abbrev pub AnsweredSo : History → WorldCore → Job → SystemState → Transition → Type 0
 AnsweredSo h w other s (By i (Actions.Answers challenge fault)) = IsUnderWay (s.job i).client.stage → AnswersAt h w other s i fault
@@ -204,6 +206,32 @@ CanEvent w (LoseControl i) = CanAt w i moves.LoseControl
 CanEvent w (LoseImage i) = CanAt w i moves.LoseImage
 CanEvent w e = Unit {0}
 
+-- and then it came to that job, where that is under way, and changed the world
+abbrev pub CameEvent : SystemState → WorldCore → WorldCore → Event → Type 0
+CameEvent s w v (ToDaemon i n) = IsUnderWay (s.job i).client.stage → CameAsItRan i w v
+CameEvent s w v (ToClient i n) = IsUnderWay (s.job i).client.stage → CameAsItRan i w v
+CameEvent s w v (DataToClient i n) = IsUnderWay (s.job i).client.stage → CameAsItRan i w v
+CameEvent s w v (DataTurn i) = IsUnderWay (s.job i).client.stage → CameAsItRan i w v
+CameEvent s w v (LoseControl i) = IsUnderWay (s.job i).client.stage → CameAsItRan i w v
+CameEvent s w v (LoseImage i) = IsUnderWay (s.job i).client.stage → CameAsItRan i w v
+CameEvent s w v e = Unit {0}
+
+came_by : AllIsKept → (h : History) (other : Job) (t : Ghost) (u v : WorldCore) (i : ℕ) (x : JobEvent) → LedTo h u → Runs source_state (job_event_of i x ∷ []) u v → WorldRefines t u → CanAt u i x → IsUnderWay (t.system.job i).client.stage → CameAsItRan i u v
+came_by all h other t u v i x l run stands can on = came_there all h other u v i x l run can (runs_there t u i can.0 stands can.1 on)
+
+came_event : AllIsKept → (h : History) (other : Job) (t : Ghost) (u v : WorldCore) (e : Event) → LedTo h u → Runs source_state (e ∷ []) u v → WorldRefines t u → CanEvent u e → CameEvent t.system u v e
+came_event all h other t u v (ToDaemon i n) l run stands can = came_by all h other t u v i (moves.ToDaemon n) l run stands can
+came_event all h other t u v (ToClient i n) l run stands can = came_by all h other t u v i (moves.ToClient n) l run stands can
+came_event all h other t u v (DataToClient i n) l run stands can = came_by all h other t u v i (moves.DataToClient n) l run stands can
+came_event all h other t u v (DataTurn i) l run stands can = came_by all h other t u v i moves.DataTurn l run stands can
+came_event all h other t u v (LoseControl i) l run stands can = came_by all h other t u v i moves.LoseControl l run stands can
+came_event all h other t u v (LoseImage i) l run stands can = came_by all h other t u v i moves.LoseImage l run stands can
+came_event all h other t u v (Connect i) l run stands can = tt
+came_event all h other t u v (DataConnect i) l run stands can = tt
+came_event all h other t u v (Cancel i) l run stands can = tt
+came_event all h other t u v (Load name source) l run stands can = tt
+came_event all h other t u v (Unplug name) l run stands can = tt
+
 -- ---- the answers of one event
 
 there_if : (fault : Option FailureCounts) (before : WorldCore) (behind : Core) (i : ℕ) (name : List ℕ) → ((f : FailureCounts) → fault ≡ Some f → FailedIn before behind i name) → FailedThere fault before behind i name
@@ -219,7 +247,7 @@ record Between (h : History) (w : WorldCore) (other : Job) (e : Event) (m : Mome
   pub stands : WorldRefines t m.before
   pub fixed : IsFixed h other t
   pub behind : WorldRefines g m.behind
-  pub can : CanEvent m.before e
+  pub came : CameEvent t.system m.before m.behind e
 
 -- of the first step, in the state that the world in front of the event stood for
 at_first_step : (h : History) (w : WorldCore) (other : Job) (e : Event) (m : Moment h w e) (t g : Ghost) → Between h w other e m t g → (x : Transition) (xs : List Transition) → StepOf t.infos e x → AreOf t.infos e xs → g.system ≡ after_all (after_transition t.system x) xs → FailsSo (FailedHere h w other e m) t.system x → AnsweredSo h w other t.system x
@@ -235,7 +263,7 @@ at_first_step h w other e m t g b (By i (Actions.Answers challenge fault)) xs of
       stands = r.1.1.stands;
       state = refl;
       failed = r.1.2;
-      could = r.1.1.can;
+      came = r.1.1.came on;
       whole = all_sent g r.1.0.behind i r.1.1.behind (ap (λ (s : SystemState). (s.job i).todo) rules ∙ none);
     }
 at_first_step h w other e m t g b x xs of more rules fails = tt
@@ -249,44 +277,56 @@ later_steps keeps h w other infos e [] s sound spent of may = tt
 later_steps keeps h w other infos e (x ∷ xs) s sound spent of may =
     (not_again h w other infos e s x spent of.0 may.0, later_steps keeps h w other infos e xs (after_transition s x) (keeps s (x ∷ []) sound (may.0, tt)) (spent_then infos e s x sound of.0) of.1 may.1)
 
-event_answers : HistoriesKeepInvariant → (h : History) (w : WorldCore) (other : Job) (e : Event) (m : Moment h w e) (t g : Ghost) → WorldRefines t m.before → IsFixed h other t → WorldRefines g m.behind → (xs : List Transition) → CanEvent m.before e ⊎ (xs ≡ []) → g.system ≡ after_all t.system xs → AreOf t.infos e xs → AllAlong (FailsSo (FailedHere h w other e m)) t.system xs → IsHistory t.system xs → AllAlong (AnsweredSo h w other) t.system xs
-event_answers keeps h w other e m t g stands fixed behind [] can rules of fails may = tt
+event_answers : HistoriesKeepInvariant → (h : History) (w : WorldCore) (other : Job) (e : Event) (m : Moment h w e) (t g : Ghost) → WorldRefines t m.before → IsFixed h other t → WorldRefines g m.behind → (xs : List Transition) → CameEvent t.system m.before m.behind e ⊎ (xs ≡ []) → g.system ≡ after_all t.system xs → AreOf t.infos e xs → AllAlong (FailsSo (FailedHere h w other e m)) t.system xs → IsHistory t.system xs → AllAlong (AnsweredSo h w other) t.system xs
+event_answers keeps h w other e m t g stands fixed behind [] came rules of fails may = tt
 event_answers keeps h w other e m t g stands fixed behind (x ∷ xs) (inr none) rules of fails may = absurd (let clash : ◌≡◌ {A = List Transition} (x ∷ xs) [] = none in cc)
-event_answers keeps h w other e m t g stands fixed behind (x ∷ xs) (inl can) rules of fails may =
-    let b : Between h w other e m t g = record { stands = stands; fixed = fixed; behind = behind; can = can } in
+event_answers keeps h w other e m t g stands fixed behind (x ∷ xs) (inl came) rules of fails may =
+    let b : Between h w other e m t g = record { stands = stands; fixed = fixed; behind = behind; came = came } in
     (at_first_step h w other e m t g b x xs of.0 of.1 rules fails.0, later_steps keeps h w other t.infos e xs (after_transition t.system x) (keeps t.system (x ∷ []) stands.sound (may.0, tt)) (spent_then t.infos e t.system x stands.sound of.0) of.1 may.1)
 
--- ---- what else comes, comes by an event that could happen
+-- ---- what else comes to a job that is under way, comes by an event that came to it as it ran
 
-abbrev HappenedAt : History → WorldCore → Event → Type 0
-HappenedAt h w e = (at : Moment h w e) × CanEvent at.before e
+-- in front of the event the job was under way as it is in the state of a step
+abbrev HappenedAt : History → WorldCore → SystemState → Event → Type 0
+HappenedAt h w s e = (at : Moment h w e) × CameEvent s at.before at.behind e
 
 abbrev pub HappenedSo : History → WorldCore → Job → SystemState → Transition → Type 0
-HappenedSo h w other s (By i (Actions.Loses false)) = Happened h w i moves.LoseControl
-HappenedSo h w other s (By i (Actions.LosesImage false)) = Happened h w i moves.LoseImage
-HappenedSo h w other s (By i (Actions.TurnsNamed status)) = Happened h w i moves.DataTurn
-HappenedSo h w other s (By i Actions.TurnsShort) = Happened h w i moves.DataTurn
-HappenedSo h w other s (By i (Actions.TurnsFault fault)) = (turn : Happened h w i moves.DataTurn) × FailedIn turn.0.before turn.0.behind.daemon i (job_at h other i).device × SendsFailure turn.0.before turn.0.behind i
+HappenedSo h w other s (By i (Actions.Loses false)) = IsUnderWay (s.job i).client.stage → Happened h w i (LoseControl i)
+HappenedSo h w other s (By i (Actions.LosesImage false)) = IsUnderWay (s.job i).client.stage → Happened h w i (LoseImage i)
+HappenedSo h w other s (By i (Actions.TurnsNamed status)) = IsUnderWay (s.job i).client.stage → Happened h w i (DataTurn i)
+HappenedSo h w other s (By i Actions.TurnsShort) = IsUnderWay (s.job i).client.stage → Happened h w i (DataTurn i)
+HappenedSo h w other s (By i (Actions.TurnsFault fault)) =
+    IsUnderWay (s.job i).client.stage → (turn : Happened h w i (DataTurn i)) × FailedIn turn.0.before turn.0.behind.daemon i (job_at h other i).device × SendsOrLoses turn.0.before turn.0.behind i
 HappenedSo h w other s (By i (Actions.Breaks false)) = IsUnderWay (s.job i).client.stage → HadUnsaidReply h w i (job_at h other i)
-HappenedSo h w other s (By i Actions.RunsOutOfMemory) = WasStarved h w i
+HappenedSo h w other s (By i Actions.RunsOutOfMemory) = IsUnderWay (s.job i).client.stage → WasStarved h w i
 HappenedSo h w other s x = Unit {0}
 
-happened_step : (h : History) (w : WorldCore) (other : Job) (infos : List DeviceInfo) (e : Event) (here : HappenedAt h w e) (s : SystemState) (x : Transition) → StepOf infos e x → FailsSo (FailedHere h w other e here.0) s x → FaultSends here.0.before here.0.behind x → HappenedSo h w other s x
-happened_step h w other infos e here s (By i (Actions.Loses false)) of fails sends = loses_event (HappenedAt h w) infos i e here of
-happened_step h w other infos e here s (By i (Actions.LosesImage false)) of fails sends = image_event (HappenedAt h w) infos i e here of
-happened_step h w other infos e here s (By i (Actions.TurnsNamed status)) of fails sends = named_event (HappenedAt h w) infos i status e here of
-happened_step h w other infos e here s (By i Actions.TurnsShort) of fails sends = short_event (HappenedAt h w) infos i e here of
-happened_step h w other infos e here s (By i (Actions.TurnsFault fault)) of fails sends =
-    fault_event (λ (event : Event). (turn : HappenedAt h w event) × FailedIn turn.0.before turn.0.behind.daemon i (job_at h other i).device × SendsFailure turn.0.before turn.0.behind i) infos i fault e (here, fails, sends) of
-happened_step h w other infos e here s (By i (Actions.Breaks false)) of fails sends = λ on.
+starved_by : (h : History) (w : WorldCore) (t : SystemState) (i : ℕ) → IsUnderWay (t.job i).client.stage → ((n : ℕ) × (HappenedAt h w t (ToClient i n) ⊎ HappenedAt h w t (DataToClient i n))) → WasStarved h w i
+starved_by h w t i on (n, inl r) = (n, inl (r.0, r.1 on))
+starved_by h w t i on (n, inr r) = (n, inr (r.0, r.1 on))
+
+happened_step : (h : History) (w : WorldCore) (other : Job) (infos : List DeviceInfo) (e : Event) (t : SystemState) (here : HappenedAt h w t e) (s : SystemState) (x : Transition) → WereOn t s → StepOf infos e x → FailsSo (FailedHere h w other e here.0) s x → FaultSends here.0.before here.0.behind x → HappenedSo h w other s x
+happened_step h w other infos e t here s (By i (Actions.Loses false)) was of fails sends = λ on.
+    let r = loses_event (HappenedAt h w t) infos i e here of in (r.0, r.1 (was i on))
+happened_step h w other infos e t here s (By i (Actions.LosesImage false)) was of fails sends = λ on.
+    let r = image_event (HappenedAt h w t) infos i e here of in (r.0, r.1 (was i on))
+happened_step h w other infos e t here s (By i (Actions.TurnsNamed status)) was of fails sends = λ on.
+    let r = named_event (HappenedAt h w t) infos i status e here of in (r.0, r.1 (was i on))
+happened_step h w other infos e t here s (By i Actions.TurnsShort) was of fails sends = λ on.
+    let r = short_event (HappenedAt h w t) infos i e here of in (r.0, r.1 (was i on))
+happened_step h w other infos e t here s (By i (Actions.TurnsFault fault)) was of fails sends = λ on.
+    let r = fault_event (λ (event : Event). (turn : HappenedAt h w t event) × FailedIn turn.0.before turn.0.behind.daemon i (job_at h other i).device × SendsOrLoses turn.0.before turn.0.behind i) infos i fault e (here, fails, sends) of in
+    ((r.0.0, r.0.1 (was i on)), r.1, r.2)
+happened_step h w other infos e t here s (By i (Actions.Breaks false)) was of fails sends = λ on.
     let r = breaks_event (λ (event : Event). (at : Moment h w event) × CutIn at.before i (job_at h other i)) infos i false e (here.0, fails on) of in
     (r.0, r.1.0, r.1.1)
-happened_step h w other infos e here s (By i Actions.RunsOutOfMemory) of fails sends = chokes_event (HappenedAt h w) infos i e here of
-happened_step h w other infos e here s x of fails sends = tt
+happened_step h w other infos e t here s (By i Actions.RunsOutOfMemory) was of fails sends = λ on. starved_by h w t i (was i on) (chokes_event (HappenedAt h w t) infos i e here of)
+happened_step h w other infos e t here s x was of fails sends = tt
 
-happened_steps : (h : History) (w : WorldCore) (other : Job) (infos : List DeviceInfo) (e : Event) (here : HappenedAt h w e) (xs : List Transition) (s : SystemState) → AreOf infos e xs → AllAlong (FailsSo (FailedHere h w other e here.0)) s xs → AllSend here.0.before here.0.behind xs → AllAlong (HappenedSo h w other) s xs
-happened_steps h w other infos e here [] s of fails sends = tt
-happened_steps h w other infos e here (x ∷ xs) s of fails sends = (happened_step h w other infos e here s x of.0 fails.0 sends.0, happened_steps h w other infos e here xs (after_transition s x) of.1 fails.1 sends.1)
+happened_steps : OutcomesLast → (h : History) (w : WorldCore) (other : Job) (infos : List DeviceInfo) (e : Event) (t : SystemState) (here : HappenedAt h w t e) (xs : List Transition) (s : SystemState) → WereOn t s → IsHistory s xs → AreOf infos e xs → AllAlong (FailsSo (FailedHere h w other e here.0)) s xs → AllSend here.0.before here.0.behind xs → AllAlong (HappenedSo h w other) s xs
+happened_steps last h w other infos e t here [] s was may of fails sends = tt
+happened_steps last h w other infos e t here (x ∷ xs) s was may of fails sends =
+    (happened_step h w other infos e t here s x was of.0 fails.0 sends.0, happened_steps last h w other infos e t here xs (after_transition s x) (were_on last t s x may.0 was) may.1 of.1 fails.1 sends.1)
 
 -- what can happen by the model can happen
 can_there : (y : JobEvent) (Does : Ghost → ℕ → List Transition → Ghost → Type 0) → DecidesAt y Does → (t : Ghost) (w : WorldCore) (i : ℕ) (o : Option Endpoint) → slice_get w.endpoints i ≡ o → WorldRefines t w → GhostCan t i y → CanAt w i y
@@ -314,9 +354,9 @@ event_can (Cancel i) t w steps u h c = inl tt
 event_can (Load name source) t w steps u h c = inl tt
 event_can (Unplug name) t w steps u h c = inl tt
 
-event_happened : (h : History) (w : WorldCore) (other : Job) (e : Event) (m : Moment h w e) (t : Ghost) (steps : List Transition) → AreOf t.infos e steps → AllAlong (FailsSo (FailedHere h w other e m)) t.system steps → AllSend m.before m.behind steps → CanEvent m.before e ⊎ (steps ≡ []) → AllAlong (HappenedSo h w other) t.system steps
-event_happened h w other e m t steps of fails sends (inl can) = happened_steps h w other t.infos e (m, can) steps t.system of fails sends
-event_happened h w other e m t steps of fails sends (inr none) = subst (AllAlong (HappenedSo h w other) t.system) (sym none) tt
+event_happened : OutcomesLast → (h : History) (w : WorldCore) (other : Job) (e : Event) (m : Moment h w e) (t : Ghost) (steps : List Transition) → IsHistory t.system steps → AreOf t.infos e steps → AllAlong (FailsSo (FailedHere h w other e m)) t.system steps → AllSend m.before m.behind steps → CameEvent t.system m.before m.behind e ⊎ (steps ≡ []) → AllAlong (HappenedSo h w other) t.system steps
+event_happened last h w other e m t steps may of fails sends (inl came) = happened_steps last h w other t.infos e t.system (m, came) steps t.system (λ i on. on) may of fails sends
+event_happened last h w other e m t steps may of fails sends (inr none) = subst (AllAlong (HappenedSo h w other) t.system) (sym none) tt
 
 -- ---- all events
 
@@ -333,6 +373,10 @@ one_comes e t steps u (first, more, v, is, comes, (none, same)) =
     let steps_are : steps ≡ first = is ∙ (ap (λ (xs : List Transition). first ++ xs) none ∙ append-nil first) in
     subst (λ (xs : List Transition). GhostComes source_state e t xs u) (sym steps_are) (subst (GhostComes source_state e t first) (sym same) comes)
 
+came_or_none : {A B C : Type 0} → (A → B) → A ⊎ C → B ⊎ C
+came_or_none f (inl a) = inl (f a)
+came_or_none f (inr c) = inr c
+
 pub record Comes (h : History) (w : WorldCore) (other : Job) (es : List Event) (t : Ghost) : Type 0 where
   pub steps : List Transition
   pub ghost_then : Ghost
@@ -343,9 +387,9 @@ pub record Comes (h : History) (w : WorldCore) (other : Job) (es : List Event) (
   pub answered : AllAlong (AnsweredSo h w other) t.system steps
   pub happened : AllAlong (HappenedSo h w other) t.system steps
 
-pub come : EventsFollow → HistoriesKeepInvariant → (h : History) (w : WorldCore) (other : Job) (es seen : List Event) (t : Ghost) (u : WorldCore) → h.events ≡ seen ++ es → LedTo (history_up_to h seen) u → AreTrueLoads source_state es → AreFittingLoads source_state t.infos t.system.make es → Runs source_state es u w → WorldRefines t u → IsFixed h other t → Comes h w other es t
-come follow keeps h w other [] seen t u split led loads fits run stands fixed = record { steps = []; ghost_then = t; comes = (refl, refl); legal = tt; rules_are = refl; stands = subst (WorldRefines t) (sym run) stands; answered = tt; happened = tt }
-come follow keeps h w other (e ∷ es) seen t u split led loads fits (v, leads, rest) stands fixed =
+pub come : EventsFollow → HistoriesKeepInvariant → OutcomesLast → AllIsKept → (h : History) (w : WorldCore) (other : Job) (es seen : List Event) (t : Ghost) (u : WorldCore) → h.events ≡ seen ++ es → LedTo (history_up_to h seen) u → AreTrueLoads source_state es → AreFittingLoads source_state t.infos t.system.make es → Runs source_state es u w → WorldRefines t u → IsFixed h other t → Comes h w other es t
+come follow keeps last all h w other [] seen t u split led loads fits run stands fixed = record { steps = []; ghost_then = t; comes = (refl, refl); legal = tt; rules_are = refl; stands = subst (WorldRefines t) (sym run) stands; answered = tt; happened = tt }
+come follow keeps last all h w other (e ∷ es) seen t u split led loads fits (v, leads, rest) stands fixed =
     let r = follow source_state (e ∷ []) t u v stands (loads.0, tt) (fits.0, tt) (v, leads, refl) in
     let g = r.ghost_then in
     let c = one_comes e t r.steps g r.comes in
@@ -356,9 +400,9 @@ come follow keeps h w other (e ∷ es) seen t u split led loads fits (v, leads, 
     let fit : AreFittingLoads source_state g.infos g.system.make es =
     subst (λ (infos : List DeviceInfo). AreFittingLoads source_state infos g.system.make es) (sym (ap (λ (f : Fixed). f.1) same))
     (subst (λ (k : ℕ → Make). AreFittingLoads source_state t.infos k es) (sym make) fits.1) in
-    let later = come follow keeps h w other es (seen ++ e ∷ []) g v (split ∙ sym (append_assoc seen (e ∷ []) es)) on loads.1 fit rest r.stands (same ∙ fixed) in
+    let later = come follow keeps last all h w other es (seen ++ e ∷ []) g v (split ∙ sym (append_assoc seen (e ∷ []) es)) on loads.1 fit rest r.stands (same ∙ fixed) in
     let of = comes_of e t r.steps g c in
-    let can = event_can e t u r.steps g stands c in
+    let came = came_or_none (λ can. came_event all (history_up_to h seen) other t u v e led (v, leads, refl) stands can) (event_can e t u r.steps g stands c) in
     let fails = along_each (FailsInSome source_state (e ∷ []) t u v) (FailsSo (FailedHere h w other e m)) (fails_more (HasFailed source_state (e ∷ []) t u v) (FailedHere h w other e m) (failed_here h w other e m t fixed)) t.system r.steps r.failures in
     record {
       steps = r.steps ++ later.steps;
@@ -367,6 +411,6 @@ come follow keeps h w other (e ∷ es) seen t u split led loads fits (v, leads, 
       legal = history_then t.system r.steps later.steps r.legal (subst (λ (s : SystemState). IsHistory s later.steps) r.rules_are later.legal);
       rules_are = later.rules_are ∙ (ap (λ (s : SystemState). after_all s later.steps) r.rules_are ∙ sym (after_then t.system r.steps later.steps));
       stands = later.stands;
-      answered = along_then (AnsweredSo h w other) t.system r.steps later.steps (event_answers keeps h w other e m t g stands fixed r.stands r.steps can r.rules_are of fails r.legal) (subst (λ (s : SystemState). AllAlong (AnsweredSo h w other) s later.steps) r.rules_are later.answered);
-      happened = along_then (HappenedSo h w other) t.system r.steps later.steps (event_happened h w other e m t r.steps of fails (event_sends e t g u v r.steps stands r.stands c) can) (subst (λ (s : SystemState). AllAlong (HappenedSo h w other) s later.steps) r.rules_are later.happened);
+      answered = along_then (AnsweredSo h w other) t.system r.steps later.steps (event_answers keeps h w other e m t g stands fixed r.stands r.steps came r.rules_are of fails r.legal) (subst (λ (s : SystemState). AllAlong (AnsweredSo h w other) s later.steps) r.rules_are later.answered);
+      happened = along_then (HappenedSo h w other) t.system r.steps later.steps (event_happened last h w other e m t r.steps r.legal of fails (event_sends e t g u v r.steps stands r.stands c) came) (subst (λ (s : SystemState). AllAlong (HappenedSo h w other) s later.steps) r.rules_are later.happened);
     }

@@ -22,14 +22,14 @@ use Rattle.world_refines.specs.GhostStates.{Ghost, Wires, wires}
 use Rattle.world_refines.specs.MainTheorem.{GhostComes}
 use Rattle.world_refines.specs.WorldRefinement.{WorldRefines}
 use Rattle.world_refines.proofs.requests.Waiting.{end_of}
-use Rattle.world_contract.specs.Endings.{SendsFailure, image_at}
+use Rattle.world_contract.proofs.Rows.{SendsOrLoses, image_at}
 use Rattle.world_contract.proofs.Events.{fault_event}
 use Rattle.world_contract.proofs.Lists.{all_each}
 use Rattle.world_contract.proofs.Traced.{StepOf, comes_of}
 
 -- where a source fails in the step, its end came
 abbrev pub FaultSends : WorldCore → WorldCore → Transition → Type 0
-FaultSends before behind (By i (deeds.TurnsFault fault)) = SendsFailure before behind i
+FaultSends before behind (By i (deeds.TurnsFault fault)) = SendsOrLoses before behind i
 FaultSends before behind x = Unit {0}
 
 abbrev pub AllSend : WorldCore → WorldCore → List Transition → Type 0
@@ -62,7 +62,7 @@ some_image (Some sent) h = (sent, refl)
 own_wires : (t g : Ghost) (i : ℕ) (x : Wires) → g.wires ≡ with_entry t.wires i x → g.wires i ≡ x
 own_wires t g i x e = ap (λ (f : ℕ → Wires). f i) e ∙ ap (λ (b : Bool). cond b x (t.wires i)) (own i)
 
-sends_end : (t g : Ghost) (before behind : WorldCore) (i : ℕ) (deed : deeds.Action) (text : List ℕ) (steps : List Transition) → WorldRefines t before → WorldRefines g behind → IsSome (wires t i).image → text ≡ end_record (status_code codes.IoError) → GhostSends t i deed text steps g → SendsFailure before behind i
+sends_end : (t g : Ghost) (before behind : WorldCore) (i : ℕ) (deed : deeds.Action) (text : List ℕ) (steps : List Transition) → WorldRefines t before → WorldRefines g behind → IsSome (wires t i).image → text ≡ end_record (status_code codes.IoError) → GhostSends t i deed text steps g → SendsOrLoses before behind i
 sends_end t g before behind i deed text steps h k some ends (inl s) =
     let im = some_image (t.wires i).image some in
     let now : (g.wires i).image ≡ Some (im.0 ++ text) = ap (λ (x : Wires). x.image) (own_wires t g i (with_record text (wires t i)) (ap (λ (u : Ghost). u.wires) s.1.then_is)) ∙ ap (option_map (λ (bytes : List ℕ). bytes ++ text)) im.1 in

@@ -21,7 +21,7 @@ use Rattle.world_refines.specs.FailedSources.{AllAlong}
 use Rattle.world_refines.specs.GhostStates.{place_named}
 use Rattle.world_contract.specs.Histories.{History}
 use Rattle.world_contract.specs.Page.{StartedOn}
-use Rattle.world_contract.specs.Sessions.{HasFinished}
+use Rattle.world_contract.proofs.Rows.{HasFinished}
 use Rattle.world_contract.proofs.Along.{Here, Laws, own_place}
 use Rattle.world_contract.proofs.Begun.{party_stays}
 use Rattle.world_contract.proofs.Evident.{IsAnswer}

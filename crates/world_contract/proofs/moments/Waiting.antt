@@ -9,7 +9,8 @@ use Rattle.world_refines.specs.FailedSources.{AwaitsAnswer}
 use Rattle.world_refines.specs.GhostStates.{Ghost}
 use Rattle.world_refines.specs.WorldRefinement.{WorldRefines}
 use Rattle.world_refines.proofs.requests.Waiting.{waits_there as waits_so}
-use Rattle.world_contract.specs.Sessions.{IsAtList, IsAtOpen, IsAtStart, WaitsAt}
+use Rattle.world_contract.specs.Sessions.{IsAtList, IsAtOpen, IsAtStart}
+use Rattle.world_contract.proofs.Rows.{WaitsAt}
 
 -- what a client waits for whose request this is
 abbrev pub WaitsFor : AbstractRequest → Progress → Type 0

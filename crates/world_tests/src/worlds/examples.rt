@@ -1,7 +1,11 @@
 //! The worked examples of worlds whose calls promise, run to their bytes.
 
 use super::*;
-use page_picture::FailingPage;
+use page_picture::{FailingPage, Page};
+use worked_worlds::{
+    list_both, scan_no_page, scan_of_taken_out, scan_pages, scan_surely, scan_with_password,
+    scan_with_wrong_password, show_options,
+};
 use world_contract::{scan_beside, scan_once, scan_with_another};
 
 /// A page of one gray dot, and its file.
@@ -55,4 +59,149 @@ fn two_clients_ask_for_one_flatbed(rt: HostRuntime) {
     );
     assert!(rt; file.as_slice() == DOT_FILE);
     assert!(rt; was_busy);
+}
+
+/// A job of `user`, whose password is `bc`, without settings.
+fn plain(rt: &impl Abort, alloc: Global, device: &[u8], task: Task) -> Job {
+    let asked = Asked {
+        device,
+        settings: &[],
+        task,
+    };
+    job(rt, alloc, &asked)
+}
+
+fn dot(rt: &impl Abort, alloc: Global) -> Page {
+    read_page(alloc, DOT, 26).expect(rt, "a page")
+}
+
+fn users_of(rt: &impl Abort, alloc: Global, lines: &[u8]) -> Users {
+    Users::parse(alloc, lines).expect(rt, "users")
+}
+
+const FLATBED_0: &[u8] = b"flatbed:0";
+
+/// What these users ask for is right, and so is it refused, where one has another password.
+const RIGHT: &[u8] = b"user:bc:flatbed\n";
+
+const WRONG: &[u8] = b"user:cb:flatbed\n";
+
+#[test]
+fn one_client_lists_two_flatbeds(rt: HostRuntime) {
+    let alloc = rt.alloc();
+    let other = text(&rt, alloc, b"flatbed:1");
+    let asked = plain(&rt, alloc, b"", Task::List);
+    let name = text(&rt, alloc, FLATBED_0);
+    let users = users_of(&rt, alloc, b"");
+    assert!(rt;
+        list_both(
+            alloc,
+            name,
+            dot(&rt, alloc),
+            other,
+            dot(&rt, alloc),
+            users,
+            asked
+        )
+    );
+}
+
+#[test]
+fn one_client_shows_a_flatbed(rt: HostRuntime) {
+    let alloc = rt.alloc();
+    let asked = plain(&rt, alloc, FLATBED_0, Task::Show);
+    let name = text(&rt, alloc, FLATBED_0);
+    assert!(rt;
+        show_options(
+            alloc,
+            name,
+            dot(&rt, alloc),
+            users_of(&rt, alloc, b""),
+            asked
+        )
+    );
+}
+
+#[test]
+fn one_client_has_the_right_password(rt: HostRuntime) {
+    let alloc = rt.alloc();
+    let asked = plain(&rt, alloc, FLATBED_0, Task::Scan);
+    let name = text(&rt, alloc, FLATBED_0);
+    assert!(rt;
+        scan_with_password(
+            alloc,
+            name,
+            dot(&rt, alloc),
+            users_of(&rt, alloc, RIGHT),
+            asked
+        )
+    );
+}
+
+#[test]
+fn one_client_has_a_wrong_password(rt: HostRuntime) {
+    let alloc = rt.alloc();
+    let asked = plain(&rt, alloc, FLATBED_0, Task::Scan);
+    let name = text(&rt, alloc, FLATBED_0);
+    let users = users_of(&rt, alloc, WRONG);
+    assert!(rt; scan_with_wrong_password(alloc, name, dot(&rt, alloc), users, asked));
+}
+
+#[test]
+fn one_client_wants_a_flatbed_that_was_taken_out(rt: HostRuntime) {
+    let alloc = rt.alloc();
+    let asked = plain(&rt, alloc, FLATBED_0, Task::Scan);
+    let name = text(&rt, alloc, FLATBED_0);
+    let taken = text(&rt, alloc, FLATBED_0);
+    let users = users_of(&rt, alloc, b"");
+    assert!(rt; scan_of_taken_out(alloc, name, dot(&rt, alloc), taken, users, asked));
+}
+
+#[test]
+fn one_client_finds_an_empty_tray(rt: HostRuntime) {
+    let alloc = rt.alloc();
+    let asked = plain(&rt, alloc, b"feeder:0", Task::Scan);
+    let name = text(&rt, alloc, b"feeder:0");
+    assert!(rt; scan_no_page(alloc, name, users_of(&rt, alloc, b""), asked));
+}
+
+/// Another page of one gray dot, and its file.
+const OTHER_DOT: &[u8] = b"P5\n1 1\n255\n\x09";
+
+const OTHER_DOT_FILE: &[u8] = b"P5\n# SANE data follows\n1 1\n255\n\x09";
+
+#[test]
+fn one_client_scans_two_pages(rt: HostRuntime) {
+    let alloc = rt.alloc();
+    let asked = Asked {
+        device: b"feeder:0",
+        task: Task::Batch(2),
+        ..SCAN_DOT
+    };
+    let name = text(&rt, alloc, b"feeder:0");
+    let other = read_page(alloc, OTHER_DOT, 26).expect(&rt, "a page");
+    let batch = job(&rt, alloc, &asked);
+    let files = scan_pages(
+        alloc,
+        name,
+        dot(&rt, alloc),
+        other,
+        users_of(&rt, alloc, b""),
+        batch,
+    );
+    let (first, second) = files.expect(&rt, "two files");
+    assert!(rt; first.as_slice() == DOT_FILE);
+    assert!(rt; second.as_slice() == OTHER_DOT_FILE);
+}
+
+#[test]
+fn one_client_surely_scans_a_dot(rt: HostRuntime) {
+    let alloc = rt.alloc();
+    let asked = plain(&rt, alloc, FLATBED_0, Task::Scan);
+    let name = text(&rt, alloc, FLATBED_0);
+    let users = users_of(&rt, alloc, RIGHT);
+    match scan_surely(alloc, name, dot(&rt, alloc), users, asked) {
+        Ok(file) => assert!(rt; is_whole(alloc, Some(file.as_slice()))),
+        Err(_) => panic!(rt; "no file"),
+    }
 }

@@ -1,4 +1,5 @@
 use Rattle.world_contract.proofs.Calls.{asked_true}
+use Rattle.world_contract.proofs.Clear.{clears_by}
 use Rattle.world_contract.proofs.Led.{led_then}
 use Rattle.world_contract.proofs.Over.{cancel_ends, move_lowers, moves_fall, other_jobs_stay, over_stays}
 use Rattle.world_contract.proofs.moments.Delivered.{page_stays, starts_on_first}
@@ -27,4 +28,5 @@ returns g c =
       scans = λ h l. scans_stay kept h c.args.events.items _ _ l loads c.run.ensures;
       page_stays = λ h l. page_stays kept h c.args.events.items _ _ l (led_then h c.args.events.items _ _ l loads c.run.ensures) c.run.ensures;
       first_page = λ h l. starts_on_first kept h c.args.events.items _ _ l (led_then h c.args.events.items _ _ l loads c.run.ensures) c.run.ensures;
+      clear = clears_by c.what_stands_below.ensures c.args.events.items _ _;
     }

@@ -1,0 +1,19 @@
+//! Worked worlds: of each definition of the promise on the calls a run that meets it, beside the scans of `world_contract`: a list, a
+//! show, a guarded device with the right and with a wrong password, a device taken out, an empty tray, and a batch.
+#![tactic(auto)]
+
+mod ends;
+mod lists;
+mod passwords;
+mod shows;
+mod surely;
+mod taken;
+mod tray;
+mod worlds;
+
+pub use lists::list_both;
+pub use passwords::{scan_with_password, scan_with_wrong_password};
+pub use shows::show_options;
+pub use surely::{NoFile, scan_surely};
+pub use taken::scan_of_taken_out;
+pub use tray::{scan_no_page, scan_pages};
