@@ -19,11 +19,7 @@ const RESOLUTION: u32 = 3;
 const TWO_ROWS: &[u8] = b"P5\n1 2\n255\n\x07\x09";
 
 /// The settings that show the two-row page as it is.
-const ONE_BY_TWO: &[(&[u8], &[u8])] = &[
-    (b"resolution", b"26"),
-    (b"br-x", b"1"),
-    (b"br-y", b"2"),
-];
+const ONE_BY_TWO: &[(&[u8], &[u8])] = &[(b"resolution", b"26"), (b"br-x", b"1"), (b"br-y", b"2")];
 
 /// Its whole file, of 33 bytes.
 const TWO_ROWS_FILE: &[u8] = b"P5\n# SANE data follows\n1 2\n255\n\x07\x09";
