@@ -106,7 +106,8 @@ impl OutputTally {
 
     /// Gives a shelf an output back. Says whether it kept it.
     pub fn close<S: Shelf>(&mut self, shelf: &mut S, out: S::Out) -> bool
-        ensures stock { Shelves (S.stock shelf.old) (S.Out.contents out) result (S.stock shelf.new) }
+        ensures stock { Shelves
+            (S.stock shelf.old) (S.Out.contents out) result (S.stock shelf.new) }
         ensures told { self.new ≡ record self.old { failed = not result || self.old.failed } }
     {
         let is_kept = shelf.close(out).is_ok();

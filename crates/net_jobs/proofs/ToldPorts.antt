@@ -25,7 +25,7 @@ use Rattle.client_replies.specs.ProtocolStates.{ProtocolState, after_reply, hear
 use Rattle.net_client.specs.ClientStates.{ClientState, ClientRepresents, after_client_end, protocol_of}
 use Rattle.net_client.specs.ReplyPieces.{HearsReplies, HasHeard, Heeds, Whole, Garbled, OutOfMemoryBehind, OutOfMemoryAtOnce, awaited_procedure}
 use Rattle.net_client.specs.ToldPorts.{port_told}
-use Rattle.net_jobs.specs.JobJournal.{AreGives, GivesFileBytes, IsRequest, JobMove, MoveLeads, MovesLead, PortsAreTold, PortsAreToldOnce, PortsFollowRequests, StandsBehind, is_port_told}
+use Rattle.net_jobs.specs.JobJournal.{AreGives, GivesFileBytes, WritesRequest, JobMove, MoveLeads, MovesLead, PortsAreTold, PortsAreToldOnce, PortsFollowRequests, StandsBehind, is_port_told}
 use Rattle.net_jobs.specs.JobJournal.JobMove.{Writes, Fails, Hears, Resumes, Prepares, Dials, Takes, Gives, Loses}
 use Rattle.net_jobs.specs.JobSteps.{IsDelivery}
 
@@ -41,7 +41,7 @@ pub data AwaitsTold (c : ClientState) : Type 0 where
 pub record ToldSoFar (moves : List JobMove) (c : ClientState) : Type 0 where
   pub told : PortsAreTold moves
   pub waits : is_port_told moves ≡ true → AwaitsTold c
-  pub asks : IsRequest moves → (port : ℕ) → port_told c.progress ≡ Some port → is_running c.outcome ≡ true → is_port_told moves ≡ false
+  pub asks : WritesRequest moves → (port : ℕ) → port_told c.progress ≡ Some port → is_running c.outcome ≡ true → is_port_told moves ≡ false
 
 pub told_begun : (c : ClientState) → ToldSoFar [] c
 told_begun c = record {
@@ -188,7 +188,7 @@ told_gave old now bytes g (Past over) = Past (ap is_running g.outcome ∙ over)
 -- ---- one move
 
 -- by a move that neither tells a port nor asks for a data connection
-goes_on : (more : List JobMove) (now : ClientState) → PortsFollowRequests more → PortsAreToldOnce more → (is_port_told more ≡ true → AwaitsTold now) → (IsRequest more → ⊥) → ToldSoFar more now
+goes_on : (more : List JobMove) (now : ClientState) → PortsFollowRequests more → PortsAreToldOnce more → (is_port_told more ≡ true → AwaitsTold now) → (WritesRequest more → ⊥) → ToldSoFar more now
 goes_on more now behind once waits none = record {
   told = record { behind = behind; once = once };
   waits = waits;
@@ -230,7 +230,7 @@ told_gives c (Gives bytes ∷ gives) now moves are m t =
     goes_on (Gives bytes ∷ (gives ++ moves)) now (tt, r.told.behind) r.told.once (λ e. told_gave m.0 now bytes m.2 (r.waits e)) (λ none. none)
 told_gives c (move ∷ gives) now moves are m t = absurd are
 
-request_on : (moves more : List JobMove) → IsRequest moves → IsRequest (moves ++ more)
+request_on : (moves more : List JobMove) → WritesRequest moves → WritesRequest (moves ++ more)
 request_on (Writes bytes ∷ moves) more some = some
 request_on [] more none = absurd none
 request_on (move ∷ moves) more none = absurd none

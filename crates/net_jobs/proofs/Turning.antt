@@ -10,7 +10,7 @@ use Rattle.client_replies.specs.ProtocolStates.{is_running}
 use Rattle.net_client.specs.ClientStates.{ClientState, HasEarlyReply, after_client_end}
 use Rattle.net_jobs.specs.declared.calls.Loss.{Loss}
 use Rattle.net_jobs.specs.declared.calls.Loss.TheVariants.{UsedUp, DialFailed}
-use Rattle.net_jobs.specs.JobJournal.{IsRequest, JobMove, Writes, Fails, Hears, Resumes, Prepares, Dials, Takes, Loses, HearsPiece, after_loss}
+use Rattle.net_jobs.specs.JobJournal.{WritesRequest, JobMove, Writes, Fails, Hears, Resumes, Prepares, Dials, Takes, Loses, HearsPiece, after_loss}
 use Rattle.net_client.specs.ToldPorts.{port_told}
 use Rattle.net_jobs.specs.Links.{IsTold, JobLinks, LinkViews, PortsTold, views_of, with_port}
 use Rattle.net_jobs.specs.Inside.{Heard, Lost, Took, Missed, Made, Refused, Whole, Short, CallNotes, LoopState, MovesAll, AreOfTurn, AreQuiet, Quiet, Delivered, HearsOrLoses, TakesOrLoses, DialsOrLoses, TakesLeave}
@@ -154,7 +154,7 @@ asks_behind out true o port e asks none = let clash : true ≡ false = e ∙ ap 
 asks_behind out false o port e asks none = let clash : None ≡ Some port = asks in cc
 
 pub turn_prepares : {C D R : Type 0} (remaining contents : C → Option (List ℕ)) (ports prepared : D → Option (List ℕ)) (left_of : R → Option (List ℕ)) (first : LoopState (JobLinks C D) R) (moves : List JobMove) (c : ClientState) (control : C) (dial then_ : D) (coming later : Option (List (List ℕ))) (stream : Option R) (failed : Bool) (asks : Option ℕ)
-    → failed ≡ false → is_running c.outcome ≡ true → c.out ≡ [] → ((port : ℕ) → asks ≡ Some port → port_told c.progress ≡ Some port) → ((port : ℕ) → asks ≡ Some port → IsRequest moves) → IsTold asks (prepared dial) (prepared then_) → ports then_ ≡ ports dial → later ≡ coming
+    → failed ≡ false → is_running c.outcome ≡ true → c.out ≡ [] → ((port : ℕ) → asks ≡ Some port → port_told c.progress ≡ Some port) → ((port : ℕ) → asks ≡ Some port → WritesRequest moves) → IsTold asks (prepared dial) (prepared then_) → ports then_ ≡ ports dial → later ≡ coming
     → MovesAll (views_of remaining contents ports prepared) left_of first moves (loop_at c (record { control = control; dial = dial }) coming stream None failed)
     → AreQuiet moves → HasPrepared remaining contents ports prepared left_of first c control then_ later stream failed
 turn_prepares remaining contents ports prepared left_of first moves c control dial then_ coming later stream failed None up running none tells behind told same none_come m quiet = record {

@@ -154,13 +154,13 @@ dialled_by (move ∷ moves) = dialled_by moves
 -- parameters, and of none again before a data connection was asked for.
 --
 -- the newest move writes bytes that were to go out
-abbrev pub IsRequest : List JobMove → Type 0
-IsRequest (Writes bytes ∷ moves) = bytes ≢ []
-IsRequest moves = ⊥
+abbrev pub WritesRequest : List JobMove → Type 0
+WritesRequest (Writes bytes ∷ moves) = bytes ≢ []
+WritesRequest moves = ⊥
 
 -- what a move stands right behind: a port is told behind a request, and any other move behind any
 abbrev pub StandsBehind : JobMove → List JobMove → Type 0
-StandsBehind (Prepares port) moves = IsRequest moves
+StandsBehind (Prepares port) moves = WritesRequest moves
 StandsBehind move moves = Unit {0}
 
 abbrev pub PortsFollowRequests : List JobMove → Type 0

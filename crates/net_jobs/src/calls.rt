@@ -210,7 +210,8 @@ impl CallTally {
 
     /// Gives a shelf an output back. Says whether it kept it.
     pub fn close<S: Shelf>(&mut self, shelf: &mut S, out: S::Out) -> bool
-        ensures stock { Shelves (S.stock shelf.old) (S.Out.contents out) result (S.stock shelf.new) }
+        ensures stock { Shelves
+            (S.stock shelf.old) (S.Out.contents out) result (S.stock shelf.new) }
         ensures told { self.new.output ≡ record self.old.output {
           failed = not result || self.old.output.failed;
         } }
