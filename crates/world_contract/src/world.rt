@@ -200,10 +200,9 @@ impl World {
         /// lost its connection as its next move, for want of memory or at a reply that cannot be said.
         /// Carried by: `clear` of `World::run_all`: `ClearsUp`
         ///
-        /// Nothing stands in its way where its device is there, and named by no other job; its settings can be in force and
-        /// name no status; its password is allowed; no event cancelled it, lost a connection of it, or took its device
-        /// out; and where it scans, its device is no feeder, its sources cannot fail, and the settings mean a picture on
-        /// each page that came.
+        /// Nothing stands in its way where its device is there, and no other job names it; its settings can be in force and
+        /// name no status; its password is allowed; no event cancels it, loses its connections, or takes its device out;
+        /// and a device that it scans is no feeder, cannot fail, and has a picture on each page.
         /// Carried by: `clear` of `World::run_all`: `IsClear`
         ensures clear { let w = seen_world ⟦<Box<dyn Device> as Device>⟧.state self.old.inner in
             let v = seen_world ⟦<Box<dyn Device> as Device>⟧.state self.new.inner in
@@ -251,8 +250,8 @@ impl World {
         /// Carried by: `kept` of `World::outcome`: `ended` of `OutcomeIsKept`, `IsEndingExplained`
         ///
         /// What explains an ending is an event of the job, and but for a cancel one that came as the job ran and changed
-        /// the world: those before it led to the world in front of it, and it and those behind it to the world that is
-        /// asked. Without an event are told only settings no device can have, and memory that ran out.
+        /// the world: those before it led to the world in front of it, and it and those behind it to the world asked.
+        /// Without one are told only settings no device can have, and memory.
         /// Carried by: `Happened`, `Asked`, `Moment` of `IsEndingExplained`
         ///
         /// An answered status is the one that `read-return-value` says, as the job's settings put it in force, in a
@@ -266,8 +265,8 @@ impl World {
         /// Carried by: `AnswerIsExplained`, `HasPassed` of `IsEndingExplained`
         ///
         /// Else INVAL was answered only where the device was not listed as the job asked for it; where settings can be
-        /// in force on no device of the name, as also where a setting ended the job; or, to a job that scans, where the
-        /// device, as a start was asked for, had the options of the settings, which mean no picture on its page.
+        /// in force on no device of the name, as also where a setting ended the job; or where a device, as a scan was
+        /// to start, had the settings' options, which mean no picture on its page.
         /// Carried by: `AnswerIsExplained`, `IsUnforced`, `HadNoPicture` of `IsEndingExplained`
         ///
         /// Else NO_DOCS was answered only to a job that scans, where the device that its session had had no page, as the
