@@ -93,8 +93,8 @@ pub fn run_local_batch_with<S: Shelf, T: Drop, F: FnOnce(&Reports) -> Result<T, 
         IsBatchEndedBy job.now (record { device = state device.old; stock = S.stock shelf.old })
         (record { device = state device.new; stock = S.stock shelf.new }) stop) }
     ensures refusal { IfErr result (λ stop. IsRefusal stop) }
-    /// A batch ends for its output only where it is noted that one failed: a write to it, or the shelf gave none, or
-    /// refused it.
+    /// A batch ends for its output only where it is noted, by then or before, that one failed: a write to it, or the
+    /// shelf gave none, or refused it.
     ensures output { IfErr result (λ stop. stop.why ≡ Sink → outputs.new.failed ≡ true) }
     ensures rest { is_at_rest (state device.new).phase ≡ true }
 {

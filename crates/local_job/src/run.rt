@@ -132,8 +132,8 @@ pub fn run_local_with<W: Write, T: Drop, F: FnOnce(&Reports) -> Result<T, NoMem>
     ensures told { IfOk result (λ done. FnOnceReturnsAt F.FnOnce tell done.0 (Ok done.1)) }
     ensures no_file { OnErr result (LeavesNoFile (W.contents out.old) (W.contents out.new)) }
     ensures refusal { IfErr result (λ stop. IsRefusal stop) }
-    /// A job ends for its output only where it is noted that a write to it failed: neither a page that cannot be read
-    /// nor what `read-return-value` names is told so.
+    /// A job ends for its output only where it is noted that a write failed: with a tally in which nothing was noted
+    /// before, neither a page that cannot be read nor what `read-return-value` names is told so.
     ensures output { IfErr result (λ stop. stop.why ≡ Sink → outputs.new.failed ≡ true) }
     ensures stop { IfErr result
         (λ stop. IsEndedBy (state device.old) job.now (state device.new) stop) }

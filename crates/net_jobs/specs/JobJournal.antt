@@ -150,7 +150,7 @@ dialled_by [] = []
 dialled_by (Dials port made ∷ moves) = port ∷ dialled_by moves
 dialled_by (move ∷ moves) = dialled_by moves
 
--- **told once (`PortsAreTold`)**: what makes the data connections is told of a frame's port right behind the request for its
+-- **told at most once (`PortsAreTold`)**: what makes the data connections is told of a frame's port right behind the request for its
 -- parameters, and of none again before a data connection was asked for.
 --
 -- the newest move writes bytes that were to go out

@@ -60,7 +60,7 @@ AreAskedFor asked named = (named ≡ asked) ⊎ ((port : ℕ) × (named ≡ port
 
 -- What a job did over its streams: its moves, from the new client on, by the client's own contracts; the replies that it read
 -- by them, and what it wrote for them; the ports that were told beforehand, each right behind the request for the parameters of its
--- frame, and once; the ports of its data connections, which are those of its START replies; and these
+-- frame, and at most once; the ports of its data connections, which are those of its START replies; and these
 -- connections, each of which began with a frame's records but for one that was let go within its frame.
 pub record RanWithTrace {L O : Type 0} (views : LinkViews L) (job : Job) (was now : SeenStreams L O) : Type 0 where
   pub moves : List JobMove

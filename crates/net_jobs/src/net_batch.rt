@@ -291,8 +291,8 @@ where
         ⊎ BatchEnded (views_of C.remaining C.contents D.ports D.prepared) job
         (seen D.coming S.stock (streams control.old dial.old shelf.old))
         (seen D.coming S.stock (streams control.new dial.new shelf.new)) stop) }
-    /// A batch ends for its output only where it is noted that one failed: a write to it, or the shelf gave none, or
-    /// refused it.
+    /// A batch ends for its output only where it is noted, by then or before, that one failed: a write to it, or the
+    /// shelf gave none, or refused it.
     ensures output { IfErr result (λ stop. stop.why ≡ Sink → outputs.new.failed ≡ true) }
     ensures told { IfOk result (λ done. FnOnceReturnsAt F.FnOnce tell done.0 (Ok done.1)) }
 {

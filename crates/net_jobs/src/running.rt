@@ -585,7 +585,7 @@ where
         ⊎ RanEnded (views_of C.remaining C.contents D.ports D.prepared) job
         (seen D.coming W.contents (streams control.old dial.old out.old))
         (seen D.coming W.contents (streams control.new dial.new out.new)) stop) }
-    /// A job ends for its output only where it is noted that a write to it failed.
+    /// A job ends for its output only where it is noted, by then or before, that a write to it failed.
     ensures output { IfErr result (λ stop. stop.why ≡ Sink → outputs.new.failed ≡ true) }
     ensures told { IfOk result (λ done. FnOnceReturnsAt F.FnOnce tell done.0 (Ok done.1)) }
 {
@@ -653,7 +653,7 @@ pub fn run_job<C: Read + Write, D: Dial, W: Write>(
     /// Carried by: `done`, `ended` of `run_job`
     ///
     /// What makes the data connections is told beforehand of no port but that which START's reply named, right behind
-    /// the request for the frame's parameters and before they are told; and of each frame's once.
+    /// the request for the frame's parameters and before they are told; and of a frame's at most once.
     /// Carried by: `done`, `ended` of `run_job`: `PreparesPort` of its moves, and `PortsAreTold`
     ///
     /// Each data connection began with the records of a frame that ended, but for at most one that was let go within
