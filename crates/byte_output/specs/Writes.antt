@@ -13,7 +13,8 @@ abbrev pub fails_by_error : Bool → Bool
 fails_by_error true = false
 fails_by_error false = true
 
--- **failed write (`fails_to_write`)**: one that gave an error other than an interruption, or of which nothing was taken.
+-- **failed write (`fails_to_write`)**: one that gave an error other than an interruption, or of which nothing was
+-- taken.
 abbrev pub fails_to_write : Result ℕ Error → Bool
 fails_to_write (Ok zero) = true
 fails_to_write (Ok (suc n)) = false

@@ -53,11 +53,8 @@ all_is tasks.Scan pages first file frames s e n a = sym (ap (λ (ps : List (List
 all_is (tasks.Batch count) pages first file frames s e n a = ap (λ (b : Bool). b && nat_lt 1 file) e ∙ ap (λ (i : ℕ). is_nil frames && nat_lt 1 i) n ∙ ran_batch frames pages
 
 shows_none : (task : Task) (notes : Notes) (m : rules.ClientView) → scans task ≡ true → ShowRefines (shows task) (reports_of task notes []).options m
-shows_none tasks.List notes m s = tt
 shows_none tasks.Show notes m s = absurd (let clash : false ≡ true = s in cc)
-shows_none tasks.SetOnly notes m s = tt
-shows_none tasks.Scan notes m s = tt
-shows_none (tasks.Batch count) notes m s = tt
+shows_none task notes m s = tt
 
 no_docs : (x : Side) (task : Task) (notes : Notes) (m : rules.ClientView) (all : Bool) (frames : List Frame) (pages : List (List Frame)) → all ≡ ran_out frames pages → scans task ≡ true → FilesAs x m → KnowsAs task x.pages notes m
     → Goes x task (turn notes (if all then Finish [] else stop_by_answer statuses.NoDocs)) (start_refused words.NoDocs frames pages m)
@@ -72,16 +69,7 @@ starts_by : (x : Side) (task : Task) (notes : Notes) (m : rules.ClientView) (all
     → Hears x task (turn notes (started_by all status port order)) m rules.Starting (reply_if_good status (words.Begun order))
 starts_by x task notes m all statuses.Good port order e s f k = (f, (k, (refl, refl)))
 starts_by x task notes m all statuses.NoDocs port order e s f k = no_docs x task notes m all m.frames m.pages e s f k
-starts_by x task notes m all statuses.Unsupported port order e s f k = ends x task notes m statuses.Unsupported whys.Answer words.Answer refl f
-starts_by x task notes m all statuses.Cancelled port order e s f k = ends x task notes m statuses.Cancelled whys.Answer words.Answer refl f
-starts_by x task notes m all statuses.DeviceBusy port order e s f k = ends x task notes m statuses.DeviceBusy whys.Answer words.Answer refl f
-starts_by x task notes m all statuses.Inval port order e s f k = ends x task notes m statuses.Inval whys.Answer words.Answer refl f
-starts_by x task notes m all statuses.Eof port order e s f k = ends x task notes m statuses.Eof whys.Answer words.Answer refl f
-starts_by x task notes m all statuses.Jammed port order e s f k = ends x task notes m statuses.Jammed whys.Answer words.Answer refl f
-starts_by x task notes m all statuses.CoverOpen port order e s f k = ends x task notes m statuses.CoverOpen whys.Answer words.Answer refl f
-starts_by x task notes m all statuses.IoError port order e s f k = ends x task notes m statuses.IoError whys.Answer words.Answer refl f
-starts_by x task notes m all statuses.NoMem port order e s f k = ends x task notes m statuses.NoMem whys.Answer words.Answer refl f
-starts_by x task notes m all statuses.AccessDenied port order e s f k = ends x task notes m statuses.AccessDenied whys.Answer words.Answer refl f
+starts_by x task notes m all status port order e s f k = ends x task notes m status whys.Answer words.Answer refl f
 
 starts_plain : (x : Side) (task : Task) (notes : Notes) (m : rules.ClientView) (all : Bool) (status : Status) (port : ℕ) (order : ByteOrder) (resource : List ℕ) → all ≡ ran_out m.frames m.pages → scans task ≡ true → FilesAs x m
     → KnowsAs task x.pages notes m → Hears x task (turn notes (started_with all status port order resource)) m rules.Starting (reply_without_resource resource (reply_if_good status (words.Begun order)))

@@ -1,5 +1,5 @@
 -- INIT, GET_DEVICES, OPEN and AUTHORIZE.
-use Rattle.std.proofs.Common.{◌≡◌, ℕ, Option, Some, None, Bool, true, false, List, [], ◌∷◌, ◌++◌, refl, sym, ap, subst, map}
+use Rattle.std.proofs.Common.{◌≡◌, ℕ, Option, Some, None, true, false, List, [], ◌∷◌, ◌++◌, refl, sym, ap, subst, map}
 use Rattle.std.specs.Prelude.{option_map}
 use Rattle.sane_fixed.specs.declared.status.Status.{Status}
 use Rattle.sane_fixed.specs.declared.status.Status.TheVariants as statuses
@@ -28,10 +28,7 @@ use Rattle.scan_job.specs.declared.outcome.Why.TheVariants as whys
 
 greets_by : (x : Side) (task : Task) (notes : Notes) (m : rules.ClientView) → NoSettingPut x.job notes m → WaitsAs x.job (after_greeting task) notes x.history (rules.with_progress (rules.progress_after_init (task_of task)) m)
 greets_by x tasks.List notes m o = (refl, o)
-greets_by x tasks.Show notes m o = (refl, o)
-greets_by x tasks.SetOnly notes m o = (refl, o)
-greets_by x tasks.Scan notes m o = (refl, o)
-greets_by x (tasks.Batch count) notes m o = (refl, o)
+greets_by x task notes m o = (refl, o)
 
 pub greets : (x : Side) (task : Task) (notes : Notes) (m : rules.ClientView) (r : Reply) → x.job.task ≡ task_of task → FilesAs x m → KnowsAs task x.pages notes m → NoSettingPut x.job notes m
     → Hears x task (turn notes (after_init_reply task r)) m rules.Greeting (decoded_reply_at x.place stages.Greeting r)
@@ -40,15 +37,9 @@ greets x task notes m (replies.Init status version) t f k o =
     (f, (k, subst (λ (y : rules.Task). WaitsAs x.job (after_greeting task) notes x.history (rules.with_progress (rules.progress_after_init y) m)) (sym t) (greets_by x task notes m o)))
 greets x task notes m r t f k o = awry_ends x task notes m f
 
-no_options : (task : Task) (m : rules.ClientView) → shows task ≡ false → ShowRefines (shows task) [] m
-no_options task m e = subst (λ (b : Bool). ShowRefines b [] m) (sym e) tt
-
 lists_none : (task : Task) (notes : Notes) (devices : List DeviceInfo) (m : rules.ClientView) → suits task stages.Listing ≡ true → ShowRefines (shows task) (reports_of task notes devices).options m
-lists_none tasks.List notes devices m e = tt
 lists_none tasks.Show notes devices m e = absurd (let clash : false ≡ true = e in cc)
-lists_none tasks.SetOnly notes devices m e = tt
-lists_none tasks.Scan notes devices m e = tt
-lists_none (tasks.Batch count) notes devices m e = tt
+lists_none task notes devices m e = tt
 
 pub lists_all : (x : Side) (task : Task) (notes : Notes) (m : rules.ClientView) (r : Reply) → suits task stages.Listing ≡ true → FilesAs x m → KnowsAs task x.pages notes m
     → Hears x task (turn notes (after_list_reply r)) m rules.Listing (decoded_reply_at x.place stages.Listing r)

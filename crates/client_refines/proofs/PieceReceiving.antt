@@ -89,18 +89,7 @@ running_is : (o : Outcome) (p : Progress) → is_receiving o p ≡ true → (o �
 running_is Running (stages.Imaging port made) e = (refl, (port, (made, refl)))
 running_is (Done reports) (stages.Imaging port made) e = absurd (let clash : false ≡ true = e in cc)
 running_is (Ended status why) (stages.Imaging port made) e = absurd (let clash : false ≡ true = e in cc)
-running_is o stages.Greeting e = absurd (let clash : false ≡ true = e in cc)
-running_is o stages.Listing e = absurd (let clash : false ≡ true = e in cc)
-running_is o stages.Opening e = absurd (let clash : false ≡ true = e in cc)
-running_is o (stages.Allowing resource answer) e = absurd (let clash : false ≡ true = e in cc)
-running_is o stages.Reopening e = absurd (let clash : false ≡ true = e in cc)
-running_is o stages.Describing e = absurd (let clash : false ≡ true = e in cc)
-running_is o (stages.Putting n kind name request_for) e = absurd (let clash : false ≡ true = e in cc)
-running_is o (stages.Getting n kind size) e = absurd (let clash : false ≡ true = e in cc)
-running_is o (stages.Starting first) e = absurd (let clash : false ≡ true = e in cc)
-running_is o (stages.Shaping port order) e = absurd (let clash : false ≡ true = e in cc)
-running_is o stages.Turning e = absurd (let clash : false ≡ true = e in cc)
-running_is o stages.Over e = absurd (let clash : false ≡ true = e in cc)
+running_is o progress e = absurd (let clash : false ≡ true = e in cc)
 
 -- what stands while a client receives
 record At (old : ClientState) (past : JoinHistory) : Type 0 where

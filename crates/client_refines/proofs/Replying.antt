@@ -24,9 +24,9 @@ use Rattle.client_replies.specs.declared.progress.Notes.{Notes}
 use Rattle.client_replies.specs.declared.progress.Next.{Next}
 use Rattle.client_replies.specs.declared.progress.Next.TheVariants.{Wait, Finish, Stop}
 use Rattle.net_client.specs.ClientStates.{ClientState, protocol_of, ClientRepresents}
-use Rattle.client_replies.specs.ProtocolStates.{ProtocolState, HistoryFits, FitsAt, NextFits, suits, next_outcome, next_progress, heard_at, after_reply, is_running}
+use Rattle.client_replies.specs.ProtocolStates.{ProtocolState, HistoryFits, NextFits, next_outcome, next_progress, heard_at, after_reply, is_running}
 use Rattle.net_client.specs.ReplyPieces.{HearsReplies, IsReply, awaited_procedure, HasHeard, Whole, Garbled, OutOfMemoryBehind, OutOfMemoryAtOnce}
-use Rattle.client_replies.proofs.Fitting.{heard_fits, shaped_fits}
+use Rattle.client_replies.proofs.Fitting.{answer_fits}
 use Rattle.system_model.specs.AbstractMessages as words
 use Rattle.system_model.specs.Client as rules
 use Rattle.system_model.specs.ClientReplies.{hear_in, client_after_stop}
@@ -75,18 +75,7 @@ short_at : (progress : Progress) (text : List ℕ) (r : Reply) → IsReply progr
 short_at stages.Describing text r i =
     let same : procedures.GetOptionDescriptors ≡ i.procedure = (let e : Some procedures.GetOptionDescriptors ≡ Some i.procedure = i.awaited_is in cc) in
     short_from text r (subst (λ (p : Procedure). (limited_format message_limit (reply p)).spells text r) (sym same) i.spelled)
-short_at stages.Greeting text r i = tt
-short_at stages.Listing text r i = tt
-short_at stages.Opening text r i = tt
-short_at (stages.Allowing resource answer) text r i = tt
-short_at stages.Reopening text r i = tt
-short_at (stages.Putting n kind name asked) text r i = tt
-short_at (stages.Getting n kind size) text r i = tt
-short_at (stages.Starting first) text r i = tt
-short_at (stages.Shaping port order) text r i = tt
-short_at (stages.Imaging port made) text r i = tt
-short_at stages.Turning text r i = tt
-short_at stages.Over text r i = tt
+short_at progress text r i = tt
 
 -- ---- replies
 
@@ -98,11 +87,6 @@ lives : (task : Task) (notes : Notes) (next : Next) (past : JoinHistory) → Nex
 lives task notes (Wait progress) past n = inl (refl, n)
 lives task notes (Finish devices) past n = inr refl
 lives task notes (Stop status why) past n = inr refl
-
-answer_fits : (progress : Progress) (target : JobTarget) (notes : Notes) (past : JoinHistory) (r : Reply) → suits target.task progress ≡ true → FitsAt progress past
-    → NextFits target.task (heard_at progress target notes past r).history (heard_at progress target notes past r).turn.next
-answer_fits (stages.Shaping port order) target notes past r s b = shaped_fits target.task port order past r s b
-answer_fits progress target notes past r s b = heard_fits progress target notes past r s b
 
 -- ---- what is asked for
 

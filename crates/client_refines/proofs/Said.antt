@@ -28,7 +28,7 @@ use Rattle.client_refines.specs.PieceRefinement.{SpellsSentAt}
 use Rattle.client_refines.proofs.Sides.{Side, NextAs, onto}
 use Rattle.client_refines.proofs.Heard.{HearsIn, side_of, talk_hears}
 use Rattle.client_refines.proofs.Asking.{asks_alike, goodbyes_alike}
-use Rattle.client_refines.proofs.Apt.{AsksNow, IsAsked, AskedAt, IsLater, reply_asked}
+use Rattle.client_refines.proofs.Apt.{AsksNow, AsksNothing, IsAsked, AskedAt, IsLater, reply_asked}
 use Rattle.client_refines.specs.Replies.{client_refusing}
 
 -- ---- the requests of a client as its job goes on so
@@ -77,9 +77,15 @@ Saying target word job next m Before = requests_by target word next ≡ []
 Saying target word job next m (Says answer) = AreAsked target word job next (hear_in m.stage job m answer)
 Saying target word job next m Demands = AreAsked target word job next (client_refusing m)
 
+says_nothing : (target : JobTarget) (word : ℕ) (next : Next) → AsksNothing next → requests_by target word next ≡ []
+says_nothing target word (Wait stages.Reopening) a = refl
+says_nothing target word (Wait progress) a = absurd a
+says_nothing target word (Finish devices) a = absurd a
+says_nothing target word (Stop status why) a = refl
+
 saying : (x : Side) (target : JobTarget) (t : Turn) (m : rules.ClientView) (decoded : DecodedReply) → x.job.task ≡ task_of target.task → AskedAt target decoded t.next t.notes → HearsIn x target.task t m m.stage decoded
     → Saying target t.notes.word x.job t.next m decoded
-saying x target t m Before e a h = ap (λ (next : Next). requests_by target t.notes.word next) a
+saying x target t m Before e a h = says_nothing target t.notes.word t.next a
 saying x target t m (Says answer) e a h = next_asks x target t.next t.notes (hear_in m.stage x.job m answer) e a h.1
 saying x target t m Demands e a h = next_asks x target t.next t.notes (client_refusing m) e a h.1
 

@@ -90,7 +90,4 @@ gets_show x notes m n left kind size r e a f k = awry_ends x tasks.Show notes m 
 pub gets_reply : (x : Side) (task : Task) (notes : Notes) (m : rules.ClientView) (n : ℕ) (left : List ℕ) (kind : Kind) (size : ℕ) (r : Reply) → shows task ≡ true → values_wanted_from 0 notes.known ≡ n ∷ left → AreFilled notes.known → FilesAs x m
     → KnowsAs task x.pages notes m → Hears x task (was_got notes n kind r) m (rules.Getting n left) (decoded_reply_at x.place (stages.Getting n kind size) r)
 gets_reply x tasks.Show notes m n left kind size r s e a f k = gets_show x notes m n left kind size r e a f k
-gets_reply x tasks.List notes m n left kind size r s e a f k = absurd (let clash : false ≡ true = s in cc)
-gets_reply x tasks.SetOnly notes m n left kind size r s e a f k = absurd (let clash : false ≡ true = s in cc)
-gets_reply x tasks.Scan notes m n left kind size r s e a f k = absurd (let clash : false ≡ true = s in cc)
-gets_reply x (tasks.Batch count) notes m n left kind size r s e a f k = absurd (let clash : false ≡ true = s in cc)
+gets_reply x task notes m n left kind size r s e a f k = absurd (let clash : false ≡ true = s in cc)

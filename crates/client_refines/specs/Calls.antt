@@ -1,5 +1,5 @@
--- The calls of a client that hear nothing, as their contracts tell them: it is made, it is cancelled, a link is lost, and the data
--- connection is made.
+-- The calls of a client that hear nothing, as their contracts tell them: it is made, it is cancelled, a link is lost,
+-- and the data connection is made.
 use Rattle.std.specs.Prelude.{ℕ, ◌≡◌, true, Some, List, [], ◌∷◌, ◌++◌, map}
 use Rattle.sane_fixed.specs.declared.status.Status.TheVariants as statuses
 use Rattle.sane_fixed.specs.declared.device_info.DeviceInfo.{DeviceInfo}
@@ -26,27 +26,42 @@ use Rattle.client_refines.specs.PieceRefinement.{SpellsSent}
 -- a client that is made for a job asks for its greeting
 abbrev pub NewClientsAreAlike : Type 0
 NewClientsAreAlike =
-    (place : DeviceInfo → ℕ) (wanted : Job) (job : rules.AbstractJob) (new : ClientState) → map requested_setting wanted.settings.items ≡ job.settings → IsNewClient wanted new
-    → ClientRefines place (target_of wanted) job [] (protocol_of new empty_history) (rules.with_progress rules.Greeting rules.initial_client) × SpellsSent (target_of wanted) new.out (asks_of 0 [] (words.Init ∷ []))
+    (place : DeviceInfo → ℕ) (wanted : Job) (job : rules.AbstractJob) (new : ClientState)
+    → map requested_setting wanted.settings.items ≡ job.settings → IsNewClient wanted new
+    → ClientRefines place (target_of wanted) job [] (protocol_of new empty_history)
+    (rules.with_progress rules.Greeting rules.initial_client)
+    × SpellsSent (target_of wanted) new.out (asks_of 0 [] (words.Init ∷ []))
 
 -- a cancel ends a job that runs, and says farewell
 abbrev pub CancelsAreAlike : Type 0
 CancelsAreAlike =
-    (place : DeviceInfo → ℕ) (job : rules.AbstractJob) (pages : List (List Frame)) (old new : ClientState) (past : JoinHistory) (m : rules.ClientView)
-    → is_running old.outcome ≡ true → new ≡ record (after_client_end statuses.Cancelled whys.Cancelled old) { out = new.out } → behind old.out (requests_text (farewell old.notes.word old.progress)) ≡ Some new.out
+    (place : DeviceInfo → ℕ) (job : rules.AbstractJob) (pages : List (List Frame)) (old new : ClientState)
+    (past : JoinHistory) (m : rules.ClientView)
+    → is_running old.outcome ≡ true
+    → new ≡ record (after_client_end statuses.Cancelled whys.Cancelled old) { out = new.out }
+    → behind old.out (requests_text (farewell old.notes.word old.progress)) ≡ Some new.out
     → ClientRefines place old.target job pages (protocol_of old past) m
-    → (sent : List ℕ) × (new.out ≡ old.out ++ sent) × SpellsSent old.target sent (asks_of old.notes.word m.known (rules.abstract_farewell m.stage))
-    × ClientRefines place old.target job pages (protocol_of new past) (client_after_stop words.GivenUp words.Cancelled m)
+    → (sent : List ℕ) × (new.out ≡ old.out ++ sent)
+    × SpellsSent old.target sent (asks_of old.notes.word m.known (rules.abstract_farewell m.stage))
+    × ClientRefines place old.target job pages (protocol_of new past)
+    (client_after_stop words.GivenUp words.Cancelled m)
 
 -- a link that counts is lost
 abbrev pub LossesAreAlike : Type 0
 LossesAreAlike =
-    (place : DeviceInfo → ℕ) (job : rules.AbstractJob) (pages : List (List Frame)) (old : ClientState) (link : Link) (past : JoinHistory) (m : rules.ClientView)
-    → is_lost_by link old.outcome old.progress ≡ true → ClientRefines place old.target job pages (protocol_of old past) m
-    → ClientRefines place old.target job pages (protocol_of (after_client_end statuses.IoError whys.Lost old) past) (client_after_stop words.IoError words.Lost m)
+    (place : DeviceInfo → ℕ) (job : rules.AbstractJob) (pages : List (List Frame)) (old : ClientState) (link : Link)
+    (past : JoinHistory) (m : rules.ClientView)
+    → is_lost_by link old.outcome old.progress ≡ true
+    → ClientRefines place old.target job pages (protocol_of old past) m
+    → ClientRefines place old.target job pages (protocol_of (after_client_end statuses.IoError whys.Lost old) past)
+    (client_after_stop words.IoError words.Lost m)
 
 -- the data connection is made
 abbrev pub ConnectionsAreUnseen : Type 0
 ConnectionsAreUnseen =
-    (place : DeviceInfo → ℕ) (job : rules.AbstractJob) (pages : List (List Frame)) (old : ClientState) (past : JoinHistory) (m : rules.ClientView) → ClientRefines place old.target job pages (protocol_of old past) m
-    → ClientRefines place old.target job pages (protocol_of (record old { progress = progress_connected old.progress; phase = phase_connected old.progress old.phase }) past) m
+    (place : DeviceInfo → ℕ) (job : rules.AbstractJob) (pages : List (List Frame)) (old : ClientState)
+    (past : JoinHistory) (m : rules.ClientView) → ClientRefines place old.target job pages (protocol_of old past) m
+    → ClientRefines place old.target job pages
+    (protocol_of
+    (record old { progress = progress_connected old.progress; phase = phase_connected old.progress old.phase }) past)
+    m

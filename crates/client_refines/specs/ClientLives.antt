@@ -24,12 +24,21 @@ use Rattle.scan_job.specs.declared.report.Reports.{Reports}
 -- **begun, stopped (`initial_protocol`, `stopped_by`), outcomes alike (`EndAlike`)**: a new client; a job that runs and
 -- ends by no message; the job runs, is done or has ended for both, with the same reports, status and why.
 abbrev pub initial_protocol : List (List ℕ × List ℕ) → ProtocolState
-initial_protocol settings = record { outcome = Running; progress = stages.Greeting; notes = record { word = 0; left = settings; reports = []; known = []; file = 1 }; history = empty_history }
+initial_protocol settings =
+    record {
+      outcome = Running;
+      progress = stages.Greeting;
+      notes =
+          record { word = 0; left = settings; reports = []; known = []; file = 1 };
+      history = empty_history;
+    }
 
 abbrev pub ClientsBeginAlike : Type 0
 ClientsBeginAlike =
-    (place : DeviceInfo → ℕ) (target : JobTarget) (job : rules.AbstractJob) (settings : List (List ℕ × List ℕ)) → map requested_setting settings ≡ job.settings
-    → ClientRefines place target job [] (initial_protocol settings) (rules.with_progress rules.Greeting rules.initial_client)
+    (place : DeviceInfo → ℕ) (target : JobTarget) (job : rules.AbstractJob) (settings : List (List ℕ × List ℕ))
+    → map requested_setting settings ≡ job.settings
+    → ClientRefines place target job [] (initial_protocol settings)
+    (rules.with_progress rules.Greeting rules.initial_client)
 
 -- a job that runs ends so; another keeps its outcome
 abbrev pub stopped_by : Status → Why → ProtocolState → Outcome → ProtocolState
@@ -39,29 +48,37 @@ stopped_by status why protocol (Ended earlier reason) = protocol
 
 abbrev pub JobsStopAlike : Type 0
 JobsStopAlike =
-    (place : DeviceInfo → ℕ) (target : JobTarget) (job : rules.AbstractJob) (pages : List (List Frame)) (protocol : ProtocolState) (m : rules.ClientView) (status : Status) (why : Why) (w : words.Why)
-    → why_of why ≡ Some w → ClientRefines place target job pages protocol m → ClientRefines place target job pages (stopped_by status why protocol protocol.outcome) (client_after_stop (abstract_status status) w m)
+    (place : DeviceInfo → ℕ) (target : JobTarget) (job : rules.AbstractJob) (pages : List (List Frame))
+    (protocol : ProtocolState) (m : rules.ClientView) (status : Status) (why : Why) (w : words.Why)
+    → why_of why ≡ Some w → ClientRefines place target job pages protocol m
+    → ClientRefines place target job pages (stopped_by status why protocol protocol.outcome)
+    (client_after_stop (abstract_status status) w m)
 
 -- ---- what no rule speaks of: bytes of the file that are taken, and the image connection at the client
 
 abbrev pub PullsAndLinksAreUnseen : Type 0
 PullsAndLinksAreUnseen =
-    (place : DeviceInfo → ℕ) (target : JobTarget) (job : rules.AbstractJob) (pages : List (List Frame)) (protocol : ProtocolState) (m : rules.ClientView) (bytes : List ℕ) → ClientRefines place target job pages protocol m
-    → ClientRefines place target job pages (record protocol { history = after_pull bytes protocol.history }) m × ClientRefines place target job pages (record protocol { progress = progress_connected protocol.progress }) m
+    (place : DeviceInfo → ℕ) (target : JobTarget) (job : rules.AbstractJob) (pages : List (List Frame))
+    (protocol : ProtocolState) (m : rules.ClientView) (bytes : List ℕ)
+    → ClientRefines place target job pages protocol m
+    → ClientRefines place target job pages (record protocol { history = after_pull bytes protocol.history }) m
+    × ClientRefines place target job pages (record protocol { progress = progress_connected protocol.progress }) m
 
 -- ---- outcomes
 
--- The job runs, is done or has ended for the client just where it does for the client view: done with the same reports, ended with the same
--- status and why.
+-- The job runs, is done or has ended for the client just where it does for the client view: done with the same reports,
+-- ended with the same status and why.
 pub record EndAlike (place : DeviceInfo → ℕ) (task : Task) (outcome : Outcome) (m : rules.ClientView) : Type 0 where
   pub runs : outcome ≡ Running → (progress : rules.AbstractProgress) × (m.stage ≡ rules.Running progress)
   pub done : (reports : Reports) → outcome ≡ Done reports → DoneAs place task reports m
   pub ended : (status : Status) (why : Why) → outcome ≡ Ended status why → EndedAs status why m
   pub runs_by : (progress : rules.AbstractProgress) → m.stage ≡ rules.Running progress → outcome ≡ Running
   pub done_by : m.stage ≡ rules.Done → (reports : Reports) × (outcome ≡ Done reports)
-  pub ended_by : (status : words.Status) (why : words.Why) → m.stage ≡ rules.Ended status why → (s : Status) × (w : Why) × (outcome ≡ Ended s w) × (abstract_status s ≡ status) × (why_of w ≡ Some why)
+  pub ended_by : (status : words.Status) (why : words.Why) → m.stage ≡ rules.Ended status why
+      → (s : Status) × (w : Why) × (outcome ≡ Ended s w) × (abstract_status s ≡ status) × (why_of w ≡ Some why)
 
 abbrev pub OutcomesAreAlike : Type 0
 OutcomesAreAlike =
-    (place : DeviceInfo → ℕ) (target : JobTarget) (job : rules.AbstractJob) (pages : List (List Frame)) (protocol : ProtocolState) (m : rules.ClientView) → ClientRefines place target job pages protocol m
+    (place : DeviceInfo → ℕ) (target : JobTarget) (job : rules.AbstractJob) (pages : List (List Frame))
+    (protocol : ProtocolState) (m : rules.ClientView) → ClientRefines place target job pages protocol m
     → EndAlike place target.task protocol.outcome m

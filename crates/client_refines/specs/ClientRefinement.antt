@@ -1,5 +1,6 @@
 -- How a client refines one of the system model.
-use Rattle.std.specs.Prelude.{slice_get, ℕ, ◌≡◌, ◌-◌, ◌≤◌, suc, ◌+◌, Bool, true, false, if◌then◌else◌, Option, Some, None, List, [], ◌∷◌, ◌++◌, map, length, nat_lt}
+use Rattle.std.specs.Prelude.{slice_get, ℕ, ◌≡◌, ◌-◌, ◌≤◌, suc, ◌+◌, Bool, true, false, if◌then◌else◌, Option, Some}
+use Rattle.std.specs.Prelude.{None, List, [], ◌∷◌, ◌++◌, map, length, nat_lt}
 use Rattle.sane_fixed.specs.declared.params.Params.{Params}
 use Rattle.sane_fixed.specs.declared.status.Status.{Status}
 use Rattle.sane_fixed.specs.declared.kind.Kind.{Kind}
@@ -77,7 +78,8 @@ OnlyReadableHaveValues (o ∷ more) = (tells_value o.0 ≡ false → o.1 ≡ Non
 -- the numbers of the options whose values are still to be asked for
 abbrev pub values_wanted_from : ℕ → List (Descriptor × Option Value) → List ℕ
 values_wanted_from k [] = []
-values_wanted_from k (o ∷ more) = if wants_value o then k ∷ values_wanted_from (k + 1) more else values_wanted_from (k + 1) more
+values_wanted_from k (o ∷ more) =
+    if wants_value o then k ∷ values_wanted_from (k + 1) more else values_wanted_from (k + 1) more
 
 -- behind the first of them no value was told
 abbrev pub Behind : Bool → Type 0 → Type 0 → Type 0
@@ -96,7 +98,8 @@ abbrev pub wholes : List Frame → List (List Frame)
 wholes frames = if is_joined frames then frames ∷ [] else []
 
 -- `pages` are those whose join is no more
-pub record Files (pages : List (List Frame)) (past : JoinHistory) (frames : List Frame) (files : List (List Frame)) : Type 0 where
+pub record Files (pages : List (List Frame)) (past : JoinHistory) (frames : List Frame)
+    (files : List (List Frame)) : Type 0 where
   pub part : frames ≡ parts past.ended
   pub all : files ≡ pages ++ wholes past.ended
 
@@ -106,10 +109,12 @@ is_nil (f ∷ more) = false
 
 -- ---- a job that runs
 
--- **what both know (`Knows`), wait for (`WaitsAs`)**: reports alike in name, asked, given and info; the descriptors, and
--- the values told so far, each at an option whose value is to be told (`OnlyReadableHaveValues`); at most 1,024 options;
--- the number of the file. For each thing that the client may wait for the model's own, with what is still to come.
-pub record Knows (task : Task) (pages : List (List Frame)) (puts : List Report) (options : List (Descriptor × Option Value)) (file : ℕ)
+-- **what both know (`Knows`), wait for (`WaitsAs`)**: reports alike in name, asked, given and info; the descriptors,
+-- and the values told so far, each at an option whose value is to be told (`OnlyReadableHaveValues`); at most 1,024
+-- options; the number of the file. For each thing that the client may wait for the model's own, with what is still to
+-- come.
+pub record Knows (task : Task) (pages : List (List Frame)) (puts : List Report)
+    (options : List (Descriptor × Option Value)) (file : ℕ)
     (reports : List words.Report) (devices : List ℕ) (known : List Descriptor) (values : List Value) : Type 0 where
   pub answers : map common_abstract_report reports ≡ map common_report puts
   pub none : devices ≡ []
@@ -143,18 +148,26 @@ WaitsAs job stages.Greeting notes past m = (m.stage ≡ rules.Running rules.Gree
 WaitsAs job stages.Listing notes past m = (m.stage ≡ rules.Running rules.Listing) × NoSettingPut job notes m
 WaitsAs job stages.Opening notes past m = (m.stage ≡ rules.Running rules.Opening) × NoSettingPut job notes m
 WaitsAs job (stages.Allowing resource answer) notes past m =
-    ((challenge : words.Challenge) × ((m.stage ≡ rules.Running (rules.Allowing challenge)) × (resource ≡ challenge))) × NoSettingPut job notes m
-WaitsAs job stages.Reopening notes past m = ((challenge : words.Challenge) × (m.stage ≡ rules.Running (rules.Allowing challenge))) × NoSettingPut job notes m
-WaitsAs job stages.Describing notes past m = (m.stage ≡ rules.Running (rules.Describing (map requested_setting notes.left))) × Early notes m
+    ((challenge : words.Challenge) × ((m.stage ≡ rules.Running (rules.Allowing challenge)) × (resource ≡ challenge)))
+    × NoSettingPut job notes m
+WaitsAs job stages.Reopening notes past m =
+    ((challenge : words.Challenge) × (m.stage ≡ rules.Running (rules.Allowing challenge))) × NoSettingPut job notes m
+WaitsAs job stages.Describing notes past m =
+    (m.stage ≡ rules.Running (rules.Describing (map requested_setting notes.left))) × Early notes m
 WaitsAs job (stages.Putting n kind name asked) notes past m =
-    ((requested : words.RequestedSetting) × ((m.stage ≡ rules.Running (rules.Putting n asked requested (map requested_setting notes.left))) × (requested.name ≡ name))) × Early notes m
+    ((requested : words.RequestedSetting)
+    × ((m.stage ≡ rules.Running (rules.Putting n asked requested (map requested_setting notes.left)))
+    × (requested.name ≡ name))) × Early notes m
 WaitsAs job (stages.Getting n kind size) notes past m =
-    ((left : List ℕ) × ((m.stage ≡ rules.Running (rules.Getting n left)) × (values_wanted_from 0 notes.known ≡ n ∷ left))) × AreFilled notes.known
+    ((left : List ℕ)
+    × ((m.stage ≡ rules.Running (rules.Getting n left)) × (values_wanted_from 0 notes.known ≡ n ∷ left)))
+    × AreFilled notes.known
 WaitsAs job (stages.Starting first) notes past m = (m.stage ≡ rules.Running rules.Starting) × (first ≡ is_nil m.frames)
 WaitsAs job (stages.Shaping port order) notes past m = (m.stage ≡ rules.Running rules.Shaping) × (m.order ≡ order)
 WaitsAs job (stages.Imaging port made) notes past m = FrameIsShared past m
 -- the model asks for the next page at the end of the one before
-WaitsAs job stages.Turning notes past m = (m.stage ≡ rules.Running rules.Starting) × (nat_lt notes.file 4294967295 ≡ true)
+WaitsAs job stages.Turning notes past m = (m.stage ≡ rules.Running rules.Starting)
+    × (nat_lt notes.file 4294967295 ≡ true)
 WaitsAs job stages.Over notes past m = ⊥
 
 -- what the client asked for is of the option of that number, as it was told
@@ -182,7 +195,8 @@ IsApt target progress notes = Unit {0}
 -- ---- a job that is over
 
 abbrev pub ShowRefines : Bool → List (Descriptor × Option Value) → rules.ClientView → Type 0
-ShowRefines true options m = (m.known ≡ descs options) × (m.values ≡ known_values options) × OnlyReadableHaveValues options
+ShowRefines true options m = (m.known ≡ descs options) × (m.values ≡ known_values options)
+    × OnlyReadableHaveValues options
 ShowRefines false options m = Unit {0}
 
 pub record DoneAs (place : DeviceInfo → ℕ) (task : Task) (reports : Reports) (m : rules.ClientView) : Type 0 where
@@ -196,15 +210,19 @@ EndedAs status why m = (w : words.Why) × ((why_of why ≡ Some w) × (m.stage �
 
 -- ---- the reading
 
-abbrev pub OutcomeRefines : (DeviceInfo → ℕ) → JobTarget → rules.AbstractJob → List (List Frame) → Outcome → Progress → Notes → JoinHistory → rules.ClientView → Type 0
-OutcomeRefines place target job pages Running progress notes past m = KnowsAs target.task pages notes m × WaitsAs job progress notes past m × IsApt target progress notes
+abbrev pub OutcomeRefines : (DeviceInfo → ℕ) → JobTarget → rules.AbstractJob → List (List Frame) → Outcome → Progress
+    → Notes → JoinHistory → rules.ClientView → Type 0
+OutcomeRefines place target job pages Running progress notes past m = KnowsAs target.task pages notes m
+    × WaitsAs job progress notes past m × IsApt target progress notes
 OutcomeRefines place target job pages (Done reports) progress notes past m = DoneAs place target.task reports m
 OutcomeRefines place target job pages (Ended status why) progress notes past m = EndedAs status why m
 
--- **refines (`ClientRefines`)**: a protocol state of the client refines a client view of the model: the files (`Files`: the
--- frames of the page under way, and of the pages before it, whose join may be gone), and, where the job runs, what both
--- know and what both wait for; where it is done, the reports, the devices, the options shown; where it ended, status and
--- why. It is a relation: the model keeps the texts of settings, the client ports, kinds and its device word.
-pub record ClientRefines (place : DeviceInfo → ℕ) (target : JobTarget) (job : rules.AbstractJob) (pages : List (List Frame)) (protocol : ProtocolState) (m : rules.ClientView) : Type 0 where
+-- **refines (`ClientRefines`)**: a protocol state of the client refines a client view of the model: the files (`Files`:
+-- the frames of the page under way, and of the pages before it, whose join may be gone), and, where the job runs, what
+-- both know and what both wait for; where it is done, the reports, the devices, the options shown; where it ended,
+-- status and why. It is a relation: the model keeps the texts of settings, the client ports, kinds and its device word.
+pub record ClientRefines (place : DeviceInfo → ℕ) (target : JobTarget) (job : rules.AbstractJob)
+    (pages : List (List Frame)) (protocol : ProtocolState) (m : rules.ClientView) : Type 0 where
   pub files : Files pages protocol.history m.frames m.pages
-  pub stands : OutcomeRefines place target job pages protocol.outcome protocol.progress protocol.notes protocol.history m
+  pub stands
+      : OutcomeRefines place target job pages protocol.outcome protocol.progress protocol.notes protocol.history m

@@ -18,8 +18,9 @@ use Rattle.system_model.specs.AbstractMessages as words
 use Rattle.system_model.specs.Devices.{abstract_status, abstract_info}
 
 -- **decoded reply (`DecodedReply`, `decoded_reply_at`)**: what a reply of the wire is to the model, by what the client
--- waits for: an answer; the word of AUTHORIZE, that goes before one; or that the password itself is asked for, for which
--- they have no word. A reply of another shape than what is awaited, or while none is, is an answer to what nobody asked.
+-- waits for: an answer; the word of AUTHORIZE, that goes before one; or that the password itself is asked for, for
+-- which they have no word. A reply of another shape than what is awaited, or while none is, is an answer to what nobody
+-- asked.
 pub data DecodedReply : Type 0 where
   Before : DecodedReply
   Says : (answer : words.AbstractReply) → DecodedReply
@@ -58,7 +59,8 @@ got_or_acked (Some value) = words.Got value
 abbrev pub decoded_reply_at : (DeviceInfo → ℕ) → Progress → Reply → DecodedReply
 decoded_reply_at place stages.Greeting (replies.Init status version) = reply_if_good status words.Greeted
 decoded_reply_at place stages.Greeting reply = mismatched_reply
-decoded_reply_at place stages.Listing (replies.GetDevices status devices) = reply_if_good status (words.Listed (map place devices))
+decoded_reply_at place stages.Listing (replies.GetDevices status devices) =
+    reply_if_good status (words.Listed (map place devices))
 decoded_reply_at place stages.Listing reply = mismatched_reply
 decoded_reply_at place stages.Opening (replies.Open status word resource) = opened_reply status resource
 decoded_reply_at place stages.Opening reply = mismatched_reply
@@ -68,13 +70,19 @@ decoded_reply_at place stages.Reopening (replies.Open status word resource) = op
 decoded_reply_at place stages.Reopening reply = mismatched_reply
 decoded_reply_at place stages.Describing (replies.GetOptionDescriptors descriptors) = Says (words.Described descriptors)
 decoded_reply_at place stages.Describing reply = mismatched_reply
-decoded_reply_at place (stages.Putting n kind name asked) (replies.ControlOption status info given value resource) = reply_without_resource resource (reply_if_good status (gave_or_acked (of_kind kind given (given_like asked value)) info))
+decoded_reply_at place (stages.Putting n kind name asked) (replies.ControlOption status info given value resource) =
+    reply_without_resource resource
+    (reply_if_good status (gave_or_acked (of_kind kind given (given_like asked value)) info))
 decoded_reply_at place (stages.Putting n kind name asked) reply = mismatched_reply
-decoded_reply_at place (stages.Getting n kind size) (replies.ControlOption status info given value resource) = reply_without_resource resource (reply_if_good status (got_or_acked (of_kind kind given (wire_value_in kind value))))
+decoded_reply_at place (stages.Getting n kind size) (replies.ControlOption status info given value resource) =
+    reply_without_resource resource
+    (reply_if_good status (got_or_acked (of_kind kind given (wire_value_in kind value))))
 decoded_reply_at place (stages.Getting n kind size) reply = mismatched_reply
-decoded_reply_at place (stages.Starting first) (replies.Start status port order resource) = reply_without_resource resource (reply_if_good status (words.Begun order))
+decoded_reply_at place (stages.Starting first) (replies.Start status port order resource) =
+    reply_without_resource resource (reply_if_good status (words.Begun order))
 decoded_reply_at place (stages.Starting first) reply = mismatched_reply
-decoded_reply_at place (stages.Shaping port order) (replies.GetParameters status params) = reply_if_good status (words.Shaped params)
+decoded_reply_at place (stages.Shaping port order) (replies.GetParameters status params) =
+    reply_if_good status (words.Shaped params)
 decoded_reply_at place (stages.Shaping port order) reply = mismatched_reply
 decoded_reply_at place progress reply = mismatched_reply
 

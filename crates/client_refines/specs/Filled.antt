@@ -11,4 +11,5 @@ shown_at make in_force n desc = (desc, if is_readable desc then Some (readable_v
 -- **filled (`IsFilled`)**: at each number the descriptor of that option, with its value where that is told, and nothing
 -- behind the last.
 abbrev pub IsFilled : Make → OptionsInForce → List Descriptor → List (Descriptor × Option Value) → Type 0
-IsFilled make in_force descriptors options = (n : ℕ) → slice_get options n ≡ option_map (shown_at make in_force n) (slice_get descriptors n)
+IsFilled make in_force descriptors options = (n : ℕ)
+    → slice_get options n ≡ option_map (shown_at make in_force n) (slice_get descriptors n)

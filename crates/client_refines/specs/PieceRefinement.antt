@@ -1,5 +1,5 @@
--- The same for what the contracts of a client's calls tell: the replies of a piece, what came of a data connection, and what the
--- calls send.
+-- The same for what the contracts of a client's calls tell: the replies of a piece, what came of a data connection, and
+-- what the calls send.
 use Rattle.std.specs.Prelude.{ℕ, ◌≡◌, Option, Some, None, true, List, [], ◌∷◌, ◌++◌}
 use Rattle.sane_fixed.specs.declared.status.Status.{Status}
 use Rattle.sane_fixed.specs.declared.status.Status.TheVariants as statuses
@@ -42,8 +42,10 @@ pub record SpellsSent (target : JobTarget) (sent : List ℕ) (asks : List Expect
 
 -- the START of a further page goes out as the page's file is taken
 abbrev pub SpellsSentAt : JobTarget → ℕ → Progress → List ℕ → rules.AbstractJob → rules.ClientView → Type 0
-SpellsSentAt target word stages.Turning sent job m = (sent ≡ []) × (rules.requests_sent job.task m.stage ≡ words.Start ∷ [])
-SpellsSentAt target word progress sent job m = SpellsSent target sent (asks_of word m.known (rules.requests_sent job.task m.stage))
+SpellsSentAt target word stages.Turning sent job m = (sent ≡ [])
+    × (rules.requests_sent job.task m.stage ≡ words.Start ∷ [])
+SpellsSentAt target word progress sent job m =
+    SpellsSent target sent (asks_of word m.known (rules.requests_sent job.task m.stage))
 
 -- ---- the replies of a piece
 
@@ -54,7 +56,8 @@ pub record ListeningClient : Type 0 where
 
 -- it comes to know that, and asks for what it waits for then, as the client has that device word
 abbrev pub listening_after : rules.AbstractJob → ℕ → ListeningClient → rules.ClientView → ListeningClient
-listening_after job word h m = record { client = m; asks = h.asks ++ asks_of word m.known (rules.requests_sent job.task m.stage) }
+listening_after job word h m =
+    record { client = m; asks = h.asks ++ asks_of word m.known (rules.requests_sent job.task m.stage) }
 
 -- what is so of it once it has heard that
 abbrev pub Hearing : rules.AbstractJob → ℕ → ListeningClient → DecodedReply → (ListeningClient → Type 0) → Type 0
@@ -62,44 +65,57 @@ Hearing job word h Before Holds = Holds h
 Hearing job word h (Says answer) Holds = Holds (listening_after job word h (hear_in h.client.stage job h.client answer))
 Hearing job word h Demands Holds = Holds (listening_after job word h (client_refusing h.client))
 
--- **what a call hears and comes to (`HearingAll`, `HeedsAs`, `ReceivesPiece`, `TakesAs`)**: the client view goes from reply
--- to reply, and what it asks for each time is laid up; by the case of the client's contract how the client reads then, and
--- what was sent: of a piece of the control connection, of a data connection, and as a page's file is taken.
+-- **what a call hears and comes to (`HearingAll`, `HeedsAs`, `ReceivesPiece`, `TakesAs`)**: the client view goes from
+-- reply to reply, and what it asks for each time is laid up; by the case of the client's contract how the client reads
+-- then, and what was sent: of a piece of the control connection, of a data connection, and as a page's file is taken.
 --
 -- what is so of it once it has heard these, one after another
-abbrev pub HearingAll : (DeviceInfo → ℕ) → JobTarget → rules.AbstractJob → ProtocolState → List Reply → (ListeningClient → Type 0) → ListeningClient → Type 0
+abbrev pub HearingAll : (DeviceInfo → ℕ) → JobTarget → rules.AbstractJob → ProtocolState → List Reply
+    → (ListeningClient → Type 0) → ListeningClient → Type 0
 HearingAll place target job t [] Holds h = Holds h
 HearingAll place target job t (r ∷ rs) Holds h =
-    Hearing job (after_reply target t r).notes.word h (decoded_reply_at place t.progress r) (λ n. HearingAll place target job (after_reply target t r) rs Holds n)
+    Hearing job (after_reply target t r).notes.word h (decoded_reply_at place t.progress r) (λ n.
+    HearingAll place target job (after_reply target t r) rs Holds n)
 
 -- the client reads so, and what it has sent is what the client view has asked for
-pub record ListeningRefines (place : DeviceInfo → ℕ) (target : JobTarget) (job : rules.AbstractJob) (pages : List (List Frame)) (protocol : ProtocolState) (m : rules.ClientView) (sent : List ℕ) (asks : List ExpectedRequest) : Type 0 where
+pub record ListeningRefines (place : DeviceInfo → ℕ) (target : JobTarget) (job : rules.AbstractJob)
+    (pages : List (List Frame)) (protocol : ProtocolState) (m : rules.ClientView) (sent : List ℕ)
+    (asks : List ExpectedRequest) : Type 0 where
   pub reads : ClientRefines place target job pages protocol m
   pub spells : SpellsSent target sent asks
 
 abbrev pub new_listening_client : rules.ClientView → ListeningClient
 new_listening_client m = record { client = m; asks = [] }
 
--- What is so as a call ends: the replies were heard, and then the job has ended, where what comes next is none, or where memory runs
--- out.
-abbrev pub HeedsAs : (DeviceInfo → ℕ) → rules.AbstractJob → List (List Frame) → rules.ClientView → (old : ClientState) → (past : JoinHistory) → (piece : List ℕ) → (new : ClientState) → Heeds old past piece new → Type 0
+-- What is so as a call ends: the replies were heard, and then the job has ended, where what comes next is none, or
+-- where memory runs out.
+abbrev pub HeedsAs : (DeviceInfo → ℕ) → rules.AbstractJob → List (List Frame) → rules.ClientView → (old : ClientState)
+    → (past : JoinHistory) → (piece : List ℕ) → (new : ClientState) → Heeds old past piece new → Type 0
 HeedsAs place job pages m old past piece new (Whole h wants) =
-    HearingAll place old.target job (protocol_of old past) h.told (λ n. ListeningRefines place old.target job pages (protocol_of new h.history_then) n.client h.sent n.asks) (new_listening_client m)
+    HearingAll place old.target job (protocol_of old past) h.told (λ n.
+    ListeningRefines place old.target job pages (protocol_of new h.history_then) n.client h.sent n.asks)
+    (new_listening_client m)
 HeedsAs place job pages m old past piece new (Garbled was h runs g) =
     HearingAll place old.target job (protocol_of old past) h.told
-    (λ n. ListeningRefines place old.target job pages (protocol_of was h.history_then) n.client h.sent n.asks × ClientRefines place old.target job pages (protocol_of new h.history_then) (client_after_stop words.IoError words.Malformed n.client))
+    (λ n. ListeningRefines place old.target job pages (protocol_of was h.history_then) n.client h.sent n.asks
+    × ClientRefines place old.target job pages (protocol_of new h.history_then)
+    (client_after_stop words.IoError words.Malformed n.client))
     (new_listening_client m)
 HeedsAs place job pages m old past piece new (OutOfMemoryBehind was h runs s) =
     HearingAll place old.target job (protocol_of old past) h.told
     (λ n. ListeningRefines place old.target job pages (protocol_of was h.history_then) n.client h.sent n.asks
-    × ClientRefines place old.target job pages (protocol_of new h.history_then) (client_after_stop words.NoMem words.Memory n.client))
+    × ClientRefines place old.target job pages (protocol_of new h.history_then)
+    (client_after_stop words.NoMem words.Memory n.client))
     (new_listening_client m)
-HeedsAs place job pages m old past piece new (OutOfMemoryAtOnce s) = ClientRefines place old.target job pages (protocol_of new past) (client_after_stop words.NoMem words.Memory m)
+HeedsAs place job pages m old past piece new (OutOfMemoryAtOnce s) =
+    ClientRefines place old.target job pages (protocol_of new past) (client_after_stop words.NoMem words.Memory m)
 
 abbrev pub PiecesAreHeardAlike : Type 0
 PiecesAreHeardAlike =
-    (place : DeviceInfo → ℕ) (job : rules.AbstractJob) (pages : List (List Frame)) (old new : ClientState) (past : JoinHistory) (piece : List ℕ) (m : rules.ClientView)
-    → job.task ≡ task_of old.target.task → is_running old.outcome ≡ true → ClientRepresents past old → ClientRefines place old.target job pages (protocol_of old past) m
+    (place : DeviceInfo → ℕ) (job : rules.AbstractJob) (pages : List (List Frame)) (old new : ClientState)
+    (past : JoinHistory) (piece : List ℕ) (m : rules.ClientView)
+    → job.task ≡ task_of old.target.task → is_running old.outcome ≡ true → ClientRepresents past old
+    → ClientRefines place old.target job pages (protocol_of old past) m
     → (heeds : Heeds old past piece new) → HeedsAs place job pages m old past piece new heeds
 
 -- ---- a data connection
@@ -112,50 +128,77 @@ pub record RecordsBring (old new : RecordPhase) (piece given : List ℕ) : Type 
   pub carries : CarriesRecords old new used given
 
 -- the client stands for that history, of which so much was given, and reads so
-pub record RefinesWithGiven (place : DeviceInfo → ℕ) (target : JobTarget) (job : rules.AbstractJob) (pages : List (List Frame)) (given : List ℕ) (past : JoinHistory) (new : ClientState) (m : rules.ClientView) : Type 0 where
+pub record RefinesWithGiven (place : DeviceInfo → ℕ) (target : JobTarget) (job : rules.AbstractJob)
+    (pages : List (List Frame)) (given : List ℕ) (past : JoinHistory) (new : ClientState)
+    (m : rules.ClientView) : Type 0 where
   pub serves : ClientRepresents past new
   pub given_is : past.given ≡ given
   pub reads : ClientRefines place target job pages (protocol_of new past) m
 
 -- an end record came: how the client reads then, and what it sends
-pub record EndRecordRefines (place : DeviceInfo → ℕ) (target : JobTarget) (job : rules.AbstractJob) (pages : List (List Frame)) (given : List ℕ) (past : JoinHistory) (new : ClientState) (m : rules.ClientView) (sent : List ℕ) : Type 0 where
+pub record EndRecordRefines (place : DeviceInfo → ℕ) (target : JobTarget) (job : rules.AbstractJob)
+    (pages : List (List Frame)) (given : List ℕ) (past : JoinHistory) (new : ClientState) (m : rules.ClientView)
+    (sent : List ℕ) : Type 0 where
   pub stands : RefinesWithGiven place target job pages given past new m
   pub spells : SpellsSentAt target new.notes.word new.progress sent job m
 
 -- a byte that is no status ends the job as malformed
-abbrev pub EndByteRefines : (DeviceInfo → ℕ) → JobTarget → rules.AbstractJob → List (List Frame) → List ℕ → JoinHistory → ClientState → rules.ClientView → List ℕ → Option Status → Type 0
-EndByteRefines place target job pages given past new m sent None = RefinesWithGiven place target job pages given past new (client_after_stop words.IoError words.Malformed m) × (sent ≡ [])
-EndByteRefines place target job pages given past new m sent (Some status) = EndRecordRefines place target job pages given past new (finish_in m.stage job.task m (abstract_status status)) sent
+abbrev pub EndByteRefines : (DeviceInfo → ℕ) → JobTarget → rules.AbstractJob → List (List Frame) → List ℕ → JoinHistory
+    → ClientState → rules.ClientView → List ℕ → Option Status → Type 0
+EndByteRefines place target job pages given past new m sent None =
+    RefinesWithGiven place target job pages given past new (client_after_stop words.IoError words.Malformed m)
+    × (sent ≡ [])
+EndByteRefines place target job pages given past new m sent (Some status) =
+    EndRecordRefines place target job pages given past new (finish_in m.stage job.task m (abstract_status status)) sent
 
--- What comes of a piece: bytes of the frame, and of these more than it may have, behind which no more is read; an end behind them; or
--- out of memory behind a front of them. Of the file nothing more is given.
-pub data ReceivesPiece (place : DeviceInfo → ℕ) (job : rules.AbstractJob) (pages : List (List Frame)) (m : rules.ClientView) (old : ClientState) (was : JoinHistory) (piece : List ℕ) (new : ClientState) : Type 0 where
-  Goes : (given : List ℕ) (past : JoinHistory) → CarriesRecords old.phase new.phase piece given → new ≡ record old { phase = new.phase; join = new.join } → (HasEnded new.phase → ⊥)
-      → RefinesWithGiven place old.target job pages was.given past new (client_after_bytes m.stage m given) → ReceivesPiece place job pages m old was piece new
-  Overflows : (given : List ℕ) (past : JoinHistory) → RecordsBring old.phase new.phase piece given → new.out ≡ old.out → new.outcome ≡ Ended statuses.IoError whys.Long
-      → RefinesWithGiven place old.target job pages was.given past new (client_after_bytes m.stage m given) → ReceivesPiece place job pages m old was piece new
-  Ends : (given : List ℕ) (n : ℕ) (past : JoinHistory) (sent : List ℕ) → RecordsBring old.phase (phases.Ended n) piece given → new.out ≡ old.out ++ sent
-      → EndByteRefines place old.target job pages was.given past new (client_after_bytes m.stage m given) sent (status_at n) → ReceivesPiece place job pages m old was piece new
-  Starves : (given more : List ℕ) (phase : RecordPhase) (past : JoinHistory) → RecordsBring old.phase phase piece (given ++ more) → new.out ≡ old.out → new.outcome ≡ Ended statuses.NoMem whys.Memory
-      → RefinesWithGiven place old.target job pages was.given past new (client_after_stop words.NoMem words.Memory (client_after_bytes m.stage m given)) → ReceivesPiece place job pages m old was piece new
+-- What comes of a piece: bytes of the frame, and of these more than it may have, behind which no more is read; an end
+-- behind them; or out of memory behind a front of them. Of the file nothing more is given.
+pub data ReceivesPiece (place : DeviceInfo → ℕ) (job : rules.AbstractJob) (pages : List (List Frame))
+    (m : rules.ClientView) (old : ClientState) (was : JoinHistory) (piece : List ℕ) (new : ClientState) : Type 0 where
+  Goes : (given : List ℕ) (past : JoinHistory) → CarriesRecords old.phase new.phase piece given
+      → new ≡ record old { phase = new.phase; join = new.join } → (HasEnded new.phase → ⊥)
+      → RefinesWithGiven place old.target job pages was.given past new (client_after_bytes m.stage m given)
+      → ReceivesPiece place job pages m old was piece new
+  Overflows : (given : List ℕ) (past : JoinHistory) → RecordsBring old.phase new.phase piece given → new.out ≡ old.out
+      → new.outcome ≡ Ended statuses.IoError whys.Long
+      → RefinesWithGiven place old.target job pages was.given past new (client_after_bytes m.stage m given)
+      → ReceivesPiece place job pages m old was piece new
+  Ends : (given : List ℕ) (n : ℕ) (past : JoinHistory) (sent : List ℕ)
+      → RecordsBring old.phase (phases.Ended n) piece given → new.out ≡ old.out ++ sent
+      → EndByteRefines place old.target job pages was.given past new (client_after_bytes m.stage m given) sent
+      (status_at n) → ReceivesPiece place job pages m old was piece new
+  Starves : (given more : List ℕ) (phase : RecordPhase) (past : JoinHistory)
+      → RecordsBring old.phase phase piece (given ++ more) → new.out ≡ old.out
+      → new.outcome ≡ Ended statuses.NoMem whys.Memory
+      → RefinesWithGiven place old.target job pages was.given past new
+      (client_after_stop words.NoMem words.Memory (client_after_bytes m.stage m given))
+      → ReceivesPiece place job pages m old was piece new
 
 abbrev pub PiecesAreReceivedAlike : Type 0
 PiecesAreReceivedAlike =
-    (place : DeviceInfo → ℕ) (job : rules.AbstractJob) (pages : List (List Frame)) (old new : ClientState) (past : JoinHistory) (piece : List ℕ) (m : rules.ClientView)
-    → job.task ≡ task_of old.target.task → HasCount old.target.task → is_receiving old.outcome old.progress ≡ true → ClientRepresents past old → ClientRefines place old.target job pages (protocol_of old past) m
+    (place : DeviceInfo → ℕ) (job : rules.AbstractJob) (pages : List (List Frame)) (old new : ClientState)
+    (past : JoinHistory) (piece : List ℕ) (m : rules.ClientView)
+    → job.task ≡ task_of old.target.task → HasCount old.target.task → is_receiving old.outcome old.progress ≡ true
+    → ClientRepresents past old → ClientRefines place old.target job pages (protocol_of old past) m
     → Receives old past piece new → ReceivesPiece place job pages m old past piece new
 
 -- ---- the file of a page of a batch
 
--- Bytes of the file are taken, and the reading stays; behind the last of them START goes out, for which the model has asked, and the
--- page is one of those before.
-abbrev pub TakesAs : (DeviceInfo → ℕ) → rules.AbstractJob → List (List Frame) → rules.ClientView → (old : ClientState) → (past : JoinHistory) → (bytes : List ℕ) → (new : ClientState) → TakesPage old past bytes new → Type 0
-TakesAs place job pages m old past bytes new (Stays short rest serves) = (new.out ≡ old.out) × ClientRefines place old.target job pages (protocol_of new (after_pull bytes past)) m
+-- Bytes of the file are taken, and the reading stays; behind the last of them START goes out, for which the model has
+-- asked, and the page is one of those before.
+abbrev pub TakesAs : (DeviceInfo → ℕ) → rules.AbstractJob → List (List Frame) → rules.ClientView → (old : ClientState)
+    → (past : JoinHistory) → (bytes : List ℕ) → (new : ClientState) → TakesPage old past bytes new → Type 0
+TakesAs place job pages m old past bytes new (Stays short rest serves) = (new.out ≡ old.out)
+    × ClientRefines place old.target job pages (protocol_of new (after_pull bytes past)) m
 TakesAs place job pages m old past bytes new (Turns whole shows turns serves) =
-    (sent : List ℕ) × (new.out ≡ old.out ++ sent) × SpellsSent old.target sent (asks_of old.notes.word m.known (words.Start ∷ [])) × ClientRefines place old.target job (pages ++ past.ended ∷ []) (protocol_of new empty_history) m
+    (sent : List ℕ) × (new.out ≡ old.out ++ sent)
+    × SpellsSent old.target sent (asks_of old.notes.word m.known (words.Start ∷ []))
+    × ClientRefines place old.target job (pages ++ past.ended ∷ []) (protocol_of new empty_history) m
 
 abbrev pub PagesAreTakenAlike : Type 0
 PagesAreTakenAlike =
-    (place : DeviceInfo → ℕ) (job : rules.AbstractJob) (pages : List (List Frame)) (old new : ClientState) (past : JoinHistory) (bytes : List ℕ) (m : rules.ClientView)
-    → turns old.outcome old.progress ≡ true → ClientRepresents past old → ClientRefines place old.target job pages (protocol_of old past) m
+    (place : DeviceInfo → ℕ) (job : rules.AbstractJob) (pages : List (List Frame)) (old new : ClientState)
+    (past : JoinHistory) (bytes : List ℕ) (m : rules.ClientView)
+    → turns old.outcome old.progress ≡ true → ClientRepresents past old
+    → ClientRefines place old.target job pages (protocol_of old past) m
     → (takes : TakesPage old past bytes new) → TakesAs place job pages m old past bytes new takes

@@ -16,16 +16,22 @@ use Rattle.client_refines.specs.ClientRefinement.{task_of, ClientRefines}
 abbrev pub client_refusing : rules.ClientView → rules.ClientView
 client_refusing m = rules.with_ending words.AccessDenied words.Plain m
 
--- **heard (`HeardAs`), read and closed (`protocol_after_bytes`, `protocol_after_end`), turned (`protocol_of_next_page`)**:
--- how the client reads once a reply, bytes of a frame, its end record came, and once it turned to the next page.
-abbrev pub HeardAs : (DeviceInfo → ℕ) → JobTarget → rules.AbstractJob → List (List Frame) → ProtocolState → rules.ClientView → DecodedReply → Type 0
+-- **heard (`HeardAs`), read and closed (`protocol_after_bytes`, `protocol_after_end`), turned
+-- (`protocol_of_next_page`)**: how the client reads once a reply, bytes of a frame, its end record came, and once it
+-- turned to the next page.
+abbrev pub HeardAs : (DeviceInfo → ℕ) → JobTarget → rules.AbstractJob → List (List Frame) → ProtocolState
+    → rules.ClientView → DecodedReply → Type 0
 HeardAs place target job pages protocol m Before = ClientRefines place target job pages protocol m
-HeardAs place target job pages protocol m (Says answer) = ClientRefines place target job pages protocol (hear_in m.stage job m answer)
+HeardAs place target job pages protocol m (Says answer) =
+    ClientRefines place target job pages protocol (hear_in m.stage job m answer)
 HeardAs place target job pages protocol m Demands = ClientRefines place target job pages protocol (client_refusing m)
 
 -- what a reply makes of a client is what its decoded reply makes of the reading
 abbrev pub RepliesAreHeardAlike : Type 0
 RepliesAreHeardAlike =
-    (place : DeviceInfo → ℕ) (target : JobTarget) (job : rules.AbstractJob) (pages : List (List Frame)) (protocol : ProtocolState) (m : rules.ClientView) (r : Reply)
-    → job.task ≡ task_of target.task → IsShortAt protocol.progress r → protocol.outcome ≡ Running → HistoryFits target.task Running protocol.progress protocol.history → ClientRefines place target job pages protocol m
+    (place : DeviceInfo → ℕ) (target : JobTarget) (job : rules.AbstractJob) (pages : List (List Frame))
+    (protocol : ProtocolState) (m : rules.ClientView) (r : Reply)
+    → job.task ≡ task_of target.task → IsShortAt protocol.progress r → protocol.outcome ≡ Running
+    → HistoryFits target.task Running protocol.progress protocol.history
+    → ClientRefines place target job pages protocol m
     → HeardAs place target job pages (after_reply target protocol r) m (decoded_reply_at place protocol.progress r)

@@ -22,7 +22,8 @@ use Rattle.option_desc.specs.Reads.{read_value}
 use Rattle.wire_message.specs.declared.message.WireValue.{WireValue}
 
 -- a GET, of an option as the descriptors tell it, and a SET, of a value that a text reads as there
-pub record IsGet (word : ℕ) (known : List Descriptor) (n : ℕ) (device option : ℕ) (kind : Kind) (value : WireValue) : Type 0 where
+pub record IsGet (word : ℕ) (known : List Descriptor) (n : ℕ) (device option : ℕ) (kind : Kind)
+    (value : WireValue) : Type 0 where
   pub device_is : device ≡ word
   pub number : option ≡ n
   pub desc : Descriptor
@@ -30,7 +31,8 @@ pub record IsGet (word : ℕ) (known : List Descriptor) (n : ℕ) (device option
   pub kind_is : kind ≡ desc.kind
   pub value_is : value ≡ blank_value desc.kind desc.size
 
-pub record IsSet (word : ℕ) (known : List Descriptor) (n : ℕ) (request_for : Value) (device option : ℕ) (kind : Kind) (value : WireValue) : Type 0 where
+pub record IsSet (word : ℕ) (known : List Descriptor) (n : ℕ) (request_for : Value) (device option : ℕ) (kind : Kind)
+    (value : WireValue) : Type 0 where
   pub device_is : device ≡ word
   pub number : option ≡ n
   pub desc : Descriptor
@@ -41,8 +43,8 @@ pub record IsSet (word : ℕ) (known : List Descriptor) (n : ℕ) (request_for :
   pub value_is : value ≡ wire_of request_for
 
 -- **the same requests (`IsRequest`, `AreRequests`, `AsksAt`)**: which request of the wire is which of the model, for a
--- client of that target and device word that knows these descriptors; for each thing waited for, what is asked as the wait
--- begins, or later.
+-- client of that target and device word that knows these descriptors; for each thing waited for, what is asked as the
+-- wait begins, or later.
 abbrev pub IsRequest : JobTarget → ℕ → List Descriptor → Request → words.AbstractRequest → Type 0
 IsRequest target word known (requests.Init version user) words.Init = (version ≡ 16777219) × (user ≡ target.user)
 IsRequest target word known requests.GetDevices words.GetDevices = Unit {0}
@@ -50,8 +52,10 @@ IsRequest target word known (requests.Open name) words.Open = name ≡ target.de
 IsRequest target word known (requests.Authorize resource user answer) (words.Authorize challenge) =
     (resource ≡ challenge) × (user ≡ target.user) × (answer_of resource target.password ≡ Some answer)
 IsRequest target word known (requests.GetOptionDescriptors device) words.Describe = device ≡ word
-IsRequest target word known (requests.ControlOption device option actions.GetValue kind value) (words.Get n) = IsGet word known n device option kind value
-IsRequest target word known (requests.ControlOption device option actions.SetValue kind value) (words.Set n request_for) = IsSet word known n request_for device option kind value
+IsRequest target word known (requests.ControlOption device option actions.GetValue kind value) (words.Get n) =
+    IsGet word known n device option kind value
+IsRequest target word known (requests.ControlOption device option actions.SetValue kind value)
+    (words.Set n request_for) = IsSet word known n request_for device option kind value
 IsRequest target word known (requests.GetParameters device) words.Parameters = device ≡ word
 IsRequest target word known (requests.Start device) words.Start = device ≡ word
 IsRequest target word known (requests.Cancel device) words.Cancel = device ≡ word
@@ -59,8 +63,8 @@ IsRequest target word known (requests.Close device) words.Close = device ≡ wor
 IsRequest target word known requests.Exit words.Exit = Unit {0}
 IsRequest target word known q r = ⊥
 
--- **what a call spells (`ExpectedRequest`, `SpellsSent`, `SpellsSentAt`)**: what the model asks for, with the device word
--- and the descriptors of then; the bytes sent are spellings of such requests, one behind the other.
+-- **what a call spells (`ExpectedRequest`, `SpellsSent`, `SpellsSentAt`)**: what the model asks for, with the device
+-- word and the descriptors of then; the bytes sent are spellings of such requests, one behind the other.
 --
 -- what the model asks for as the client has that device word and knows these descriptors
 pub record ExpectedRequest : Type 0 where
@@ -81,19 +85,25 @@ abbrev pub request_list : Option Request → List Request
 request_list None = []
 request_list (Some q) = q ∷ []
 
--- What is asked for is asked for by both; but the reply to OPEN behind AUTHORIZE's word is asked for by AUTHORIZE, and the START of a
--- further page goes out as the page's file is taken.
+-- What is asked for is asked for by both; but the reply to OPEN behind AUTHORIZE's word is asked for by AUTHORIZE, and
+-- the START of a further page goes out as the page's file is taken.
 abbrev pub AsksAt : JobTarget → ℕ → List Descriptor → Progress → Option Request → List words.AbstractRequest → Type 0
 AsksAt target word known stages.Reopening q rs = q ≡ None
 AsksAt target word known stages.Turning q rs = (q ≡ None) × (rs ≡ words.Start ∷ [])
 AsksAt target word known progress q rs = AreRequests target (request_list q) (asks_of word known rs)
 
 pub record AsksAlike (target : JobTarget) (word : ℕ) (progress : Progress) (m : rules.ClientView) : Type 0 where
-  pub requests : AsksAt target word m.known progress (request_for target word progress) (rules.requests_sent (task_of target.task) m.stage)
+  pub requests
+      : AsksAt target word m.known progress (request_for target word progress)
+      (rules.requests_sent (task_of target.task) m.stage)
   pub farewells : AreRequests target (farewell word progress) (asks_of word m.known (rules.abstract_farewell m.stage))
 
 abbrev pub RequestsAreAlike : Type 0
 RequestsAreAlike =
-    ((target : JobTarget) (job : rules.AbstractJob) (progress : Progress) (notes : Notes) (past : JoinHistory) (m : rules.ClientView)
-    → WaitsAs job progress notes past m → IsApt target progress notes → m.known ≡ descs notes.known → AsksAlike target notes.word progress m)
-    × ((target : JobTarget) (word : ℕ) (known : List Descriptor) → AreRequests target (goodbye target.task word) (asks_of word known (rules.abstract_goodbye (task_of target.task))))
+    ((target : JobTarget) (job : rules.AbstractJob) (progress : Progress) (notes : Notes) (past : JoinHistory)
+    (m : rules.ClientView)
+    → WaitsAs job progress notes past m → IsApt target progress notes → m.known ≡ descs notes.known
+    → AsksAlike target notes.word progress m)
+    × ((target : JobTarget) (word : ℕ) (known : List Descriptor)
+    → AreRequests target (goodbye target.task word)
+    (asks_of word known (rules.abstract_goodbye (task_of target.task))))

@@ -1,2 +1,4 @@
 pub mod Begins
+pub mod TurnRows
 pub mod Fitting
+pub mod StatusNumbers

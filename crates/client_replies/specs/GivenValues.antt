@@ -1,5 +1,6 @@
 -- What a reply gives in place of a value, and what is sent where one is asked for.
-use Rattle.std.specs.Prelude.{ℕ, ℤ, ◌==◌, if◌then◌else◌, Option, Some, None, option_map, List, [], ◌∷◌, map, length, replicate, min}
+use Rattle.std.specs.Prelude.{ℕ, ℤ, ◌==◌, if◌then◌else◌, Option, Some, None, option_map, List, [], ◌∷◌, map, length}
+use Rattle.std.specs.Prelude.{replicate, min}
 use Rattle.std.specs.Int.{w32, cast_signed}
 use Rattle.sane_fixed.specs.declared.kind.Kind.{Kind}
 use Rattle.sane_fixed.specs.declared.kind.Kind.TheVariants as kinds

@@ -1,5 +1,6 @@
 -- The protocol state of a job: how it goes on by each reply, and which histories of the join fit what it waits for.
-use Rattle.std.specs.Prelude.{ℕ, ◌≡◌, ◌⊎◌, ◌+◌, nat_lt, if◌then◌else◌, ◌&&◌, ◌++◌, Bool, true, false, Option, Some, None, List, []}
+use Rattle.std.specs.Prelude.{ℕ, ◌≡◌, ◌⊎◌, ◌+◌, nat_lt, if◌then◌else◌, ◌&&◌, ◌++◌, Bool, true, false, Option, Some}
+use Rattle.std.specs.Prelude.{None, List, []}
 use Rattle.sane_fixed.specs.declared.status.Status.{Status}
 use Rattle.sane_fixed.specs.declared.status.Status.TheVariants as statuses
 use Rattle.sane_fixed.specs.declared.params.Params.{Params}
@@ -35,9 +36,9 @@ is_running (Ended status why) = false
 
 -- ---- how a job goes on
 
--- **protocol state (`ProtocolState`, `HistoryFits`)**: the outcome, what is waited for and known, and the history of the
--- join; which histories fit what is waited for: where a scan is done its frames show a picture, and a job that ended has no
--- whole file.
+-- **protocol state (`ProtocolState`, `HistoryFits`)**: the outcome, what is waited for and known, and the history of
+-- the join; which histories fit what is waited for: where a scan is done its frames show a picture, and a job that
+-- ended has no whole file.
 --
 -- The protocol state so far, and what was told to the join and given of the file under way.
 pub record ProtocolState : Type 0 where
@@ -51,7 +52,8 @@ options_shown tasks.Show known = known
 options_shown task known = []
 
 abbrev pub reports_of : Task → Notes → List DeviceInfo → Reports
-reports_of task notes devices = record { settings = notes.reports; devices = devices; options = options_shown task notes.known }
+reports_of task notes devices =
+    record { settings = notes.reports; devices = devices; options = options_shown task notes.known }
 
 abbrev pub next_outcome : Task → Notes → Next → Outcome
 next_outcome task notes (Wait progress) = Running
@@ -99,14 +101,21 @@ pub record Answer : Type 0 where
   pub history : JoinHistory
 
 abbrev pub heard_at : Progress → JobTarget → Notes → JoinHistory → Reply → Answer
-heard_at (stages.Shaping port order) target notes past reply = record { turn = turn notes (after_params_reply port order past reply).next; history = (after_params_reply port order past reply).history }
-heard_at progress target notes past reply = record { turn = turn_after_reply target progress notes reply; history = past }
+heard_at (stages.Shaping port order) target notes past reply =
+    record {
+      turn = turn notes (after_params_reply port order past reply).next;
+      history =
+          (after_params_reply port order past reply).history;
+    }
+heard_at progress target notes past reply =
+    record { turn = turn_after_reply target progress notes reply; history = past }
 
 abbrev pub answer_to : JobTarget → ProtocolState → Reply → Answer
 answer_to target protocol reply = heard_at protocol.progress target protocol.notes protocol.history reply
 
 abbrev pub after_reply : JobTarget → ProtocolState → Reply → ProtocolState
-after_reply target protocol reply = protocol_after_turn target.task (answer_to target protocol reply).turn (answer_to target protocol reply).history
+after_reply target protocol reply =
+    protocol_after_turn target.task (answer_to target protocol reply).turn (answer_to target protocol reply).history
 
 -- ---- which histories a client stands for
 
@@ -152,8 +161,8 @@ FitsAt (stages.Imaging port opened) past = IsWithinFrame past
 FitsAt stages.Turning past = IsJoined past × (IsWhole past.given → ⊥)
 FitsAt progress past = IsBetweenFrames past
 
--- a scan that is done has its whole picture, and a batch that of its last page, or it began none after the page before; no
--- other job has one
+-- a scan that is done has its whole picture, and a batch that of its last page, or it began none after the page before;
+-- no other job has one
 abbrev pub FitsDone : Task → JoinHistory → Type 0
 FitsDone tasks.Scan past = IsJoined past
 FitsDone (tasks.Batch count) past = IsJoined past ⊎ IsBetweenFrames past
@@ -233,4 +242,10 @@ with_payload past frame given = record past { under = Some (record frame { paylo
 
 -- the next page of a batch
 abbrev pub protocol_of_next_page : ProtocolState → ProtocolState
-protocol_of_next_page protocol = record protocol { progress = stages.Starting true; notes = record protocol.notes { file = next_file protocol.notes.file }; history = empty_history }
+protocol_of_next_page protocol =
+    record protocol {
+      progress = stages.Starting true;
+      notes = record protocol.notes { file = next_file protocol.notes.file };
+      history =
+          empty_history;
+    }

@@ -1,5 +1,6 @@
 -- The client's rules: what a job comes to by each reply. Nothing here speaks of bytes.
-use Rattle.std.specs.Prelude.{ℕ, ◌&&◌, nat_lt, Result, Ok, Err, Bool, true, false, if◌then◌else◌, Option, Some, None, is_none, List, [], ◌∷◌, ◌++◌, map, position, slice_get}
+use Rattle.std.specs.Prelude.{ℕ, ◌&&◌, nat_lt, Result, Ok, Err, Bool, true, false, if◌then◌else◌, Option, Some, None}
+use Rattle.std.specs.Prelude.{is_none, List, [], ◌∷◌, ◌++◌, map, position, slice_get}
 use Rattle.std.specs.Str.{bytes_eq}
 use Rattle.sane_fixed.specs.declared.status.Status.{Status}
 use Rattle.sane_fixed.specs.declared.status.Status.TheVariants as statuses
@@ -81,7 +82,8 @@ after_admission notes status word = turn notes (stop_by_answer status)
 -- a resource that is not empty asks for AUTHORIZE, whatever the status
 abbrev pub opened_with : List ℕ → Notes → Status → ℕ → List ℕ → Turn
 opened_with password notes status word [] = after_admission notes status word
-opened_with password notes status word (b ∷ bytes) = turn notes (after_challenge (b ∷ bytes) (answer_of (b ∷ bytes) password))
+opened_with password notes status word (b ∷ bytes) =
+    turn notes (after_challenge (b ∷ bytes) (answer_of (b ∷ bytes) password))
 
 abbrev pub after_open_reply : List ℕ → Notes → Reply → Turn
 after_open_reply password notes (replies.Open status word resource) = opened_with password notes status word resource
@@ -139,7 +141,9 @@ puts_named name text known (Some n) = puts_at name text n (slice_get known n)
 
 abbrev pub next_of : Task → Notes → List (List ℕ × List ℕ) → Turn
 next_of task notes [] = turn notes (after_settings task notes.known)
-next_of task notes (setting ∷ left) = turn (record notes { left = left }) (puts_named setting.0 setting.1 notes.known (option_number_of setting.0 notes.known))
+next_of task notes (setting ∷ left) =
+    turn (record notes { left = left })
+    (puts_named setting.0 setting.1 notes.known (option_number_of setting.0 notes.known))
 
 -- the next setting, by the options as they were told, or what comes after them
 unfoldable pub next_setting : Task → Notes → Turn
@@ -150,7 +154,8 @@ abbrev pub with_no_value : Descriptor → Descriptor × Option Value
 with_no_value desc = (desc, None)
 
 abbrev pub after_describe_reply : Task → Notes → Reply → Turn
-after_describe_reply task notes (replies.GetOptionDescriptors descriptors) = next_setting task (record notes { known = map with_no_value descriptors })
+after_describe_reply task notes (replies.GetOptionDescriptors descriptors) =
+    next_setting task (record notes { known = map with_no_value descriptors })
 after_describe_reply task notes reply = turn notes stop_malformed
 
 -- the descriptors are asked for again where they changed
@@ -161,7 +166,12 @@ after_put task notes false = next_setting task notes
 abbrev pub given_to : Task → Notes → Kind → List ℕ → Value → Info → Option Value → Turn
 given_to task notes kind name asked info None = turn notes stop_malformed
 given_to task notes kind name asked info (Some given) =
-    after_put task (record notes { reports = notes.reports ++ record { name = name; kind = kind; asked = asked; given = given; info = info } ∷ [] }) (has_cap info.0 2)
+    after_put task
+    (record notes {
+      reports =
+          notes.reports ++ record { name = name; kind = kind; asked = asked; given = given; info = info } ∷ [];
+    })
+    (has_cap info.0 2)
 
 -- a value of a CONTROL_OPTION reply: no resource, a good status, and the kind that was sent, in that order
 abbrev pub of_kind : Kind → Kind → Option Value → Option Value
@@ -172,23 +182,30 @@ of_kind kinds.String kinds.String value = value
 of_kind sent given value = None
 
 abbrev pub put_good : Task → Notes → Kind → List ℕ → Value → Status → Info → Kind → WireValue → Turn
-put_good task notes kind name asked statuses.Good info given value = given_to task notes kind name asked info (of_kind kind given (given_like asked value))
+put_good task notes kind name asked statuses.Good info given value =
+    given_to task notes kind name asked info (of_kind kind given (given_like asked value))
 put_good task notes kind name asked status info given value = turn notes (stop_by_answer status)
 
-abbrev pub put_without_resource : Task → Notes → Kind → List ℕ → Value → Status → Info → Kind → WireValue → List ℕ → Turn
-put_without_resource task notes kind name asked status info given value [] = put_good task notes kind name asked status info given value
+abbrev pub put_without_resource : Task → Notes → Kind → List ℕ → Value → Status → Info → Kind → WireValue → List ℕ
+    → Turn
+put_without_resource task notes kind name asked status info given value [] =
+    put_good task notes kind name asked status info given value
 put_without_resource task notes kind name asked status info given value (b ∷ bytes) = turn notes stop_malformed
 
 abbrev pub was_put : Task → Notes → Kind → List ℕ → Value → Reply → Turn
-was_put task notes kind name asked (replies.ControlOption status info given value resource) = put_without_resource task notes kind name asked status info given value resource
+was_put task notes kind name asked (replies.ControlOption status info given value resource) =
+    put_without_resource task notes kind name asked status info given value resource
 was_put task notes kind name asked reply = turn notes stop_malformed
 
 abbrev pub after_get_value : Notes → ℕ → Option Value → Turn
 after_get_value notes n None = turn notes stop_malformed
-after_get_value notes n (Some value) = turn (record notes { known = with_known_value n value notes.known }) (next_shown (with_known_value n value notes.known))
+after_get_value notes n (Some value) =
+    turn (record notes { known = with_known_value n value notes.known })
+    (next_shown (with_known_value n value notes.known))
 
 abbrev pub got_good : Notes → ℕ → Kind → Status → Kind → WireValue → Turn
-got_good notes n kind statuses.Good given value = after_get_value notes n (of_kind kind given (wire_value_in kind value))
+got_good notes n kind statuses.Good given value =
+    after_get_value notes n (of_kind kind given (wire_value_in kind value))
 got_good notes n kind status given value = turn notes (stop_by_answer status)
 
 abbrev pub got_without_resource : Notes → ℕ → Kind → Status → Kind → WireValue → List ℕ → Turn
@@ -196,7 +213,8 @@ got_without_resource notes n kind status given value [] = got_good notes n kind 
 got_without_resource notes n kind status given value (b ∷ bytes) = turn notes stop_malformed
 
 abbrev pub was_got : Notes → ℕ → Kind → Reply → Turn
-was_got notes n kind (replies.ControlOption status info given value resource) = got_without_resource notes n kind status given value resource
+was_got notes n kind (replies.ControlOption status info given value resource) =
+    got_without_resource notes n kind status given value resource
 was_got notes n kind reply = turn notes stop_malformed
 
 -- ---- the replies to START and GET_PARAMETERS
@@ -219,7 +237,8 @@ started_with all status port order [] = started_by all status port order
 started_with all status port order (b ∷ bytes) = stop_malformed
 
 abbrev pub after_start_reply : Task → Bool → ℕ → Reply → Next
-after_start_reply task first file (replies.Start status port order resource) = started_with (is_all task first file) status port order resource
+after_start_reply task first file (replies.Start status port order resource) =
+    started_with (is_all task first file) status port order resource
 after_start_reply task first file reply = stop_malformed
 
 -- a frame that makes no picture
@@ -233,9 +252,9 @@ abbrev pub begun_by : Option JoinFault → ℕ → Next
 begun_by None port = Wait (stages.Imaging port false)
 begun_by (Some fault) port = stop_unjoined fault
 
--- **heard (`turn_after_reply`)**: what a reply makes of a job, one function for each reply and each thing waited for: it
--- waits on, it is done, or it ends with a status and why. The tests come in this order: a resource where none may be, the
--- status, the value's shape.
+-- **heard (`turn_after_reply`)**: what a reply makes of a job, one function for each reply and each thing waited for:
+-- it waits on, it is done, or it ends with a status and why. The tests come in this order: a resource where none may
+-- be, the status, the value's shape.
 --
 -- what a reply makes of a job that does not wait for the parameters of a frame
 abbrev pub turn_after_reply : JobTarget → Progress → Notes → Reply → Turn
@@ -247,7 +266,8 @@ turn_after_reply target stages.Reopening notes reply = after_open_reply target.p
 turn_after_reply target stages.Describing notes reply = after_describe_reply target.task notes reply
 turn_after_reply target (stages.Putting n kind name asked) notes reply = was_put target.task notes kind name asked reply
 turn_after_reply target (stages.Getting n kind size) notes reply = was_got notes n kind reply
-turn_after_reply target (stages.Starting first) notes reply = turn notes (after_start_reply target.task first notes.file reply)
+turn_after_reply target (stages.Starting first) notes reply =
+    turn notes (after_start_reply target.task first notes.file reply)
 turn_after_reply target (stages.Shaping port order) notes reply = turn notes stop_malformed
 turn_after_reply target (stages.Imaging port after_open_reply) notes reply = turn notes stop_malformed
 turn_after_reply target stages.Turning notes reply = turn notes stop_malformed
@@ -274,9 +294,11 @@ pub record FrameEnd : Type 0 where
   pub history : JoinHistory
 
 abbrev pub frame_closed : Task → ℕ → JoinHistory → FrameEnd
-frame_closed task file past = record { next = frame_joined task file (joined_answer (after_end past)); history = after_end past }
+frame_closed task file past =
+    record { next = frame_joined task file (joined_answer (after_end past)); history = after_end past }
 
--- the status of an end record: 5 ends the frame, 0 and what is no status may not stand there, and any other ends the job
+-- the status of an end record: 5 ends the frame, 0 and what is no status may not stand there, and any other ends the
+-- job
 abbrev pub frame_ended_by : Task → ℕ → JoinHistory → Option Status → FrameEnd
 frame_ended_by task file past None = record { next = stop_malformed; history = past }
 frame_ended_by task file past (Some statuses.Good) = record { next = stop_malformed; history = past }

@@ -14,21 +14,7 @@ use std::alloc::Global;
 fn status_of(code: u8) -> Option<Status>
     ensures { result ≡ status_of code }
 {
-    match code {
-        0 => Some(Status::Good),
-        1 => Some(Status::Unsupported),
-        2 => Some(Status::Cancelled),
-        3 => Some(Status::DeviceBusy),
-        4 => Some(Status::Inval),
-        5 => Some(Status::Eof),
-        6 => Some(Status::Jammed),
-        7 => Some(Status::NoDocs),
-        8 => Some(Status::CoverOpen),
-        9 => Some(Status::IoError),
-        10 => Some(Status::NoMem),
-        11 => Some(Status::AccessDenied),
-        _ => None,
-    }
+    Status::from_code(u32::from(code))
 }
 
 /// The picture of a page is whole.

@@ -1,4 +1,6 @@
 pub mod Pages
 pub mod Texts
 pub mod Devices
+pub mod ScannerStates
+pub mod InputTexts
 pub mod ConfigReading

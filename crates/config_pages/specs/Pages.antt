@@ -1,5 +1,6 @@
 -- The pages that stand in the lines of a config, as `hex:` and the bytes of a page file in hexadecimal.
-use Rattle.std.specs.Prelude.{ℕ, ◌≡◌, ◌⊎◌, if◌then◌else◌, nat_eq, true, Option, Some, None, Ok, IsErr, List, drop, codes}
+use Rattle.std.specs.Prelude.{ℕ, ◌≡◌, ◌⊎◌, if◌then◌else◌, nat_eq, true, Option, Some, None, Ok, IsErr, List, drop}
+use Rattle.std.specs.Prelude.{codes}
 use Rattle.std.specs.List.{starts_with}
 use Rattle.hex.specs.Hex.{decode_of}
 use Rattle.page_picture.specs.PageFile.{TellsPage, HasPageFault}
@@ -9,8 +10,8 @@ use Rattle.page_picture.specs.declared.page_file.PageFault.TheVariants.{BadMagic
 use Rattle.config_pages.specs.declared.no_page.PageSourceFault.{PageSourceFault}
 use Rattle.config_pages.specs.Texts.{source_fault}
 
--- **a page in its line (`hex_digits`, `GivesSpelled`, `IsSpelledFault`)**: `hex:` and digits; the source gives the page of
--- the file that they spell; they spell none, which counts as a bad magic, or one that has the fault.
+-- **a page in its line (`hex_digits`, `GivesSpelled`, `IsSpelledFault`)**: `hex:` and digits; the source gives the page
+-- of the file that they spell; they spell none, which counts as a bad magic, or one that has the fault.
 --
 -- the digits of a page that stands in its line; none where a path stands there
 abbrev pub hex_digits : List ℕ → Option (List ℕ)

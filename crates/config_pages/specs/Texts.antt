@@ -3,7 +3,8 @@ use Rattle.std.specs.Prelude.{ℕ, List, codes}
 use Rattle.page_picture.specs.declared.page_file.PageFault.{PageFault}
 use Rattle.page_picture.specs.declared.page_file.PageFault.TheVariants as faults
 use Rattle.config_pages.specs.declared.no_page.NoPage.{NoPage}
-use Rattle.config_pages.specs.declared.no_page.NoPage.TheVariants.{CannotRead, BadMagic, BadHeader, SampleTooLarge, Short, Trailing}
+use Rattle.config_pages.specs.declared.no_page.NoPage.TheVariants.{CannotRead, BadMagic, BadHeader, SampleTooLarge}
+use Rattle.config_pages.specs.declared.no_page.NoPage.TheVariants.{Short, Trailing}
 use Rattle.config_pages.specs.declared.no_page.PageSourceFault.{PageSourceFault}
 use Rattle.config_pages.specs.declared.no_page.PageSourceFault.TheVariants as sources
 

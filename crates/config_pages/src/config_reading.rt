@@ -1,6 +1,6 @@
-ghost use Rattle.std.specs.Prelude.{IfErr, IfOk, IfSome, IsOk, List, OnOk, Option, take, ℕ};
-ghost use Rattle.dispatch.specs.ConfigLines.{TellsConfig};
+ghost use Rattle.std.specs.Prelude.{IfErr, IfOk, IsOk, List, OnOk, Option, ℕ};
 ghost use Rattle.config_pages.specs.ConfigReading.{RefusesConfig, remaining_of};
+ghost use Rattle.config_pages.specs.InputTexts.{TellsLines};
 
 use crate::limited_reading::text_of;
 use dispatch::{ConfigFault, ConfigLine, parse_config};
@@ -40,8 +40,8 @@ pub fn read_config<R: Read + Drop>(
     /// for its first bad line.
     /// Carried by: `opened`, `lines`, `refused` of `read_config`
     ensures opened { OnOk result (IsOk opened) }
-    ensures lines { IfOk result (λ lines. IfSome (remaining_of R.remaining opened)
-        (λ all. TellsConfig (take 4194433 all) lines.items)) }
+    ensures lines { IfOk result
+        (λ lines. TellsLines (remaining_of R.remaining opened) lines.items) }
     ensures refused { IfErr result (RefusesConfig (remaining_of R.remaining opened)) }
 {
     let reader = match opened {

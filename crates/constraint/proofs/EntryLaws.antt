@@ -1,8 +1,8 @@
 -- The place computed for a text is the one that it is matched with, and the only one.
-use Rattle.std.proofs.Common.{◌≡◌, ◌≢◌, ℕ, zero, suc, ◌<◌, ◌≤◌, ◌+◌, ◌⊎◌, inl, inr, Bool, true, false, cond, List, [], ◌∷◌, ◌++◌, length, take, drop, get_or, arith, refl, sym, ap, ◌∙◌, subst, Decides}
-use Rattle.std.specs.Prelude.{Option, Some, None, IfSome, IfNone, option_map, map, slice_get, nat_eq, IsTrue}
+use Rattle.std.proofs.Common.{◌≡◌, ◌≢◌, ℕ, zero, suc, ◌<◌, ◌≤◌, ◌+◌, inl, inr, Bool, true, false, cond, List, [], ◌∷◌, ◌++◌, length, take, drop, get_or, arith, refl, sym, ap, ◌∙◌, subst, Decides}
+use Rattle.std.specs.Prelude.{Option, Some, None, IfSome, IfNone, option_map, map, slice_get}
 use Rattle.std.specs.Char.{to_ascii_lowercase}
-use Rattle.std.specs.List.{position_from, starts_with}
+use Rattle.std.specs.List.{position_from}
 use Rattle.std.specs.Str.{bytes_eq}
 use Rattle.std.proofs.lemmas.Bool.{cases_order, false≢true}
 use Rattle.std.proofs.lemmas.Bool.Decides.{Decides-eqb, same_from_decides}
@@ -47,9 +47,6 @@ begins_with-is : (entry text : List ℕ) → BeginsWith entry text → begins_wi
 begins_with-is entry text b =
     let both = starts_is Decides-eqb (map to_ascii_lowercase entry) (map to_ascii_lowercase text) (begins_with entry text) refl in
     both.1 b.0 b.1
-
-pub begins_with-Decides : (entry text : List ℕ) → Decides (begins_with entry text) (BeginsWith entry text)
-begins_with-Decides entry text = (begins_with-true entry text, begins_with-is entry text)
 
 length-lower : (text : List ℕ) → length (map to_ascii_lowercase text) ≡ length text
 length-lower [] = refl

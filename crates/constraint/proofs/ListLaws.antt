@@ -110,12 +110,6 @@ unfolding nearest_in_list
 NearestInList-nearest_in_list [] asked some = absurd (let h : 1 ≤ 0 = some in omega arith)
 NearestInList-nearest_in_list (word ∷ words) asked some = NearestInList-fold (word ∷ []) words asked word (NearestInList-one word asked)
 
-some_entry : (entries : List ℤ) (word : ℤ) → Contains entries word → 1 ≤ length entries
-some_entry entries word c = let h : c.0 < length entries = c.1 in omega arith
-
-pub nearest_in_list-is : (entries : List ℤ) (asked word : ℤ) → NearestInList entries asked word → nearest_in_list entries asked ≡ word
-nearest_in_list-is entries asked word x = NearestInList-unique entries asked _ word (NearestInList-nearest_in_list entries asked (some_entry entries word (Contains-nearest entries asked word x))) x
-
 -- ---- place by place
 
 pub both : (x y : ℤ) (xs ys : List ℤ) → x ≡ y → xs ≡ ys → x ∷ xs ≡ y ∷ ys

@@ -1,11 +1,11 @@
 -- The word computed for a range is the nearest one, and the only one.
-use Rattle.std.proofs.Common.{FitsSigned, w32, w64, to_z, of_z, ◌^◌, ◌≡◌, ◌≢◌, ℕ, ◌<◌, ◌≤◌, ◌+◌, ◌-◌, ◌*◌, ◌/◌, ◌⊎◌, inl, inr, min, max, arith, refl, sym, ap, ◌∙◌, subst, pos, negsuc, ℤ, ◌%◌, zero, suc, mul-one, div-add-mod', mod-lt, mul-le-mul_right, div-mul-le_self, ◌+ℤ◌, ◌-ℤ◌, ◌*ℤ◌, ◌≤ℤ◌, ◌<ℤ◌}
+use Rattle.std.proofs.Common.{FitsSigned, w32, w64, to_z, of_z, ◌^◌, ◌≡◌, ◌≢◌, ℕ, ◌<◌, ◌≤◌, ◌+◌, ◌-◌, ◌*◌, ◌/◌, ◌⊎◌, inl, inr, min, max, arith, refl, sym, ap, ◌∙◌, subst, pos, negsuc, ℤ, ◌%◌, zero, suc, mul-one, div-add-mod', mod-lt, mul-le-mul_right, div-mul-le_self, ◌+ℤ◌, ◌-ℤ◌, ◌*ℤ◌, ◌≤ℤ◌}
 use Rattle.std.specs.Prelude.{unsigned_abs}
 use Rattle.std.proofs.lemmas.Int.{ints, by_lt_z}
 use Rattle.std.proofs.lemmas.Bool.{cases_order, cases_lt}
 use Rattle.std.proofs.lemmas.Nat.{le-div}
 use Rattle.sane_fixed.specs.Decimal.{rounded_quotient}
-use Rattle.constraint.specs.Admitted.{Bounds, IsRange, IsStep, AdmittedByRange}
+use Rattle.constraint.specs.Admitted.{Bounds, IsRange, AdmittedByRange}
 use Rattle.constraint.specs.Nearest.{distance, NearestInRange}
 use Rattle.constraint.specs.NearestComputed.{height, step_of, steps_to, nearest_in_range}
 
@@ -86,9 +86,6 @@ record AtStep (range : Bounds) (word : ℤ) : Type 0 where
   pub k : ℕ
   pub is : word ≡ (range.min +ℤ pos (k * step_of range))
   pub within : k ≤ height (range.max -ℤ range.min) / step_of range
-
-height-of : (low word : ℤ) (n : ℕ) → word ≡ (low +ℤ pos n) → height (word -ℤ low) ≡ n
-height-of low word n e = ap height (let d : (word -ℤ low) ≡ pos n = omega (arith, ints) in d)
 
 reach_at : (d low top word : ℤ) (n : ℕ) → d ≡ (top -ℤ low) → word ≤ℤ top → word ≡ (low +ℤ pos n) → n ≤ height d
 reach_at (pos m) low top word n e below is = omega (arith, ints)
@@ -230,9 +227,6 @@ pub NearestInRange-unique : (range : Bounds) (asked a b : ℤ) → NearestInRang
 NearestInRange-unique range asked a b x y =
     let same : distance asked a ≡ distance asked b = same_distance _ _ (x.closest b y.admitted) (y.closest a x.admitted) in
     same_word a b (y.greater a x.admitted same) (x.greater b y.admitted (sym same))
-
-pub nearest_in_range-is : (range : Bounds) (asked word : ℤ) → IsRange range → NearestInRange range asked word → nearest_in_range range asked ≡ word
-nearest_in_range-is range asked word keeps x = NearestInRange-unique range asked _ word (NearestInRange-nearest_in_range range asked keeps) x
 
 -- ---- in 32 bits
 

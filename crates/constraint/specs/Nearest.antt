@@ -1,5 +1,6 @@
 -- The admitted value nearest to one that is asked for.
-use Rattle.std.specs.Prelude.{◌≡◌, ◌≢◌, ◌<◌, ◌≤◌, ℕ, ℤ, ◌-ℤ◌, ◌≤ℤ◌, unsigned_abs, Bool, ◌⊎◌, MatchBool, Option, Some, List, [], ◌∷◌, ◌++◌, map, slice_get, All, Contains}
+use Rattle.std.specs.Prelude.{◌≡◌, ◌≢◌, ◌<◌, ◌≤◌, ℕ, ℤ, ◌-ℤ◌, ◌≤ℤ◌, unsigned_abs, Bool, ◌⊎◌, MatchBool, Option, Some}
+use Rattle.std.specs.Prelude.{List, [], ◌∷◌, ◌++◌, map, slice_get, All, Contains}
 use Rattle.std.specs.Char.{to_ascii_lowercase}
 use Rattle.constraint.specs.Admitted.{Bounds, AdmittedByRange}
 
@@ -7,9 +8,9 @@ use Rattle.constraint.specs.Admitted.{Bounds, AdmittedByRange}
 abbrev pub distance : ℤ → ℤ → ℕ
 distance asked word = unsigned_abs (asked -ℤ word)
 
--- **nearest (`NearestInRange`, `NearestInList`, `NearestEntry`)**: an admitted word to which no admitted word is closer; of
--- two equally close ones the greater in a range, the first listed in a list. For a text the first equal entry, else the
--- only entry that begins with it without regard to ASCII case. A law says that there is at most one.
+-- **nearest (`NearestInRange`, `NearestInList`, `NearestEntry`)**: an admitted word to which no admitted word is
+-- closer; of two equally close ones the greater in a range, the first listed in a list. For a text the first equal
+-- entry, else the only entry that begins with it without regard to ASCII case. A law says that there is at most one.
 pub record NearestInRange (range : Bounds) (asked word : ℤ) : Type 0 where
   pub admitted : AdmittedByRange range word
   pub closest : (other : ℤ) → AdmittedByRange range other → distance asked word ≤ distance asked other

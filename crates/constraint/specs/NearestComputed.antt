@@ -1,5 +1,6 @@
 -- The same by computing, for definitions that go on from it; the laws say that both agree.
-use Rattle.std.specs.Prelude.{ℕ, ◌+◌, ◌*◌, ◌/◌, min, max, ℤ, pos, negsuc, ◌+ℤ◌, ◌-ℤ◌, unsigned_abs, nat_eq, nat_lt, Bool, if◌then◌else◌, Option, Some, None, List, [], ◌∷◌, map, fold}
+use Rattle.std.specs.Prelude.{ℕ, ◌+◌, ◌*◌, ◌/◌, min, max, ℤ, pos, negsuc, ◌+ℤ◌, ◌-ℤ◌, unsigned_abs, nat_eq, nat_lt}
+use Rattle.std.specs.Prelude.{Bool, if◌then◌else◌, Option, Some, None, List, [], ◌∷◌, map, fold}
 use Rattle.std.specs.List.{starts_with, position_from}
 use Rattle.std.specs.Char.{to_ascii_lowercase}
 use Rattle.std.specs.Str.{bytes_eq}
@@ -19,7 +20,9 @@ step_of range = max (unsigned_abs range.quant) 1
 
 -- so many steps up from min: those to the word asked for, rounded, halves up, and no more than there are up to max
 abbrev pub steps_to : Bounds → ℤ → ℕ
-steps_to range asked = min (rounded_quotient (height (asked -ℤ range.min)) (step_of range)) (height (range.max -ℤ range.min) / step_of range)
+steps_to range asked =
+    min (rounded_quotient (height (asked -ℤ range.min)) (step_of range)) (height (range.max -ℤ range.min)
+    / step_of range)
 
 unfoldable pub nearest_in_range : Bounds → ℤ → ℤ
 nearest_in_range range asked = range.min +ℤ pos (steps_to range asked * step_of range)
@@ -40,7 +43,8 @@ begins_with entry text = starts_with nat_eq (map to_ascii_lowercase entry) (map 
 -- the places of the entries that pass a test, counted from a number on
 abbrev pub places_from : (List ℕ → Bool) → ℕ → List (List ℕ) → List ℕ
 places_from test place [] = []
-places_from test place (entry ∷ entries) = if test entry then place ∷ places_from test (place + 1) entries else places_from test (place + 1) entries
+places_from test place (entry ∷ entries) =
+    if test entry then place ∷ places_from test (place + 1) entries else places_from test (place + 1) entries
 
 -- the only one of them
 abbrev pub only : List ℕ → Option ℕ
@@ -51,4 +55,5 @@ only (place ∷ next ∷ places) = None
 -- the place of the entry that a text is matched with
 unfoldable pub nearest_entry : List (List ℕ) → List ℕ → Option ℕ
 nearest_entry entries text =
-    option_or (position_from (λ entry. bytes_eq entry text) 0 entries) (only (places_from (λ entry. begins_with entry text) 0 entries))
+    option_or (position_from (λ entry.
+    bytes_eq entry text) 0 entries) (only (places_from (λ entry. begins_with entry text) 0 entries))

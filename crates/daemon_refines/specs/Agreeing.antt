@@ -24,7 +24,8 @@ manner d word =
 
 -- **agrees (`Agrees`)**: the replies spell what comes by the model; both go on or both end; the request context behind
 -- shows the devices and the session that come; and where the session ends, what it held is given back as by the model.
-pub record Agrees (i : ℕ) (make : ℕ → Make) (m : Manner) (q : Asked) (comes : FullEffect) (said : RequestAnswer) (new : RequestContext) : Type 0 where
+pub record Agrees (i : ℕ) (make : ℕ → Make) (m : Manner) (q : Asked) (comes : FullEffect) (said : RequestAnswer)
+    (new : RequestContext) : Type 0 where
   pub says : SpellsSaid m q comes.told said
   pub same_end : comes.goes_on ≡ session_goes_on said
   pub stands : session_goes_on said ≡ true → ContextRefines i make new comes.table comes.session

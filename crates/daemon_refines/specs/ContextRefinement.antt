@@ -1,5 +1,6 @@
 -- A request context of the daemon, as the model sees it.
-use Rattle.std.specs.Prelude.{ℕ, ◌≡◌, ◌≢◌, ◌⊎◌, true, false, Option, Some, None, option_map, List, map, length, slice_get}
+use Rattle.std.specs.Prelude.{ℕ, ◌≡◌, ◌≢◌, ◌⊎◌, true, false, Option, Some, None, option_map, List, map, length}
+use Rattle.std.specs.Prelude.{slice_get}
 use Rattle.std.specs.List.{AllByRecursion}
 use Rattle.page_picture.specs.Page.{PageView}
 use Rattle.scan_frames.specs.declared.setup.Setup.{Setup}
@@ -42,15 +43,17 @@ abbrev pub tray_of : DeviceState → List PageView
 tray_of s = page_views (pages_to_come s.phase s)
 
 abbrev pub abstract_device_as : Option ℕ → Setup → List PageView → ScanPhase → AbstractDevice
-abstract_device_as holder options tray phase = record { listed = true; holder = holder; options = options; tray = tray; phase = phase }
+abstract_device_as holder options tray phase =
+    record { listed = true; holder = holder; options = options; tray = tray; phase = phase }
 
 -- **seen (`abstract_device`, `tray_of`, `phase_at`)**: a scanner and who holds it, as a listed device of the model: its
--- options; the pages that starts at rest take, where the first of a feeder that scans is no more among them; at rest, or
--- the frame that ended last and those to come, or the frame that is read, what is left of it and those after it.
+-- options; the pages that starts at rest take, where the first of a feeder that scans is no more among them; at rest,
+-- or the frame that ended last and those to come, or the frame that is read, what is left of it and those after it.
 abbrev pub abstract_device : Option ℕ → DeviceState → AbstractDevice
 abstract_device holder s = abstract_device_as holder s.setup (tray_of s) (phase_at (scan.place_of s))
 
--- the source of a page can fail only in a device of which that is said, and gives its page's rows at each pass where that is said
+-- the source of a page can fail only in a device of which that is said, and gives its page's rows at each pass where
+-- that is said
 pub record HasSource (make : Make) (held : HeldPage) : Type 0 where
   pub infallible : make.fallible ≡ false → held.infallible ≡ true
   pub steady : make.steady ≡ true → held.steady ≡ true
@@ -58,8 +61,8 @@ pub record HasSource (make : Make) (held : HeldPage) : Type 0 where
 abbrev pub HaveSources : Make → List HeldPage → Type 0
 HaveSources make pages = AllByRecursion (HasSource make) pages
 
--- **made (`IsMade`)**: what always holds of it: the kind and the byte order that never change, options within their limits,
--- and a phase that a scan comes to.
+-- **made (`IsMade`)**: what always holds of it: the kind and the byte order that never change, options within their
+-- limits, and a phase that a scan comes to.
 pub record IsMade (make : Make) (s : DeviceState) : Type 0 where
   pub sources : HaveSources make s.pages
   pub kind : make.model ≡ s.setup.scene.kind
@@ -81,25 +84,30 @@ pub record IsAway (i : ℕ) (dev : AbstractDevice) : Type 0 where
   pub no_own : other ≢ i
 
 -- what stands in a place of that name
-abbrev pub SlotRefines : ℕ → Make → List (Option (Lease DeviceState)) → ℕ → AbstractDevice → List ℕ → Slot DeviceState → Type 0
+abbrev pub SlotRefines : ℕ → Make → List (Option (Lease DeviceState)) → ℕ → AbstractDevice → List ℕ → Slot DeviceState
+    → Type 0
 SlotRefines i make held k dev name Gone = (dev.listed ≡ false) × (dev.holder ≡ None)
 SlotRefines i make held k dev name (In s) = (dev ≡ abstract_device None s) × IsMade make s × (s.info.name ≡ name)
 SlotRefines i make held k dev name Out = (dev.listed ≡ true) × (HoldsPlace held k ⊎ IsAway i dev)
 
-abbrev pub PlaceRefines : ℕ → Make → List (Option (Lease DeviceState)) → ℕ → AbstractDevice → Option (Place DeviceState) → Type 0
+abbrev pub PlaceRefines : ℕ → Make → List (Option (Lease DeviceState)) → ℕ → AbstractDevice → Option (Place DeviceState)
+    → Type 0
 PlaceRefines i make held k dev None = (dev.listed ≡ false) × (dev.holder ≡ None)
 PlaceRefines i make held k dev (Some p) = SlotRefines i make held k dev p.info.name p.slot
 
 -- the device of a lease
-pub record LeaseRefines (i : ℕ) (make : ℕ → Make) (registry : Table) (table : ℕ → AbstractDevice) (l : Lease DeviceState) : Type 0 where
+pub record LeaseRefines (i : ℕ) (make : ℕ → Make) (registry : Table) (table : ℕ → AbstractDevice)
+    (l : Lease DeviceState) : Type 0 where
   pub device : table l.place ≡ abstract_device (Some i) l.device
   pub made : IsMade (make l.place) l.device
   pub own : IsLeaseOf l registry
 
 -- all devices, in the table and leased to client i
-pub record TableRefines (i : ℕ) (make : ℕ → Make) (held : List (Option (Lease DeviceState))) (registry : Table) (table : ℕ → AbstractDevice) : Type 0 where
+pub record TableRefines (i : ℕ) (make : ℕ → Make) (held : List (Option (Lease DeviceState))) (registry : Table)
+    (table : ℕ → AbstractDevice) : Type 0 where
   pub leases : (w : ℕ) (l : Lease DeviceState) → held_by held w ≡ Some l → LeaseRefines i make registry table l
-  pub apart : (w v : ℕ) (l m : Lease DeviceState) → held_by held w ≡ Some l → held_by held v ≡ Some m → l.place ≡ m.place → w ≡ v
+  pub apart : (w v : ℕ) (l m : Lease DeviceState) → held_by held w ≡ Some l → held_by held v ≡ Some m
+      → l.place ≡ m.place → w ≡ v
   pub places : (k : ℕ) → PlaceRefines i (make k) held k (table k) (slice_get registry k)
 
 -- the frame, and the device word that it is one of
@@ -134,17 +142,19 @@ abbrev pub Names : List ℕ → Table → (ℕ → AbstractDevice) → ℕ → T
 Names name registry table k = NamesPlace (find_name name registry) table k
 
 -- an OPEN that waits for its AUTHORIZE: there is a free word for it
-abbrev pub IsAwaited : List (Option (Lease DeviceState)) → Table → (ℕ → AbstractDevice) → Option AwaitedAuthorization → Option (Challenge × ℕ) → Type 0
+abbrev pub IsAwaited : List (Option (Lease DeviceState)) → Table → (ℕ → AbstractDevice) → Option AwaitedAuthorization
+    → Option (Challenge × ℕ) → Type 0
 IsAwaited held registry table None sent = sent ≡ None
 IsAwaited held registry table (Some a) None = ⊥
 IsAwaited held registry table (Some a) (Some sent) = Names a.name registry table sent.1 × (free_word held ≢ None)
 
 -- **refines (`ContextRefines`, `TableRefines`)**: a request context is this session of client i, and these devices: the
--- words are the places of their leases, of four words; the frame and, of one that waits or streams, its word, whose device
--- is read; what is awaited, for which a word is free; each leased device is seen as held by client i, no two of one place;
--- a device in its place is seen as held by nobody, an unplugged one as not listed, and one that is out is held by a word of
--- this session or by another client.
-pub record ContextRefines (i : ℕ) (make : ℕ → Make) (d : RequestContext) (table : ℕ → AbstractDevice) (s : AbstractSession) : Type 0 where
+-- words are the places of their leases, of four words; the frame and, of one that waits or streams, its word, whose
+-- device is read; what is awaited, for which a word is free; each leased device is seen as held by client i, no two of
+-- one place; a device in its place is seen as held by nobody, an unplugged one as not listed, and one that is out is
+-- held by a word of this session or by another client.
+pub record ContextRefines (i : ℕ) (make : ℕ → Make) (d : RequestContext) (table : ℕ → AbstractDevice)
+    (s : AbstractSession) : Type 0 where
   pub words : (w : ℕ) → s.words w ≡ option_map (λ (l : Lease DeviceState). l.place) (held_by d.session.held w)
   pub four : length d.session.held ≡ 4
   pub transfer : TransferRefines d.session.transfer s.transfer s.framed

@@ -12,7 +12,8 @@ use Rattle.system_model.specs.Daemon.{TransferState, Quiet, Waiting, Streaming, 
 use Rattle.system_model.specs.SystemStates.{JobState, with_entry}
 use Rattle.system_model.specs.AbstractSessions.{AbstractSession}
 use Rattle.system_model.specs.Transitions.{IsActionEnabled}
-use Rattle.system_model.specs.Actions.{Action, Turns, TurnsLast, TurnsNamed, TurnsShort, TurnsFault, device_after, image_off, left_by_loss}
+use Rattle.system_model.specs.Actions.{Action, Turns, TurnsLast, TurnsNamed, TurnsShort, TurnsFault, device_after}
+use Rattle.system_model.specs.Actions.{image_off, left_by_loss}
 use Rattle.daemon_refines.specs.ContextRefinement.{abstract_device, IsMade, ContextRefines, TableRefines}
 use Rattle.daemon_refines.specs.Failures.{IsTurnCounted}
 
@@ -24,14 +25,15 @@ EndRecordIs status (TurnsNamed name) = name ≡ abstract_status status
 EndRecordIs status (TurnsFault fault) = status ≡ code.IoError
 EndRecordIs status _ = ⊥
 
--- **what a read is (`IsTurnOf`, `SendsAs`, `StreamServed`)**: the action that a read of the device is: bytes, the end, a
--- status named or a failure; the record that it sends; and that the request context behind it is shown again.
+-- **what a read is (`IsTurnOf`, `SendsAs`, `StreamServed`)**: the action that a read of the device is: bytes, the end,
+-- a status named or a failure; the record that it sends; and that the request context behind it is shown again.
 abbrev pub IsTurnOf : Result ℕ Code → List ℕ → Action → Type 0
 IsTurnOf (Ok n) window action = action ≡ Turns (take n window)
 IsTurnOf (Err status) window action = EndRecordIs status action
 
 -- one read is one turn of the model, which may come, and leaves the device as it leaves it by the model
-pub record TurnServed (i : ℕ) (k : Make) (listed : List ℕ) (p : JobState) (s : DeviceState) (answer : Result ℕ Code) (after : DeviceState) (window : List ℕ) : Type 0 where
+pub record TurnServed (i : ℕ) (k : Make) (listed : List ℕ) (p : JobState) (s : DeviceState) (answer : Result ℕ Code)
+    (after : DeviceState) (window : List ℕ) : Type 0 where
   pub action : Action
   pub is : IsTurnOf answer window action
   pub may : IsActionEnabled i k p (abstract_device (Some i) s) action
@@ -42,7 +44,8 @@ pub record TurnServed (i : ℕ) (k : Make) (listed : List ℕ) (p : JobState) (s
 -- a device that is read
 abbrev pub TurnsAgree : Type 0
 TurnsAgree =
-    (i : ℕ) (k : Make) (listed : List ℕ) (p : JobState) (s after : DeviceState) (pass given : ℕ) (answer : Result ℕ Code) (window : List ℕ) →
+    (i : ℕ) (k : Make) (listed : List ℕ) (p : JobState) (s after : DeviceState) (pass given : ℕ)
+    (answer : Result ℕ Code) (window : List ℕ) →
     IsMade k s → s.phase ≡ Reading pass given → p.session.transfer ≡ Streaming → Reads s answer after window →
     TurnServed i k listed p s answer after window
 
@@ -55,8 +58,10 @@ transfer_connected Ending = Ending
 
 abbrev pub ConnectsAgree : Type 0
 ConnectsAgree =
-    (i : ℕ) (make : ℕ → Make) (d : RequestContext) (table : ℕ → AbstractDevice) (s : AbstractSession) → ContextRefines i make d table s →
-    ContextRefines i make (record d { session = after_connected d.session }) table (record s { transfer = transfer_connected s.transfer })
+    (i : ℕ) (make : ℕ → Make) (d : RequestContext) (table : ℕ → AbstractDevice) (s : AbstractSession)
+    → ContextRefines i make d table s →
+    ContextRefines i make (record d { session = after_connected d.session }) table
+    (record s { transfer = transfer_connected s.transfer })
 
 -- the data connection is lost: the device of the frame, and the request context behind it
 abbrev pub off_at : ℕ → TransferState → (ℕ → AbstractDevice) → Option ℕ → ℕ → AbstractDevice
@@ -65,11 +70,14 @@ off_at i c table (Some p) = with_entry table p (image_off i c (table p))
 
 abbrev pub LossAgrees : Type 0
 LossAgrees =
-    (i : ℕ) (make : ℕ → Make) (d : RequestContext) (table : ℕ → AbstractDevice) (s : AbstractSession) → ContextRefines i make d table s →
-    ContextRefines i make (record d { session = after_lost d.session }) (off_at i s.transfer table (s.words s.framed)) (record s { transfer = left_by_loss s.transfer })
+    (i : ℕ) (make : ℕ → Make) (d : RequestContext) (table : ℕ → AbstractDevice) (s : AbstractSession)
+    → ContextRefines i make d table s →
+    ContextRefines i make (record d { session = after_lost d.session }) (off_at i s.transfer table (s.words s.framed))
+    (record s { transfer = left_by_loss s.transfer })
 
 -- a session is over: what it held is given back
 abbrev pub ReleaseAgrees : Type 0
 ReleaseAgrees =
-    (i : ℕ) (make : ℕ → Make) (d : RequestContext) (table : ℕ → AbstractDevice) (s : AbstractSession) → ContextRefines i make d table s →
+    (i : ℕ) (make : ℕ → Make) (d : RequestContext) (table : ℕ → AbstractDevice) (s : AbstractSession)
+    → ContextRefines i make d table s →
     TableRefines i make [] (session_let_go d.registry (Some d.session)) (λ k. device_let_go i (table k))

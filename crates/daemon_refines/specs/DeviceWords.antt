@@ -15,7 +15,8 @@ use Rattle.wire_message.specs.declared.message.WireValue.{WireValue}
 use Rattle.saned_requests.specs.declared.request_answer.RequestAnswer.{RequestAnswer}
 use Rattle.saned_requests.specs.declared.request_answer.RequestAnswer.TheVariants.{One}
 use Rattle.saned_requests.specs.Holding.{held_by}
-use Rattle.saned_requests.specs.RequestAnswers.{AnswersStart, RequestContext, ContextOutcome, cancel, close, control, options_reply, params_reply, refused_control}
+use Rattle.saned_requests.specs.RequestAnswers.{AnswersStart, RequestContext, ContextOutcome, cancel, close, control}
+use Rattle.saned_requests.specs.RequestAnswers.{options_reply, params_reply, refused_control}
 use Rattle.saned_requests.specs.OptionValues.{value_asked}
 use Rattle.system_model.specs.AbstractMessages.{Cancel, Close, Describe, Get, Parameters, AbstractRequest, Set, Start}
 use Rattle.system_model.specs.Transitions.{MayFail}
@@ -30,9 +31,11 @@ use Rattle.daemon_refines.specs.Failures.{IsCounted}
 -- a request for a device word, and how the daemon answers it
 abbrev pub WordAgrees : (ℕ → Asked) → AbstractRequest → (RequestContext → ℕ → ContextOutcome) → Type 0
 WordAgrees asked request answers =
-    (i : ℕ) (make : ℕ → Make) (d : RequestContext) (table : ℕ → AbstractDevice) (s : AbstractSession) (x : ℕ → Environment) (word place : ℕ) →
+    (i : ℕ) (make : ℕ → Make) (d : RequestContext) (table : ℕ → AbstractDevice) (s : AbstractSession)
+    (x : ℕ → Environment) (word place : ℕ) →
     ContextRefines i make d table s → d.session.awaited ≡ None →
-    AgreesOn i make d word (asked word) (answer_call i make table s x None (record { request = request; word = word; place = place })) (answers d word)
+    AgreesOn i make d word (asked word)
+    (answer_call i make table s x None (record { request = request; word = word; place = place })) (answers d word)
 
 abbrev pub OptionsAgree : Type 0
 OptionsAgree = WordAgrees requests.GetOptionDescriptors Describe options_reply
@@ -47,34 +50,41 @@ abbrev pub ParametersAgree : Type 0
 ParametersAgree = WordAgrees requests.GetParameters Parameters params_reply
 
 abbrev pub GetAgrees : Type 0
-GetAgrees = (n : ℕ) (kind : Kind) (value : WireValue) → WordAgrees (λ w. requests.ControlOption w n GetValue kind value) (Get n) (λ d w. control d w n GetValue kind value)
+GetAgrees = (n : ℕ) (kind : Kind) (value : WireValue)
+    → WordAgrees (λ w. requests.ControlOption w n GetValue kind value) (Get n) (λ d w.
+    control d w n GetValue kind value)
 
 -- the value that a SET asks for, where it is one of its option's type; of an option that is not there it is any value
 abbrev pub AsksOf : Option Descriptor → Kind → WireValue → Value → Type 0
 AsksOf None kind value v = v ≡ Flag false
 AsksOf (Some desc) kind value v = value_asked desc kind value ≡ Some v
 
--- **asks for a value (`AsksFor`, `AsksNone`)**: the value that a SET asks for; and that it asks for none, since what it has
--- is not of its option's type.
+-- **asks for a value (`AsksFor`, `AsksNone`)**: the value that a SET asks for; and that it asks for none, since what it
+-- has is not of its option's type.
 abbrev pub AsksFor : Option (Lease DeviceState) → ℕ → Kind → WireValue → Value → Type 0
 AsksFor None n kind value v = Unit {0}
 AsksFor (Some l) n kind value v = AsksOf (slice_get (descriptors_of l.device.setup) n) kind value v
 
 abbrev pub SetAgrees : Type 0
 SetAgrees =
-    (i : ℕ) (make : ℕ → Make) (d : RequestContext) (table : ℕ → AbstractDevice) (s : AbstractSession) (x : ℕ → Environment) (word place n : ℕ) (kind : Kind) (value : WireValue) (v : Value) →
+    (i : ℕ) (make : ℕ → Make) (d : RequestContext) (table : ℕ → AbstractDevice) (s : AbstractSession)
+    (x : ℕ → Environment) (word place n : ℕ) (kind : Kind) (value : WireValue) (v : Value) →
     ContextRefines i make d table s → d.session.awaited ≡ None → AsksFor (held_by d.session.held word) n kind value v →
-    AgreesOn i make d word (requests.ControlOption word n SetValue kind value) (answer_call i make table s x None (record { request = Set n v; word = word; place = place })) (control d word n SetValue kind value)
+    AgreesOn i make d word (requests.ControlOption word n SetValue kind value)
+    (answer_call i make table s x None (record { request = Set n v; word = word; place = place }))
+    (control d word n SetValue kind value)
 
 -- a value that is not of its option's type: the model has no such value
 abbrev pub AsksNone : Option (Lease DeviceState) → ℕ → Kind → WireValue → Type 0
 AsksNone None n kind value = ⊥
-AsksNone (Some l) n kind value = (desc : Descriptor) × (slice_get (descriptors_of l.device.setup) n ≡ Some desc) × (value_asked desc kind value ≡ None)
+AsksNone (Some l) n kind value = (desc : Descriptor) × (slice_get (descriptors_of l.device.setup) n ≡ Some desc)
+    × (value_asked desc kind value ≡ None)
 
 -- it is refused before any device is asked
 abbrev pub SetRefuses : Type 0
 SetRefuses =
-    (d : RequestContext) (word n : ℕ) (kind : Kind) (value : WireValue) → AsksNone (held_by d.session.held word) n kind value →
+    (d : RequestContext) (word n : ℕ) (kind : Kind) (value : WireValue)
+    → AsksNone (held_by d.session.held word) n kind value →
     control d word n SetValue kind value ≡ (One (refused_control code.Inval kind value), d)
 
 -- a source fails only of a device that the session holds, and there only where one can
@@ -85,7 +95,10 @@ MayFailAt make (Some k) fault = MayFail (make k) fault
 -- START: whatever the device answers, the model answers with the failure that the page's source counted, or none
 abbrev pub StartAgrees : Type 0
 StartAgrees =
-    (i : ℕ) (make : ℕ → Make) (d : RequestContext) (table : ℕ → AbstractDevice) (s : AbstractSession) (word place : ℕ) (said : RequestAnswer) (new : RequestContext) →
+    (i : ℕ) (make : ℕ → Make) (d : RequestContext) (table : ℕ → AbstractDevice) (s : AbstractSession) (word place : ℕ)
+    (said : RequestAnswer) (new : RequestContext) →
     ContextRefines i make d table s → d.session.awaited ≡ None → AnswersStart d word said new →
-    (fault : Option FailureCounts) × MayFailAt make (s.words word) fault × IsCounted d.session.held new.session.held word fault × ((x : ℕ → Environment) → (x place).fault ≡ fault →
-    Agrees i make (manner d word) (requests.Start word) (answer_call i make table s x None (record { request = Start; word = word; place = place })) said new)
+    (fault : Option FailureCounts) × MayFailAt make (s.words word) fault
+    × IsCounted d.session.held new.session.held word fault × ((x : ℕ → Environment) → (x place).fault ≡ fault →
+    Agrees i make (manner d word) (requests.Start word)
+    (answer_call i make table s x None (record { request = Start; word = word; place = place })) said new)

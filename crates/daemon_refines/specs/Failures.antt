@@ -7,9 +7,9 @@ use Rattle.system_model.specs.Daemon.{FailureCounts}
 use Rattle.system_model.specs.Actions.{Action, TurnsFault}
 
 -- **failed (`IsFailureOf`, `IsFailureIn`, `FailedAt`, `IsCounted`, `IsTurnCounted`, `IsCountedAt`)**: a failure by the
--- model is one of the device: the source of its first page, one that can fail, did so in this very call, and the model's
--- two numbers are its counts before and behind it; so did that of the device of a word, which the session held before and
--- holds behind; of a START, and of a turn.
+-- model is one of the device: the source of its first page, one that can fail, did so in this very call, and the
+-- model's two numbers are its counts before and behind it; so did that of the device of a word, which the session held
+-- before and holds behind; of a START, and of a turn.
 pub record IsFailureOf (old new : DeviceState) (f : FailureCounts) : Type 0 where
   pub stopped : HasStopped old new
   pub before : f.before ≡ failures_of old
@@ -28,7 +28,8 @@ pub record FailedAt (held now : List (Option (Lease DeviceState))) (word : ℕ) 
   pub failed : IsFailureOf lease.device after f
 
 -- a request in which a source fails, or none
-abbrev pub IsCounted : List (Option (Lease DeviceState)) → List (Option (Lease DeviceState)) → ℕ → Option FailureCounts → Type 0
+abbrev pub IsCounted : List (Option (Lease DeviceState)) → List (Option (Lease DeviceState)) → ℕ → Option FailureCounts
+    → Type 0
 IsCounted held now word None = Unit {0}
 IsCounted held now word (Some f) = FailedAt held now word f
 
@@ -38,6 +39,7 @@ IsTurnCounted old new (TurnsFault f) = IsFailureOf old new f
 IsTurnCounted old new action = Unit {0}
 
 -- and by the word of a place
-abbrev pub IsCountedAt : List (Option (Lease DeviceState)) → List (Option (Lease DeviceState)) → (ℕ → Option ℕ) → ℕ → Action → Type 0
+abbrev pub IsCountedAt : List (Option (Lease DeviceState)) → List (Option (Lease DeviceState)) → (ℕ → Option ℕ) → ℕ
+    → Action → Type 0
 IsCountedAt held now words place (TurnsFault f) = (word : ℕ) × (words word ≡ Some place) × FailedAt held now word f
 IsCountedAt held now words place action = Unit {0}

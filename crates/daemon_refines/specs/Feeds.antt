@@ -33,27 +33,42 @@ abbrev pub IsSessionBegun : RequestContext → Type 0
 IsSessionBegun d = (d.session.greeted ≡ true) ⊎ (d.session.awaited ≡ None)
 
 -- what comes of a call by the model, with this challenge and this fault
-abbrev pub effect_by_model : ℕ → (ℕ → Make) → (ℕ → AbstractDevice) → AbstractSession → (ℕ → Environment) → AddressedRequest → Challenge → Option FailureCounts → FullEffect
-effect_by_model i make table s x call challenge fault = answer_call i make table s (with_chance x call.place challenge fault) s.awaited call
+abbrev pub effect_by_model : ℕ → (ℕ → Make) → (ℕ → AbstractDevice) → AbstractSession → (ℕ → Environment)
+    → AddressedRequest → Challenge → Option FailureCounts → FullEffect
+effect_by_model i make table s x call challenge fault =
+    answer_call i make table s (with_chance x call.place challenge fault) s.awaited call
 
--- a request that the session goes on behind: it is a call by the model, or a SET whose value is not of its option's type
-pub data ServesRequest (i : ℕ) (make : ℕ → Make) (users : List Entry) (d : RequestContext) (table : ℕ → AbstractDevice) (s : AbstractSession) (q : Asked) (said : RequestAnswer) (new : RequestContext) (t : ℕ → AbstractDevice) (u : AbstractSession) : Type 0 where
-  ByTheRules : (call : AddressedRequest) → (x : ℕ → Environment) → (challenge : Challenge) → (fault : Option FailureCounts) → IsCall users d table s q call x → MayFailAt make (s.words call.word) fault → IsCounted d.session.held new.session.held call.word fault →
+-- a request that the session goes on behind: it is a call by the model, or a SET whose value is not of its option's
+-- type
+pub data ServesRequest (i : ℕ) (make : ℕ → Make) (users : List Entry) (d : RequestContext) (table : ℕ → AbstractDevice)
+    (s : AbstractSession) (q : Asked) (said : RequestAnswer) (new : RequestContext) (t : ℕ → AbstractDevice)
+    (u : AbstractSession) : Type 0 where
+  ByTheRules : (call : AddressedRequest) → (x : ℕ → Environment) → (challenge : Challenge)
+      → (fault : Option FailureCounts) → IsCall users d table s q call x → MayFailAt make (s.words call.word) fault
+      → IsCounted d.session.held new.session.held call.word fault →
       Agrees i make (manner d (device_word_of q)) q (effect_by_model i make table s x call challenge fault) said new →
-      t ≡ (effect_by_model i make table s x call challenge fault).table → u ≡ (effect_by_model i make table s x call challenge fault).session → ServesRequest i make users d table s q said new t u
-  OfAnotherType : (word n : ℕ) → (kind : Kind) → (value : WireValue) → q ≡ requests.ControlOption word n SetValue kind value → AsksNone (held_by d.session.held word) n kind value →
-      said ≡ One (refused_control code.Inval kind value) → new ≡ d → t ≡ table → u ≡ s → ServesRequest i make users d table s q said new t u
+      t ≡ (effect_by_model i make table s x call challenge fault).table
+      → u ≡ (effect_by_model i make table s x call challenge fault).session
+      → ServesRequest i make users d table s q said new t u
+  OfAnotherType : (word n : ℕ) → (kind : Kind) → (value : WireValue)
+      → q ≡ requests.ControlOption word n SetValue kind value → AsksNone (held_by d.session.held word) n kind value →
+      said ≡ One (refused_control code.Inval kind value) → new ≡ d → t ≡ table → u ≡ s
+      → ServesRequest i make users d table s q said new t u
 
--- **fed (`ServesRequests`, `SessionContinues`, `EndsSession`, `IsFed`)**: requests one after another, each a call by the
--- model or a SET of another type, and the request context shown behind each; that the session goes on behind them; or that
--- it ended, with all given back, behind them or behind one more.
-abbrev pub ServesRequests : ℕ → (ℕ → Make) → List Entry → RequestContext → (ℕ → AbstractDevice) → AbstractSession → List Asked → RequestContext → (ℕ → AbstractDevice) → AbstractSession → Type 0
+-- **fed (`ServesRequests`, `SessionContinues`, `EndsSession`, `IsFed`)**: requests one after another, each a call by
+-- the model or a SET of another type, and the request context shown behind each; that the session goes on behind them;
+-- or that it ended, with all given back, behind them or behind one more.
+abbrev pub ServesRequests : ℕ → (ℕ → Make) → List Entry → RequestContext → (ℕ → AbstractDevice) → AbstractSession
+    → List Asked → RequestContext → (ℕ → AbstractDevice) → AbstractSession → Type 0
 ServesRequests i make users d table s [] new t u = (new ≡ d) × (t ≡ table) × (u ≡ s)
 ServesRequests i make users d table s (q ∷ qs) new t u =
-    (said : RequestAnswer) × (mid : RequestContext) × (devices : ℕ → AbstractDevice) × (session : AbstractSession) × ServesRequest i make users d table s q said mid devices session × ContextRefines i make mid devices session × ServesRequests i make users mid devices session qs new t u
+    (said : RequestAnswer) × (mid : RequestContext) × (devices : ℕ → AbstractDevice) × (session : AbstractSession)
+    × ServesRequest i make users d table s q said mid devices session × ContextRefines i make mid devices session
+    × ServesRequests i make users mid devices session qs new t u
 
 -- the session goes on: the request context behind the requests is shown again, and others are left what they hold
-pub record SessionContinues (i : ℕ) (make : ℕ → Make) (users : List Entry) (d : RequestContext) (table : ℕ → AbstractDevice) (s : AbstractSession) (asked : List Asked) (new : RequestContext) : Type 0 where
+pub record SessionContinues (i : ℕ) (make : ℕ → Make) (users : List Entry) (d : RequestContext)
+    (table : ℕ → AbstractDevice) (s : AbstractSession) (asked : List Asked) (new : RequestContext) : Type 0 where
   pub devices : ℕ → AbstractDevice
   pub session : AbstractSession
   pub runs : ServesRequests i make users d table s asked new devices session
@@ -62,12 +77,15 @@ pub record SessionContinues (i : ℕ) (make : ℕ → Make) (users : List Entry)
   pub others : LeavesOthers i d.registry new.registry table devices
 
 -- the devices, once one more request was served, or as they were
-pub data ClosesSession (i : ℕ) (make : ℕ → Make) (users : List Entry) (d : RequestContext) (table : ℕ → AbstractDevice) (s : AbstractSession) (new : RequestContext) (t : ℕ → AbstractDevice) : Type 0 where
+pub data ClosesSession (i : ℕ) (make : ℕ → Make) (users : List Entry) (d : RequestContext) (table : ℕ → AbstractDevice)
+    (s : AbstractSession) (new : RequestContext) (t : ℕ → AbstractDevice) : Type 0 where
   AtOnce : t ≡ table → ClosesSession i make users d table s new t
-  BehindOne : (q : Asked) → (said : RequestAnswer) → (u : AbstractSession) → ServesRequest i make users d table s q said new t u → ClosesSession i make users d table s new t
+  BehindOne : (q : Asked) → (said : RequestAnswer) → (u : AbstractSession)
+      → ServesRequest i make users d table s q said new t u → ClosesSession i make users d table s new t
 
 -- the session is over: all that it holds is given back, and others are left what they hold
-pub record EndsSession (i : ℕ) (make : ℕ → Make) (users : List Entry) (d : RequestContext) (table : ℕ → AbstractDevice) (s : AbstractSession) (asked : List Asked) (new : RequestContext) : Type 0 where
+pub record EndsSession (i : ℕ) (make : ℕ → Make) (users : List Entry) (d : RequestContext) (table : ℕ → AbstractDevice)
+    (s : AbstractSession) (asked : List Asked) (new : RequestContext) : Type 0 where
   pub mid : RequestContext
   pub so_far : SessionContinues i make users d table s asked mid
   pub devices : ℕ → AbstractDevice
@@ -76,13 +94,20 @@ pub record EndsSession (i : ℕ) (make : ℕ → Make) (users : List Entry) (d :
   pub others : LeavesOthers i d.registry (daemon.table_let_go new) table (λ k. device_let_go i (devices k))
 
 -- by what becomes of the session
-abbrev pub IsFed : Fed → ℕ → (ℕ → Make) → List Entry → RequestContext → (ℕ → AbstractDevice) → AbstractSession → List ℕ → List ℕ → List ℕ → RequestContext → Type 0
-IsFed Standing i make users d table s old piece rest new = (asked : List Asked) × DecodesRequests old piece asked rest × SessionContinues i make users d table s asked new
-IsFed Over i make users d table s old piece rest new = (left : List ℕ) × (asked : List Asked) × DecodesRequests old piece asked left × EndsSession i make users d table s asked new
-IsFed Starved i make users d table s old piece rest new = (left : List ℕ) × (asked : List Asked) × DecodesRequests old piece asked left × EndsSession i make users d table s asked new
+abbrev pub IsFed : Fed → ℕ → (ℕ → Make) → List Entry → RequestContext → (ℕ → AbstractDevice) → AbstractSession → List ℕ
+    → List ℕ → List ℕ → RequestContext → Type 0
+IsFed Standing i make users d table s old piece rest new = (asked : List Asked) × DecodesRequests old piece asked rest
+    × SessionContinues i make users d table s asked new
+IsFed Over i make users d table s old piece rest new = (left : List ℕ) × (asked : List Asked)
+    × DecodesRequests old piece asked left × EndsSession i make users d table s asked new
+IsFed Starved i make users d table s old piece rest new = (left : List ℕ) × (asked : List Asked)
+    × DecodesRequests old piece asked left × EndsSession i make users d table s asked new
 
 -- whatever bytes come, also where memory runs out
 abbrev pub FeedsAgree : Type 0
 FeedsAgree =
-    (i : ℕ) (make : ℕ → Make) (users : List Entry) (d : RequestContext) (table : ℕ → AbstractDevice) (s : AbstractSession) (old piece rest text : List ℕ) (fed : Fed) (new : RequestContext) →
-    ContextRefines i make d table s → IsSessionBegun d → FeedsContext fed (record { users = users; context = d; before = old; piece = piece }) (record { context = new; rest = rest; text = text }) → IsFed fed i make users d table s old piece rest new
+    (i : ℕ) (make : ℕ → Make) (users : List Entry) (d : RequestContext) (table : ℕ → AbstractDevice)
+    (s : AbstractSession) (old piece rest text : List ℕ) (fed : Fed) (new : RequestContext) →
+    ContextRefines i make d table s → IsSessionBegun d
+    → FeedsContext fed (record { users = users; context = d; before = old; piece = piece })
+    (record { context = new; rest = rest; text = text }) → IsFed fed i make users d table s old piece rest new

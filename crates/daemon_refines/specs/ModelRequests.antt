@@ -9,7 +9,8 @@ use Rattle.saned_requests.specs.declared.request_answer.RequestAnswer.{RequestAn
 use Rattle.saned_requests.specs.declared.session.AwaitedAuthorization.{AwaitedAuthorization}
 use Rattle.saned_requests.specs.Holding.{held_by}
 use Rattle.saned_requests.specs.RequestAnswers.{Answers, RequestContext, MayOpen}
-use Rattle.system_model.specs.AbstractMessages.{Authorize, Cancel, Challenge, Close, Describe, Exit, Get, GetDevices, Init, Open, Parameters, AbstractRequest, Set, Start, same_text}
+use Rattle.system_model.specs.AbstractMessages.{Authorize, Cancel, Challenge, Close, Describe, Exit, Get, GetDevices}
+use Rattle.system_model.specs.AbstractMessages.{Init, Open, Parameters, AbstractRequest, Set, Start, same_text}
 use Rattle.system_model.specs.Devices.{Make}
 use Rattle.system_model.specs.AbstractDevices.{AbstractDevice}
 use Rattle.system_model.specs.Daemon.{Environment, FailureCounts}
@@ -35,35 +36,43 @@ abbrev pub IsFor : AbstractRequest → ℕ → AddressedRequest → Type 0
 IsFor request word call = (call.request ≡ request) × (call.word ≡ word)
 
 -- INIT is of the daemon's major, OPEN is for the place of its name, and the value of a SET is of its option's type
-abbrev pub IsFreeCall : List Entry → RequestContext → (ℕ → AbstractDevice) → Asked → AddressedRequest → (ℕ → Environment) → Type 0
+abbrev pub IsFreeCall : List Entry → RequestContext → (ℕ → AbstractDevice) → Asked → AddressedRequest
+    → (ℕ → Environment) → Type 0
 IsFreeCall users d table (requests.Init version user) call x = (call.request ≡ Init) × (version / 16777216 ≡ 1)
 IsFreeCall users d table requests.GetDevices call x = call.request ≡ GetDevices
-IsFreeCall users d table (requests.Open name) call x = (call.request ≡ Open) × Names name d.registry table call.place × IsGuardedAt users d name (x call.place).guarded
+IsFreeCall users d table (requests.Open name) call x = (call.request ≡ Open) × Names name d.registry table call.place
+    × IsGuardedAt users d name (x call.place).guarded
 IsFreeCall users d table (requests.Close word) call x = IsFor Close word call
 IsFreeCall users d table (requests.GetOptionDescriptors word) call x = IsFor Describe word call
 IsFreeCall users d table (requests.ControlOption word n GetValue kind value) call x = IsFor (Get n) word call
-IsFreeCall users d table (requests.ControlOption word n SetValue kind value) call x = (v : Value) × AsksFor (held_by d.session.held word) n kind value v × IsFor (Set n v) word call
+IsFreeCall users d table (requests.ControlOption word n SetValue kind value) call x = (v : Value)
+    × AsksFor (held_by d.session.held word) n kind value v × IsFor (Set n v) word call
 IsFreeCall users d table (requests.GetParameters word) call x = IsFor Parameters word call
 IsFreeCall users d table (requests.Start word) call x = IsFor Start word call
 IsFreeCall users d table (requests.Cancel word) call x = IsFor Cancel word call
-IsFreeCall users d table (requests.Authorize resource user password) call x = (answer : Challenge) × (call.request ≡ Authorize answer)
+IsFreeCall users d table (requests.Authorize resource user password) call x = (answer : Challenge)
+    × (call.request ≡ Authorize answer)
 IsFreeCall users d table requests.Exit call x = call.request ≡ Exit
 
 -- while AUTHORIZE is awaited, for the challenge that was sent and its place
-abbrev pub IsAwaitedCall : List Entry → AwaitedAuthorization → Challenge → ℕ → Asked → AddressedRequest → (ℕ → Environment) → Type 0
+abbrev pub IsAwaitedCall : List Entry → AwaitedAuthorization → Challenge → ℕ → Asked → AddressedRequest
+    → (ℕ → Environment) → Type 0
 IsAwaitedCall users awaited sent place (requests.Authorize resource user password) call x =
-    (answer : Challenge) × (call.request ≡ Authorize answer) × IsJudged (MayOpen users awaited resource user password) (same_text answer sent) ((x place).allows sent)
+    (answer : Challenge) × (call.request ≡ Authorize answer)
+    × IsJudged (MayOpen users awaited resource user password) (same_text answer sent) ((x place).allows sent)
 IsAwaitedCall users awaited sent place _ call x = IsOtherRequest call.request
 
-abbrev pub IsCallBy : List Entry → RequestContext → (ℕ → AbstractDevice) → Option AwaitedAuthorization → Option (Challenge × ℕ) → Asked → AddressedRequest → (ℕ → Environment) → Type 0
+abbrev pub IsCallBy : List Entry → RequestContext → (ℕ → AbstractDevice) → Option AwaitedAuthorization
+    → Option (Challenge × ℕ) → Asked → AddressedRequest → (ℕ → Environment) → Type 0
 IsCallBy users d table None sent q call x = IsFreeCall users d table q call x
 IsCallBy users d table (Some awaited) None q call x = ⊥
 IsCallBy users d table (Some awaited) (Some (sent, place)) q call x = IsAwaitedCall users awaited sent place q call x
 
--- **call of a request (`IsCall`)**: the request as the model has it, at its word and its place: of an INIT of the daemon's
--- major, of a SET whose value is of its option's type, of an OPEN with whether a users line names its backend, of an
--- AUTHORIZE with whether it is allowed.
-abbrev pub IsCall : List Entry → RequestContext → (ℕ → AbstractDevice) → AbstractSession → Asked → AddressedRequest → (ℕ → Environment) → Type 0
+-- **call of a request (`IsCall`)**: the request as the model has it, at its word and its place: of an INIT of the
+-- daemon's major, of a SET whose value is of its option's type, of an OPEN with whether a users line names its backend,
+-- of an AUTHORIZE with whether it is allowed.
+abbrev pub IsCall : List Entry → RequestContext → (ℕ → AbstractDevice) → AbstractSession → Asked → AddressedRequest
+    → (ℕ → Environment) → Type 0
 IsCall users d table s q call x = IsCallBy users d table d.session.awaited s.awaited q call x
 
 -- the surroundings, with what chance brings at a place
@@ -71,15 +80,22 @@ abbrev pub with_chance : (ℕ → Environment) → ℕ → Challenge → Option 
 with_chance x place challenge fault = with_entry x place (record (x place) { challenge = challenge; fault = fault })
 
 -- some challenge is drawn, and the page's source fails and counts that, or not
-pub record RequestServed (i : ℕ) (make : ℕ → Make) (d : RequestContext) (table : ℕ → AbstractDevice) (s : AbstractSession) (q : Asked) (call : AddressedRequest) (x : ℕ → Environment) (said : RequestAnswer) (new : RequestContext) : Type 0 where
+pub record RequestServed (i : ℕ) (make : ℕ → Make) (d : RequestContext) (table : ℕ → AbstractDevice)
+    (s : AbstractSession) (q : Asked) (call : AddressedRequest) (x : ℕ → Environment) (said : RequestAnswer)
+    (new : RequestContext) : Type 0 where
   pub challenge : Challenge
   pub fault : Option FailureCounts
   pub may : MayFailAt make (s.words call.word) fault
   pub counted : IsCounted d.session.held new.session.held call.word fault
-  pub agrees : Agrees i make (manner d (device_word_of q)) q (answer_call i make table s (with_chance x call.place challenge fault) s.awaited call) said new
+  pub agrees
+      : Agrees i make (manner d (device_word_of q)) q
+      (answer_call i make table s (with_chance x call.place challenge fault) s.awaited call) said new
 
 -- any request that is a call is answered as the model says
 abbrev pub RequestsAgree : Type 0
 RequestsAgree =
-    (i : ℕ) (make : ℕ → Make) (users : List Entry) (d : RequestContext) (table : ℕ → AbstractDevice) (s : AbstractSession) (q : Asked) (call : AddressedRequest) (x : ℕ → Environment) (said : RequestAnswer) (new : RequestContext) →
-    ContextRefines i make d table s → d.session.greeted ≡ true → IsCall users d table s q call x → Answers users d q said new → RequestServed i make d table s q call x said new
+    (i : ℕ) (make : ℕ → Make) (users : List Entry) (d : RequestContext) (table : ℕ → AbstractDevice)
+    (s : AbstractSession) (q : Asked) (call : AddressedRequest) (x : ℕ → Environment) (said : RequestAnswer)
+    (new : RequestContext) →
+    ContextRefines i make d table s → d.session.greeted ≡ true → IsCall users d table s q call x
+    → Answers users d q said new → RequestServed i make d table s q call x said new

@@ -1,5 +1,6 @@
 -- Data records: a payload and a status as bytes, and what stands behind each place of them.
-use Rattle.std.specs.Prelude.{◌≡◌, ℕ, zero, suc, ◌<◌, ◌≤◌, ◌↔◌, ◌==◌, List, [], ◌∷◌, ◌++◌, length, take, slice_range, if◌then◌else◌}
+use Rattle.std.specs.Prelude.{◌≡◌, ℕ, zero, suc, ◌<◌, ◌≤◌, ◌↔◌, ◌==◌, List, [], ◌∷◌, ◌++◌, length, take, slice_range}
+use Rattle.std.specs.Prelude.{if◌then◌else◌}
 use Rattle.std.specs.List.{AllByRecursion}
 use Rattle.std.specs.Int.{w32, to_be_bytes}
 use Rattle.data_records.specs.declared.records.RecordPhase.{RecordPhase}
@@ -65,12 +66,15 @@ rest_of_body (suc left) = phases.Body (suc left)
 -- what was used is the text up to where the reader stands now, and what was given is the payload up to there
 abbrev pub CarriesRecords : RecordPhase → RecordPhase → List ℕ → List ℕ → Type 0
 CarriesRecords old new used given = (text payload : List ℕ) (status : ℕ) →
-    RecordsContinue old (used ++ text) payload status ↔ ((more : List ℕ) × (payload ≡ given ++ more) × RecordsContinue new text more status)
+    RecordsContinue old (used ++ text) payload status ↔ ((more : List ℕ) × (payload ≡ given ++ more)
+    × RecordsContinue new text more status)
 
 abbrev pub ReaderSteps : RecordPhase → RecordPhase → List ℕ → ℕ → Step → Type 0
 ReaderSteps old new piece used steps.More = CarriesRecords old new (take used piece) []
-ReaderSteps old new piece used (steps.Bytes from to) = (from ≤ to) × (to ≤ used) × CarriesRecords old new (take used piece) (slice_range piece from to)
-ReaderSteps old new piece used (steps.End status) = (new ≡ phases.Ended status) × CarriesRecords old new (take used piece) []
+ReaderSteps old new piece used (steps.Bytes from to) = (from ≤ to) × (to ≤ used)
+    × CarriesRecords old new (take used piece) (slice_range piece from to)
+ReaderSteps old new piece used (steps.End status) = (new ≡ phases.Ended status)
+    × CarriesRecords old new (take used piece) []
 
 -- a reader that stands behind the status tells it
 abbrev pub TellsEnd : RecordPhase → Step → Type 0
@@ -102,7 +106,8 @@ pub record Piece : Type 0 where
 -- steps, one from where the one before it stopped
 abbrev pub AreSteps : RecordPhase → List Piece → RecordPhase → Type 0
 AreSteps old [] new = old ≡ new
-AreSteps old (piece ∷ pieces) new = (between : RecordPhase) × CarriesRecords old between piece.used piece.given × AreSteps between pieces new
+AreSteps old (piece ∷ pieces) new = (between : RecordPhase) × CarriesRecords old between piece.used piece.given
+    × AreSteps between pieces new
 
 abbrev pub all_used : List Piece → List ℕ
 all_used [] = []

@@ -7,6 +7,7 @@ ghost use Rattle.sane_fixed.specs.Status.{status_code};
 ghost use Rattle.data_records.specs.declared.records.RecordPhase.{RecordPhase as AnyPhase};
 ghost use Rattle.data_records.specs.declared.records.RecordPhase.TheVariants.{Head, Ended};
 ghost use Rattle.data_records.specs.Records.{RecordsContinue, IsRecords, ReaderSteps, TellsEnd, HasEnded, Piece, AreSteps, all_used, all_given, end_record, head_phase, rest_of_body};
+ghost use Rattle.data_records.specs.Laws.{RecordsEndSo};
 
 use sane_fixed::Status;
 use std::marker::Model;
@@ -159,7 +160,5 @@ impl RecordReader {
 pub fn records_are_read_in_any_pieces()
     ensures ended { (pieces : List Piece) (status : ℕ) → AreSteps Head pieces (Ended status)
         → IsRecords (all_used pieces) (all_given pieces) status }
-    ensures whole { (pieces : List Piece) (new : AnyPhase) (payload : List ℕ) (status : ℕ)
-        → AreSteps Head pieces new → IsRecords (all_used pieces) payload status
-        → (new ≡ Ended status) × (all_given pieces ≡ payload) }
+    ensures whole { RecordsEndSo }
 {}

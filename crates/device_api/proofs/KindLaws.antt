@@ -49,11 +49,6 @@ pub laid_stocked : (kind : Model) (page : Page) (tray : List Page) → has_room 
 laid_stocked Feeder page tray room = let few = ltb-true (length tray) 16 room in let count = length-append tray (page ∷ []) in omega arith
 laid_stocked _ page tray room = refl
 
--- none but a feeder is without a page
-pub without_pages : (kind : Model) → IsStocked kind [] → kind ≡ Feeder
-without_pages Feeder stocked = refl
-without_pages _ stocked = absurd (let clash : 0 ≡ 1 = stocked in omega (arith, clash))
-
 -- ---- its frames: it tells how many lines one has, or nothing of it
 
 pub lines_or_none : (kind : DeviceKind) (lines : ℕ) → (lines_in_params kind lines ≡ Some lines) ⊎ (lines_in_params kind lines ≡ None)

@@ -8,7 +8,10 @@ use Rattle.device_api.specs.Options.{choice_text, choices_of}
 use Rattle.device_api.specs.Kinds.{greatest_resolution}
 use Rattle.device_api.specs.ScannerLimits.{IsBetween, IsOnBed}
 use Rattle.device_api.specs.declared.scan_option.ScanOption.{ScanOption}
-use Rattle.device_api.specs.declared.scan_option.ScanOption.TheVariants.{NumOptions, Depth, Resolution, TlX, TlY, BrX, BrY, GammaTable, RedGammaTable, GreenGammaTable, BlueGammaTable, PplLoss, ReadLimitSize, HandScanner}
+use Rattle.device_api.specs.declared.scan_option.ScanOption.TheVariants.{NumOptions, Depth, Resolution, TlX, TlY, BrX}
+use Rattle.device_api.specs.declared.scan_option.ScanOption.TheVariants.{BrY, GammaTable, RedGammaTable}
+use Rattle.device_api.specs.declared.scan_option.ScanOption.TheVariants.{GreenGammaTable, BlueGammaTable, PplLoss}
+use Rattle.device_api.specs.declared.scan_option.ScanOption.TheVariants.{ReadLimitSize, HandScanner}
 
 abbrev pub IsByte : ℤ → Type 0
 IsByte word = IsBetween 0 255 word

@@ -1,5 +1,6 @@
 -- The settings of a job in force: a fold over them from the defaults.
-use Rattle.std.specs.Prelude.{ℕ, ◌≡◌, ◌&&◌, Bool, not, if◌then◌else◌, Option, Some, None, Result, Ok, Err, option_map, option_and_then, List, [], ◌∷◌, slice_get}
+use Rattle.std.specs.Prelude.{ℕ, ◌≡◌, ◌&&◌, Bool, not, if◌then◌else◌, Option, Some, None, Result, Ok, Err, option_map}
+use Rattle.std.specs.Prelude.{option_and_then, List, [], ◌∷◌, slice_get}
 use Rattle.std.specs.List.{position_from}
 use Rattle.std.specs.Str.{bytes_eq}
 use Rattle.sane_fixed.specs.DecimalReading.{◌>>=◌}
@@ -24,7 +25,8 @@ number_named name descriptors = position_from (λ desc. bytes_eq desc.name name)
 abbrev pub may_be_set : Descriptor → Bool
 may_be_set desc = has_cap desc.caps.0 1 && not (has_cap desc.caps.0 32)
 
--- the value that is given for a text: none where the option may not be set, or the text does not read, or no value is near
+-- the value that is given for a text: none where the option may not be set, or the text does not read, or no value is
+-- near
 abbrev pub given_for : Descriptor → List ℕ → Option (Value × Value)
 given_for desc text =
     if may_be_set desc
@@ -51,15 +53,17 @@ placement s setting = do
 abbrev pub force : Setup → List (List ℕ × List ℕ) → Option (Setup × List Placement)
 force s [] = Some (s, [])
 force s (setting ∷ settings) =
-    option_and_then (λ first. option_map (λ more. (more.0, first ∷ more.1)) (force first.setup settings)) (placement s setting)
+    option_and_then (λ first.
+    option_map (λ more. (more.0, first ∷ more.1)) (force first.setup settings)) (placement s setting)
 
--- **settings in force (`in_force`)**: a fold over settings from the defaults of the kind: each name finds its option among
--- the descriptors in force, its text is read as that option's value, and the nearest admitted value is put in; none at the
--- first that fails.
+-- **settings in force (`in_force`)**: a fold over settings from the defaults of the kind: each name finds its option
+-- among the descriptors in force, its text is read as that option's value, and the nearest admitted value is put in;
+-- none at the first that fails.
 abbrev pub in_force : DeviceKind → ByteOrder → List (List ℕ × List ℕ) → Option (Setup × List Placement)
 in_force k order settings = force (defaults k order) settings
 
 -- what is put is what the set of an option answers, and nothing where that refuses
 abbrev pub IsPlacedBy : Setup → ℕ → Value → Result (Value × Info) Status → Option Placement → Type 0
-IsPlacedBy s n asked (Ok given) p = p ≡ Some (record { setup = setup_after s n given.0; asked = asked; given = given.0 })
+IsPlacedBy s n asked (Ok given) p =
+    p ≡ Some (record { setup = setup_after s n given.0; asked = asked; given = given.0 })
 IsPlacedBy s n asked (Err _) p = p ≡ None

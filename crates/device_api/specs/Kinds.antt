@@ -1,13 +1,13 @@
--- What a kind of scanner is: its names, its greatest resolution, whether it is a feeder, and its tray: what a start leaves of it,
--- what a page that is laid in makes of it, and how many pages it can have.
+-- What a kind of scanner is: its names, its greatest resolution, whether it is a feeder, and its tray: what a start
+-- leaves of it, what a page that is laid in makes of it, and how many pages it can have.
 use Rattle.std.specs.Prelude.{ℕ, ◌≡◌, ◌≤◌, List, [], ◌∷◌, ◌++◌, Bool, true, false, ltb, length, codes}
 use Rattle.page_picture.specs.Page.{PageView}
 use Rattle.page_picture.specs.declared.scene.DeviceKind.{DeviceKind}
 use Rattle.page_picture.specs.declared.scene.DeviceKind.TheVariants.{Flatbed, Hand, ThreePass, Feeder}
 
--- **a kind of scanner (`model_of`, `class_of`, `greatest_resolution`, `is_feeder`)**: its names, and whether pages are fed
--- to it from a tray. What a start leaves in the tray, what a page laid in makes of it, when it has room, how many pages it
--- can have: `after_start`, `laid_in`, `has_room`, `IsStocked`.
+-- **a kind of scanner (`model_of`, `class_of`, `greatest_resolution`, `is_feeder`)**: its names, and whether pages are
+-- fed to it from a tray. What a start leaves in the tray, what a page laid in makes of it, when it has room, how many
+-- pages it can have: `after_start`, `laid_in`, `has_room`, `IsStocked`.
 abbrev pub model_of : DeviceKind → List ℕ
 model_of Flatbed = codes "Flatbed"
 model_of Hand = codes "Hand"

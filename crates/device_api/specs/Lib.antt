@@ -7,3 +7,4 @@ pub mod ScannerLimits
 pub mod AdmittedOptions
 pub mod Same
 pub mod OwnOptions
+pub mod Laws

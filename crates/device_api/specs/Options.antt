@@ -1,6 +1,7 @@
 -- The options of the virtual scanners: which there are, and their descriptors (SANE Standard 1.06, "Option
 -- Descriptors"; the options are those of sane-test(5)).
-use Rattle.std.specs.Prelude.{ℕ, ◌+◌, ◌*◌, ◌/◌, ◌%◌, ◌==◌, ℤ, pos, ◌&&◌, Bool, true, false, not, if◌then◌else◌, Option, Some, None, List, [], ◌∷◌, map, slice_get, codes}
+use Rattle.std.specs.Prelude.{ℕ, ◌+◌, ◌*◌, ◌/◌, ◌%◌, ◌==◌, ℤ, pos, ◌&&◌, Bool, true, false, not, if◌then◌else◌, Option}
+use Rattle.std.specs.Prelude.{Some, None, List, [], ◌∷◌, map, slice_get, codes}
 use Rattle.sane_fixed.specs.declared.kind.Kind.{Kind}
 use Rattle.sane_fixed.specs.declared.kind.Kind.TheVariants as kind
 use Rattle.sane_fixed.specs.declared.unit.Unit.{Unit as Measure}
@@ -21,16 +22,21 @@ use Rattle.scan_frames.specs.declared.setup.Setup.{Setup}
 use Rattle.device_api.specs.declared.choice.Choice.{Choice}
 use Rattle.device_api.specs.declared.choice.Choice.TheVariants as choice
 use Rattle.device_api.specs.declared.scan_option.ScanOption.{ScanOption}
-use Rattle.device_api.specs.declared.scan_option.ScanOption.TheVariants.{NumOptions, Mode as ModeOption, Depth, Resolution, TlX, TlY, BrX, BrY, GammaTable, RedGammaTable, GreenGammaTable, BlueGammaTable, ThreePassOrder, PplLoss, ReadLimitSize, ReadReturnValue, HandScanner}
+use Rattle.device_api.specs.declared.scan_option.ScanOption.TheVariants.{NumOptions, Mode as ModeOption, Depth}
+use Rattle.device_api.specs.declared.scan_option.ScanOption.TheVariants.{Resolution, TlX, TlY, BrX, BrY, GammaTable}
+use Rattle.device_api.specs.declared.scan_option.ScanOption.TheVariants.{RedGammaTable, GreenGammaTable, BlueGammaTable}
+use Rattle.device_api.specs.declared.scan_option.ScanOption.TheVariants.{ThreePassOrder, PplLoss, ReadLimitSize}
+use Rattle.device_api.specs.declared.scan_option.ScanOption.TheVariants.{ReadReturnValue, HandScanner}
 
 abbrev pub flatbed_options : List ScanOption
 flatbed_options =
-    NumOptions ∷ ModeOption ∷ Depth ∷ Resolution ∷ TlX ∷ TlY ∷ BrX ∷ BrY ∷ GammaTable ∷ PplLoss ∷ ReadLimitSize ∷ ReadReturnValue
+    NumOptions ∷ ModeOption ∷ Depth ∷ Resolution ∷ TlX ∷ TlY ∷ BrX ∷ BrY ∷ GammaTable ∷ PplLoss ∷ ReadLimitSize
+    ∷ ReadReturnValue
     ∷ RedGammaTable ∷ GreenGammaTable ∷ BlueGammaTable ∷ []
 
--- **option tables (`options_of`, `descriptor_of`, `is_active`)**: by kind of scanner, in the order of their numbers: name,
--- title, kind, unit, size, capabilities, constraint. No gamma table at depth 16, tables of channels in color at depth 8
--- alone, no order of passes in gray; an inactive option keeps its value.
+-- **option tables (`options_of`, `descriptor_of`, `is_active`)**: by kind of scanner, in the order of their numbers:
+-- name, title, kind, unit, size, capabilities, constraint. No gamma table at depth 16, tables of channels in color at
+-- depth 8 alone, no order of passes in gray; an inactive option keeps its value.
 abbrev pub options_of : DeviceKind → List ScanOption
 options_of Flatbed = flatbed_options
 options_of Feeder = flatbed_options
@@ -125,11 +131,15 @@ option_size _ = 4
 abbrev pub choices_of : ScanOption → List Choice
 choices_of ModeOption = choice.Mode Gray ∷ choice.Mode Color ∷ []
 choices_of ThreePassOrder =
-    choice.Passes Rgb ∷ choice.Passes Rbg ∷ choice.Passes Gbr ∷ choice.Passes Grb ∷ choice.Passes Brg ∷ choice.Passes Bgr ∷ []
+    choice.Passes Rgb ∷ choice.Passes Rbg ∷ choice.Passes Gbr ∷ choice.Passes Grb ∷ choice.Passes Brg
+    ∷ choice.Passes Bgr ∷ []
 choices_of ReadReturnValue =
-    choice.ReadStatus None ∷ choice.ReadStatus (Some status.Unsupported) ∷ choice.ReadStatus (Some status.Cancelled) ∷ choice.ReadStatus (Some status.DeviceBusy)
-    ∷ choice.ReadStatus (Some status.Inval) ∷ choice.ReadStatus (Some status.Eof) ∷ choice.ReadStatus (Some status.Jammed) ∷ choice.ReadStatus (Some status.NoDocs)
-    ∷ choice.ReadStatus (Some status.CoverOpen) ∷ choice.ReadStatus (Some status.IoError) ∷ choice.ReadStatus (Some status.NoMem)
+    choice.ReadStatus None ∷ choice.ReadStatus (Some status.Unsupported) ∷ choice.ReadStatus (Some status.Cancelled)
+    ∷ choice.ReadStatus (Some status.DeviceBusy)
+    ∷ choice.ReadStatus (Some status.Inval) ∷ choice.ReadStatus (Some status.Eof)
+    ∷ choice.ReadStatus (Some status.Jammed) ∷ choice.ReadStatus (Some status.NoDocs)
+    ∷ choice.ReadStatus (Some status.CoverOpen) ∷ choice.ReadStatus (Some status.IoError)
+    ∷ choice.ReadStatus (Some status.NoMem)
     ∷ choice.ReadStatus (Some status.AccessDenied) ∷ []
 choices_of _ = []
 

@@ -1,5 +1,6 @@
 -- What the options of every scanner say, at any time.
-use Rattle.std.specs.Prelude.{◌≡◌, ◌≢◌, ◌≤◌, ◌<◌, ◌*◌, ◌^◌, slice_index, get_or, [], ℕ, ℤ, pos, Bool, true, false, Some, All, length}
+use Rattle.std.specs.Prelude.{◌≡◌, ◌≢◌, ◌≤◌, ◌<◌, ◌*◌, ◌^◌, slice_index, get_or, [], ℕ, ℤ, pos, Bool, true, false, Some}
+use Rattle.std.specs.Prelude.{All, length}
 use Rattle.sane_fixed.specs.declared.fixed.Fixed.{Fixed as Length}
 use Rattle.sane_fixed.specs.declared.status.Status.TheVariants.{Good}
 use Rattle.page_picture.specs.Page.{IsShaped, IsPageView}
@@ -19,8 +20,8 @@ pub record IsBetween (low high : ℕ) (word : ℤ) : Type 0 where
 abbrev pub IsOnBed : Length → Type 0
 IsOnBed length = IsBetween 0 (200 * 65536) length.0
 
--- **limits of a scanner (`IsAllowed`, `HasLimits`)**: its options keep within their constraints; each of its pages is one,
--- and where its source is steady the page's samples have 16 bits; a feeder has at most 16, any other scanner one.
+-- **limits of a scanner (`IsAllowed`, `HasLimits`)**: its options keep within their constraints; each of its pages is
+-- one, and where its source is steady the page's samples have 16 bits; a feeder has at most 16, any other scanner one.
 pub record IsAllowed (s : Setup) : Type 0 where
   pub limits : IsSetup s
   pub resolution : s.scene.resolution ≤ greatest_resolution s.scene.kind

@@ -1,9 +1,12 @@
 -- What a device is to its callers, and what each call does to it.
-use Rattle.std.specs.Prelude.{ℕ, ◌+◌, ◌-◌, ◌<◌, ◌≤◌, ◌≡◌, nat_lt, ◌==◌, ◌&&◌, ◌||◌, not, Bool, true, false, if◌then◌else◌, Option, Some, None, Result, Ok, Err, List, [], ◌∷◌, ◌++◌, take, drop, min, length}
+use Rattle.std.specs.Prelude.{ℕ, ◌+◌, ◌-◌, ◌<◌, ◌≤◌, ◌≡◌, nat_lt, ◌==◌, ◌&&◌, ◌||◌, not, Bool, true, false}
+use Rattle.std.specs.Prelude.{if◌then◌else◌, Option, Some, None, Result, Ok, Err, List, [], ◌∷◌, ◌++◌, take, drop, min}
+use Rattle.std.specs.Prelude.{length}
 use Rattle.sane_fixed.specs.declared.info.Info.{Info}
 use Rattle.sane_fixed.specs.declared.params.Params.{Params}
 use Rattle.sane_fixed.specs.declared.status.Status.{Status}
-use Rattle.sane_fixed.specs.declared.status.Status.TheVariants.{Good, Unsupported, Cancelled, DeviceBusy, Inval, Eof, Jammed, NoDocs, CoverOpen, IoError, NoMem, AccessDenied}
+use Rattle.sane_fixed.specs.declared.status.Status.TheVariants.{Good, Unsupported, Cancelled, DeviceBusy, Inval, Eof}
+use Rattle.sane_fixed.specs.declared.status.Status.TheVariants.{Jammed, NoDocs, CoverOpen, IoError, NoMem, AccessDenied}
 use Rattle.option_desc.specs.declared.value.Value.{Value}
 use Rattle.page_picture.specs.Page.{PageView}
 use Rattle.page_picture.specs.Source.{SourceState, CountsFailure}
@@ -30,15 +33,16 @@ pub record HeldPage : Type 0 where
   pub failures : ℕ
 
 abbrev pub held_from : SourceState → HeldPage
-held_from source = record { page = source.page; steady = source.steady; infallible = source.infallible; failures = source.failures }
+held_from source =
+    record { page = source.page; steady = source.steady; infallible = source.infallible; failures = source.failures }
 
 -- **state of a scanner (`DeviceState`, `HeldPage`, `Phase`)**: what it is, its setup, its pages, each with whether its
--- source is steady, whether that can fail at all (`infallible`) and how often it did, and where a scan is: at rest (after a
--- cancelled scan or not), between passes, or reading a pass with so many bytes given.
+-- source is steady, whether that can fail at all (`infallible`) and how often it did, and where a scan is: at rest
+-- (after a cancelled scan or not), between passes, or reading a pass with so many bytes given.
 --
--- What a device is to its callers. Its kind is that of the setup's scene; that, the byte order and the info never change.
--- The first page is the one that is scanned, or that a start would scan. A scanner that is no feeder has one and keeps it;
--- a feeder lets go of the first when its scan is over.
+-- What a device is to its callers. Its kind is that of the setup's scene; that, the byte order and the info never
+-- change. The first page is the one that is scanned, or that a start would scan. A scanner that is no feeder has one
+-- and keeps it; a feeder lets go of the first when its scan is over.
 pub record DeviceState : Type 0 where
   pub info : DeviceInfo
   pub setup : Setup
@@ -54,15 +58,22 @@ tray_room = 16
 
 -- what stands for the first page where there is none
 abbrev pub no_page : HeldPage
-no_page = record { page = record { width = 0; height = 0; dpi = 0; samples = [] }; steady = false; infallible = false; failures = 0 }
+no_page =
+    record {
+      page = record { width = 0; height = 0; dpi = 0; samples = [] };
+      steady = false;
+      infallible =
+          false;
+      failures = 0;
+    }
 
 abbrev pub first_page : List HeldPage → HeldPage
 first_page [] = no_page
 first_page (held ∷ _) = held
 
 -- **the first page (`page_of`, `steady_of`, `is_infallible`, `failures_of`)**: the one that is scanned, or that a start
--- would scan. A feeder lets go of it when it comes to rest (`state_at_rest`, `left_behind`); any other scanner has one and
--- keeps it.
+-- would scan. A feeder lets go of it when it comes to rest (`state_at_rest`, `left_behind`); any other scanner has one
+-- and keeps it.
 --
 -- the first page, whether its source shows it at each pass, whether that can fail, and how often it did
 abbrev pub page_of : DeviceState → PageView
@@ -150,8 +161,8 @@ with_defaults s = record s { setup = defaults s.setup.scene.kind s.setup.order; 
 abbrev pub after_reset : DeviceState → DeviceState
 after_reset s = with_defaults (after_cancel s)
 
--- **what a load makes (`takes_page`, `after_load`)**: a page is taken at rest, and by a feeder while it has fewer than 16;
--- a feeder's new page is its last, another's takes the place of the one it had.
+-- **what a load makes (`takes_page`, `after_load`)**: a page is taken at rest, and by a feeder while it has fewer than
+-- 16; a feeder's new page is its last, another's takes the place of the one it had.
 abbrev pub takes_page : DeviceState → Bool
 takes_page s = is_at_rest s.phase && (not (feeds s) || nat_lt (length s.pages) tray_room)
 
@@ -180,8 +191,8 @@ stopped_in (Reading _ _) s = state_at_rest s false
 abbrev pub after_stop : DeviceState → DeviceState
 after_stop s = stopped_in s.phase s
 
--- **stopped (`HasStopped`, `after_stop`)**: the first page's source, one that can fail, failed once more; a start at rest
--- leaves all pages, else the scan is over.
+-- **stopped (`HasStopped`, `after_stop`)**: the first page's source, one that can fail, failed once more; a start at
+-- rest leaves all pages, else the scan is over.
 --
 -- the source of the first page, one that can fail, did so; that was counted, and no scan is under way
 pub record HasStopped (old new : DeviceState) : Type 0 where
@@ -198,7 +209,8 @@ next_pass (Reading pass _) = pass
 
 -- a frame is begun, and what stands in the way of that
 abbrev pub StartsFrame : DeviceState → Result Unit Status → DeviceState → Type 0
-StartsFrame old (Ok _) new = (has_picture old.setup (page_of old) ≡ true) × (new ≡ with_phase old (Reading (next_pass old.phase) 0))
+StartsFrame old (Ok _) new = (has_picture old.setup (page_of old) ≡ true)
+    × (new ≡ with_phase old (Reading (next_pass old.phase) 0))
 StartsFrame old (Err Inval) new = (has_picture old.setup (page_of old) ≡ false) × (new ≡ after_stop old)
 StartsFrame old (Err IoError) new = (has_picture old.setup (page_of old) ≡ true) × HasStopped old new
 StartsFrame old (Err NoMem) new = (has_picture old.setup (page_of old) ≡ true) × (new ≡ after_stop old)
@@ -214,8 +226,8 @@ StartsIn (AtRest _) old result new = StartsOn old.pages old result new
 StartsIn (Between _) old result new = StartsOn old.pages old result new
 StartsIn (Reading _ _) old result new = (result ≡ Err DeviceBusy) × (new ≡ old)
 
--- **starts, reads (`Starts`, `Reads`)**: what a start and a read may answer and leave, by the phase, then by whether there
--- is a page, then by what `read-return-value` says, then by the answer.
+-- **starts, reads (`Starts`, `Reads`)**: what a start and a read may answer and leave, by the phase, then by whether
+-- there is a page, then by what `read-return-value` says, then by the answer.
 abbrev pub Starts : DeviceState → Result Unit Status → DeviceState → Type 0
 Starts old result new = StartsIn old.phase old result new
 
@@ -228,8 +240,8 @@ abbrev pub after_read_status : Setup → ℕ → Status → Phase
 after_read_status setup pass Eof = after_pass setup pass
 after_read_status setup pass _ = AtRest false
 
--- n bytes were written: those of the pass that follow the ones given before, all that are left, but no more than the buffer
--- holds, nor than one read gives
+-- n bytes were written: those of the pass that follow the ones given before, all that are left, but no more than the
+-- buffer holds, nor than one read gives
 pub record GivesBytes (old : DeviceState) (pass given n : ℕ) (new : DeviceState) (buf : List ℕ) : Type 0 where
   pub count : n ≡ min (pass_length old.setup (page_of old) pass - given) (min (length buf) old.setup.limit)
   pub some : 0 < n
@@ -242,7 +254,8 @@ pub record GivesBytes (old : DeviceState) (pass given n : ℕ) (new : DeviceStat
 -- a read inside a pass: bytes, the end of the pass, or, before its last byte, a failure of the source
 abbrev pub ReadsOn : DeviceState → ℕ → ℕ → Result ℕ Status → DeviceState → List ℕ → Type 0
 ReadsOn old pass given (Ok n) new buf = GivesBytes old pass given n new buf
-ReadsOn old pass given (Err Eof) new buf = (given ≡ pass_length old.setup (page_of old) pass) × (new ≡ goes_to old (after_pass old.setup pass))
+ReadsOn old pass given (Err Eof) new buf = (given ≡ pass_length old.setup (page_of old) pass)
+    × (new ≡ goes_to old (after_pass old.setup pass))
 ReadsOn old pass given (Err IoError) new buf = (given < pass_length old.setup (page_of old) pass) × HasStopped old new
 ReadsOn old pass given (Err _) new buf = ⊥
 
@@ -252,12 +265,14 @@ read_status_at told given = if given == 0 then told else None
 
 abbrev pub FrameReads : Option Status → DeviceState → ℕ → ℕ → Result ℕ Status → DeviceState → List ℕ → Type 0
 FrameReads None old pass given result new buf = ReadsOn old pass given result new buf
-FrameReads (Some status) old pass given result new buf = (result ≡ Err status) × (new ≡ goes_to old (after_read_status old.setup pass status))
+FrameReads (Some status) old pass given result new buf = (result ≡ Err status)
+    × (new ≡ goes_to old (after_read_status old.setup pass status))
 
 abbrev pub ReadsIn : Phase → DeviceState → Result ℕ Status → DeviceState → List ℕ → Type 0
 ReadsIn (AtRest cancelled) old result new buf = (result ≡ Err (if cancelled then Cancelled else Inval)) × (new ≡ old)
 ReadsIn (Between _) old result new buf = (result ≡ Err Inval) × (new ≡ old)
-ReadsIn (Reading pass given) old result new buf = FrameReads (read_status_at old.setup.told given) old pass given result new buf
+ReadsIn (Reading pass given) old result new buf =
+    FrameReads (read_status_at old.setup.told given) old pass given result new buf
 
 -- what a read answers, what it leaves, and what it wrote
 abbrev pub Reads : DeviceState → Result ℕ Status → DeviceState → List ℕ → Type 0

@@ -1,5 +1,6 @@
 -- The values of options: what is read, what is set, and what a set tells (SANE Standard 1.06, "Option Control").
-use Rattle.std.specs.Prelude.{ℕ, ◌+◌, ◌*◌, ◌&&◌, pos, unsigned_abs, Bool, true, false, not, if◌then◌else◌, Option, Some, None, Result, Ok, Err, List, [], ◌∷◌, get_or, length, map}
+use Rattle.std.specs.Prelude.{ℕ, ◌+◌, ◌*◌, ◌&&◌, pos, unsigned_abs, Bool, true, false, not, if◌then◌else◌, Option, Some}
+use Rattle.std.specs.Prelude.{None, Result, Ok, Err, List, [], ◌∷◌, get_or, length, map}
 use Rattle.std.specs.List.{list_any, range_with_len}
 use Rattle.std.specs.Str.{bytes_eq}
 use Rattle.std.specs.Ordering.{int_eq}
@@ -20,8 +21,13 @@ use Rattle.scan_frames.specs.declared.setup.Setup.{Setup}
 use Rattle.device_api.specs.declared.choice.Choice.{Choice}
 use Rattle.device_api.specs.declared.choice.Choice.TheVariants as choice
 use Rattle.device_api.specs.declared.scan_option.ScanOption.{ScanOption}
-use Rattle.device_api.specs.declared.scan_option.ScanOption.TheVariants.{NumOptions, Mode, Depth, Resolution, TlX, TlY, BrX, BrY, GammaTable, RedGammaTable, GreenGammaTable, BlueGammaTable, ThreePassOrder, PplLoss, ReadLimitSize, ReadReturnValue, HandScanner}
-use Rattle.device_api.specs.Options.{options_of, option_at, choices_of, choice_text, is_active, option_caps, descriptor_of}
+use Rattle.device_api.specs.declared.scan_option.ScanOption.TheVariants.{NumOptions, Mode, Depth, Resolution, TlX, TlY}
+use Rattle.device_api.specs.declared.scan_option.ScanOption.TheVariants.{BrX, BrY, GammaTable, RedGammaTable}
+use Rattle.device_api.specs.declared.scan_option.ScanOption.TheVariants.{GreenGammaTable, BlueGammaTable}
+use Rattle.device_api.specs.declared.scan_option.ScanOption.TheVariants.{ThreePassOrder, PplLoss, ReadLimitSize}
+use Rattle.device_api.specs.declared.scan_option.ScanOption.TheVariants.{ReadReturnValue, HandScanner}
+use Rattle.device_api.specs.Options.{options_of, option_at, choices_of, choice_text, is_active, option_caps}
+use Rattle.device_api.specs.Options.{descriptor_of}
 use Rattle.sane_fixed.specs.Cap.{has_cap}
 
 -- the table that gives each upper byte itself: 0 to 255
@@ -134,7 +140,8 @@ abbrev pub option_passing : (ScanOption → Bool) → Option ScanOption → Opti
 option_passing test None = None
 option_passing test (Some o) = if test o then Some o else None
 
--- the option of a number, where it may be read, and where it may be set: it is active, and has SOFT_DETECT or SOFT_SELECT
+-- the option of a number, where it may be read, and where it may be set: it is active, and has SOFT_DETECT or
+-- SOFT_SELECT
 abbrev pub option_to_get : Setup → ℕ → Option ScanOption
 option_to_get s n = option_passing (λ o. is_active s o && has_cap (option_caps o) 4) (option_at s.scene.kind n)
 
@@ -186,7 +193,8 @@ info_bits inexact options params =
     record { 0 = (if inexact then 1 else 0) + ((if options then 2 else 0) + (if params then 4 else 0)) }
 
 abbrev pub info_of : Setup → ScanOption → Value → Value → Info
-info_of s o asked given = info_bits (not (same_value asked given)) (reloads s (with_value s o given)) (bears_on_params o)
+info_of s o asked given =
+    info_bits (not (same_value asked given)) (reloads s (with_value s o given)) (bears_on_params o)
 
 -- what a set answers, out of memory aside: the nearest admitted value, and its info
 abbrev pub put_answer : Setup → ScanOption → Value → Option Value → Result (Value × Info) Status

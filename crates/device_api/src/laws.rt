@@ -15,6 +15,7 @@ ghost use Rattle.scan_frames.specs.declared.setup.Setup.{Setup};
 ghost use Rattle.device_api.specs.Options.{descriptors_of};
 ghost use Rattle.device_api.specs.Values.{same_value, reloads, option_got, option_set, option_value, setup_after, with_value};
 ghost use Rattle.device_api.specs.InForce.{number_named, IsPlacedBy, Placement, placement, in_force};
+ghost use Rattle.device_api.specs.Laws.{SettingsArePutAsTheyAreSet};
 
 /// A law: values are told to be the same where they are equal, and only there. So `INEXACT` stands just
 /// where the value in force differs from the one given.
@@ -34,10 +35,7 @@ pub fn reload_tells_of_changed_descriptors()
 pub fn settings_are_put_as_they_are_set()
     /// Settings in force are what one set after another leaves, and are allowed.
     /// Carried by: `settings_are_put_as_they_are_set`, `settings_in_force_are_allowed`
-    ensures { (s : Setup) (name text : List ℕ) (n : ℕ) (desc : Descriptor) (asked : Value)
-        → number_named name (descriptors_of s) ≡ Some n
-        → slice_get (descriptors_of s) n ≡ Some desc → read_value desc text ≡ Some asked
-        → IsPlacedBy s n asked (option_set s n asked) (placement s (name, text)) }
+    ensures { SettingsArePutAsTheyAreSet }
 {}
 
 /// A law: no call changes what a scanner is, its kind or its byte order.

@@ -4,7 +4,8 @@ use Rattle.sane_fixed.specs.declared.info.Info.{Info}
 use Rattle.option_desc.specs.declared.value.Value.{Value}
 use Rattle.netpbm.specs.FileText.{concat_up_to}
 use Rattle.scan_frames.specs.Frames.{last_pass, payload, pass_length}
-use Rattle.device_api.specs.State.{DeviceState, Phase, page_of, steady_of, next_pass, goes_to, after_pass, after_reset, set_answer, after_set}
+use Rattle.device_api.specs.State.{DeviceState, Phase, page_of, steady_of, next_pass, goes_to, after_pass, after_reset}
+use Rattle.device_api.specs.State.{set_answer, after_set}
 use Rattle.device_api.specs.State.Phase.{AtRest, Between, Reading}
 
 -- the bytes given of the pass that is read
@@ -26,7 +27,8 @@ EndsPass old new = new ≡ goes_to old (after_pass old.setup (next_pass old.phas
 
 -- what was left of the pass stands behind what was there
 abbrev pub HasReadPass : DeviceState → List ℕ → List ℕ → Type 0
-HasReadPass s old new = steady_of s ≡ true → s.setup.told ≡ None → new ≡ old ++ drop (given_of s.phase) (bytes_of_pass_read s)
+HasReadPass s old new = steady_of s ≡ true → s.setup.told ≡ None
+    → new ≡ old ++ drop (given_of s.phase) (bytes_of_pass_read s)
 
 -- a device that was reset and took a setting
 pub record IsSetWith (old : DeviceState) (n : ℕ) (asked : Value) (s : DeviceState) : Type 0 where
@@ -36,7 +38,8 @@ pub record IsSetWith (old : DeviceState) (n : ℕ) (asked : Value) (s : DeviceSt
   pub after : s ≡ after_set (after_reset old) n given
 
 -- what its first frame gives, from the contract alone
-pub record HasScannedFirstFrame (old : DeviceState) (n : ℕ) (asked : Value) (bytes : List ℕ) (new : DeviceState) : Type 0 where
+pub record HasScannedFirstFrame (old : DeviceState) (n : ℕ) (asked : Value) (bytes : List ℕ)
+    (new : DeviceState) : Type 0 where
   pub set : DeviceState
   pub is_set : IsSetWith old n asked set
   pub frame : steady_of set ≡ true → set.setup.told ≡ None → bytes ≡ payload set.setup (page_of set) 0

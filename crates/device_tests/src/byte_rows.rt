@@ -164,6 +164,9 @@ fn a_mode_that_the_file_has_not(rt: HostRuntime) {
     let red = (b"P6\n1 1\n255\n\xff\x00\x00".as_slice(), 26);
     let sums = flatbed(Mode::Gray, Packing::Bytes, 1, 1);
     shows(&rt, rt.alloc(), &sums, red, &[0x4C], None);
+    let mut toned = sums;
+    toned.scene.gamma = turned();
+    shows(&rt, rt.alloc(), &toned, red, &[0xB3], None);
     // Numbers of which 255 is not the greatest are no bytes of depth 8.
     let dark = (b"P5\n2 1\n100\n\x00\x64".as_slice(), 26);
     let two = flatbed(Mode::Gray, Packing::Bytes, 2, 1);

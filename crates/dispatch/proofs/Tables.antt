@@ -207,10 +207,6 @@ fresh_is f (s ∷ ss) (d ∷ ds) h =
 pub put_back : {X : Type 0} (n : ℕ) (xs new : List X) → n ≡ length xs → length new ≡ length xs → take n (new ++ drop (length new) xs) ≡ new
 put_back n xs new e h = rw (e, ← h) (take-append_seam new _)
 
-pub length-table : {D S : Type 0} (f : D → S) (ps : List (Place D)) → length (table f ps) ≡ length ps
-unfolding table
-length-table f ps = length-map ps (seen_place f)
-
 pub with_slot_past : {D : Type 0} (ps : List (Place D)) (k : ℕ) (s : Slot D) → length ps ≤ k → with_slot ps k s ≡ ps
 unfolding with_slot
 with_slot_past [] k s h = refl

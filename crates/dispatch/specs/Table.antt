@@ -1,4 +1,5 @@
-use Rattle.std.specs.Prelude.{◌≡◌, ℕ, zero, suc, nat_eq, ◌||◌, ◌&&◌, List, [], ◌∷◌, map, Option, Some, None, Bool, true, false, Result, Ok, Err, position, slice_get, if◌then◌else◌}
+use Rattle.std.specs.Prelude.{◌≡◌, ℕ, zero, suc, nat_eq, ◌||◌, ◌&&◌, List, [], ◌∷◌, map, Option, Some, None, Bool, true}
+use Rattle.std.specs.Prelude.{false, Result, Ok, Err, position, slice_get, if◌then◌else◌}
 use Rattle.std.specs.Cmp.Lexicographic.{pointwise}
 use Rattle.device_api.specs.State.{DeviceState, after_reset, after_cancel, takes_page}
 use Rattle.device_api.specs.State.{after_load as page_loaded}
@@ -34,8 +35,8 @@ abbrev pub seen_unplug : {D S : Type 0} → (D → S) → Result D Status → Re
 seen_unplug f (Ok d) = Ok (f d)
 seen_unplug f (Err e) = Err e
 
--- **table (`Table`, `Place`, `Slot`)**: a place for each device handed in, with what it is: it is in, out with a lease, or
--- gone. A table's invariant holds where each device that is in has its place's name.
+-- **table (`Table`, `Place`, `Slot`)**: a place for each device handed in, with what it is: it is in, out with a lease,
+-- or gone. A table's invariant holds where each device that is in has its place's name.
 abbrev pub Table : Type 0
 Table = List (Place DeviceState)
 
@@ -46,7 +47,8 @@ is_gone Gone = true
 
 -- whether a place is listed under a name
 abbrev pub is_named : {D : Type 0} → List ℕ → Place D → Bool
-is_named name p = elim p.slot [ In d ↦ pointwise nat_eq p.info.name name | Out ↦ pointwise nat_eq p.info.name name | Gone ↦ false ]
+is_named name p =
+    elim p.slot [ In d ↦ pointwise nat_eq p.info.name name | Out ↦ pointwise nat_eq p.info.name name | Gone ↦ false ]
 
 -- the place that is listed under a name
 abbrev pub find_name : {D : Type 0} → List ℕ → List (Place D) → Option ℕ
@@ -76,8 +78,8 @@ abbrev pub take_at : Table → Option ℕ → Result (Lease DeviceState) Status
 take_at t (Some k) = take_of k (held_at t k)
 take_at t None = Err Inval
 
--- **steps of the table (`take_answer`, `after_take`, `after_give_back`, `unplug_answer`, `after_unplug`, `listed_infos`)**:
--- what is answered for a name, and the table after it.
+-- **steps of the table (`take_answer`, `after_take`, `after_give_back`, `unplug_answer`, `after_unplug`,
+-- `listed_infos`)**: what is answered for a name, and the table after it.
 unfoldable pub take_answer : Table → List ℕ → Result (Lease DeviceState) Status
 take_answer t name = take_at t (find_name name t)
 
@@ -104,10 +106,11 @@ awaits name k ps = awaits_in name (slice_get ps k)
 
 -- the table after a lease is given back; one that is not of this table changes nothing
 unfoldable pub after_give_back : Table → Lease DeviceState → Table
-after_give_back t l = if awaits l.device.info.name l.place t then with_slot t l.place (In (after_cancel l.device)) else t
+after_give_back t l =
+    if awaits l.device.info.name l.place t then with_slot t l.place (In (after_cancel l.device)) else t
 
--- **lease (`IsLeaseOf`)**: its place is out, and its device has that place's name; only such a one changes the table when
--- it is given back (`awaits`).
+-- **lease (`IsLeaseOf`)**: its place is out, and its device has that place's name; only such a one changes the table
+-- when it is given back (`awaits`).
 pub record IsLeaseOf (lease : Lease DeviceState) (t : Table) : Type 0 where
   pub place : Place DeviceState
   pub at : slice_get t lease.place ≡ Some place

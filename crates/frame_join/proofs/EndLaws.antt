@@ -300,11 +300,3 @@ keeps_at None (Some f) bytes starved past a b =
       ]
     ] in
     ((λ joined. absurd (no_more joined)), (λ joined. absurd (under past f a b joined)))
-
-pub feed_keeps_joined : (bytes : List ℕ) (starved : Bool) (past : JoinHistory) → IsJoined (after_feed bytes starved past) ↔ IsJoined past
-unfolding after_feed
-feed_keeps_joined bytes starved past = keeps_at past.fault past.under bytes starved past refl refl
-
--- a picture that is whole stays so
-pub end_keeps_joined : (past : JoinHistory) (v : PixelJoinState) → PixelRepresents past v → IsJoined past → IsJoined (after_end past)
-end_keeps_joined past v stands joined = subst IsJoined (sym (end_none past (joined_no_fault past v stands joined) (joined_under past v stands joined))) joined

@@ -87,9 +87,6 @@ narrow_byte f y k w row low =
 
 -- ---- the file of one frame
 
-told_height : Frame → ℕ → Frame
-told_height f n = record f { params = record f.params { lines = Some n } }
-
 narrow_raster : (f : Frame) (y j : ℕ) → IsWhole f → y < frame_height f → j < row_bytes f.params → raster_byte (with_height (narrowed f)) y j ≡ raster_byte (with_height f) y j
 narrow_raster f y j w row low =
     ap (trimmed_byte f.params.pixels_per_line f.params.depth j) (narrow_byte f y (place_in f.order f.params.depth j) w row (place_below_at f.order f.params.format f.params.pixels_per_line f.params.depth j w.shape.depths low))

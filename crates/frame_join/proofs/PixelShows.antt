@@ -1,6 +1,6 @@
 -- What is kept of frames shows the picture that the frames show, and makes its file.
 use Rattle.std.proofs.Common.{◌≡◌, ℕ, ◌<◌, ◌≤◌, ◌+◌, ◌-◌, ◌*◌, ◌/◌, ◌%◌, ◌⊎◌, inl, inr, Bool, true, false, List, [], ◌∷◌, length, arith, refl, sym, ap, ◌∙◌, subst, map}
-use Rattle.std.specs.Prelude.{◌==◌, if◌then◌else◌, Option, Some, None, slice_index, ◌^◌}
+use Rattle.std.specs.Prelude.{◌==◌, if◌then◌else◌, Some, slice_index, ◌^◌}
 use Rattle.std.proofs.Math.Nat.{mul-div_cancel}
 use Rattle.netpbm.specs.Picture.{Picture, IsPlace}
 use Rattle.netpbm.specs.FileText.{concat_up_to}
@@ -9,7 +9,7 @@ use Rattle.sane_fixed.specs.declared.params.Params.{Params}
 use Rattle.sane_fixed.specs.declared.byte_order.ByteOrder.{ByteOrder}
 use Rattle.sane_fixed.specs.declared.frame_format.FrameFormat.{FrameFormat}
 use Rattle.sane_fixed.specs.declared.frame_format.FrameFormat.TheVariants.{Gray, Rgb, Red, Green, Blue}
-use Rattle.page_picture.specs.Shows.{Frame, HasLines, HasLineShape, FitsPicture, ShowsAlone, ShowsColor, ShowsColors, frame_sample, two_bytes, channels_within, channels_alone, color_of, row_size}
+use Rattle.page_picture.specs.Shows.{Frame, HasLineShape, FitsPicture, ShowsAlone, ShowsColor, ShowsColors, frame_sample, two_bytes, channels_within, channels_alone, color_of, row_size}
 use Rattle.frame_join.specs.AloneFrame.{is_alone_format, lines_in, row_bytes, ShapeParts}
 use Rattle.frame_join.specs.ColorPlanes.{Plane, plane_of, plane_in, planes_of, nth_plane, side_byte, side_rows, all_colors}
 use Rattle.frame_join.specs.KeptFrame.{color_number}
@@ -35,9 +35,6 @@ place_low Blue w x k a b = omega (arith, a, b)
 -- the bytes of a row at each depth
 row_at : (g : FrameFormat) (w d e : ℕ) → d ≡ e → row_size g w d ≡ row_size g w e
 row_at g w d e same = ap (row_size g w) same
-
-byte_same : (f : Frame) (y i j : ℕ) → IsWhole f → y < frame_height f → j < row_bytes f.params → i ≡ j → slice_index (narrowed f).payload (y * row_bytes f.params + i) ≡ slice_index f.payload (y * f.params.bytes_per_line + i)
-byte_same f y i j w row low e = narrow_byte f y i w row (omega (arith, low, e))
 
 deep_sample : (f : Frame) (ch x y k : ℕ) → IsWhole f → ch ≡ channels_within f.params.format → x < f.params.pixels_per_line → k < ch → y < frame_height f → f.params.depth ≡ 16 → two_bytes f.order (narrowed f).payload (y * row_bytes f.params + 2 * (ch * x + k)) ≡ two_bytes f.order f.payload (y * f.params.bytes_per_line + 2 * (ch * x + k))
 deep_sample f ch x y k w is column channel row deep =
@@ -92,10 +89,6 @@ narrow_sample f ch x y k w is column channel row =
 
 shape_narrow : (p : Params) → HasLineShape p → ShapeParts p → HasLineShape (narrow p)
 shape_narrow p s parts = record { depth = s.depth; width_some = s.width_some; width_most = s.width_most; enough = omega arith; line_most = omega (arith, parts.fits, s.line_most) }
-
-has_height : (o : Option ℕ) (m n : ℕ) → HasLines o m → HasLines o n → (o ≡ None) ⊎ (m ≡ n)
-has_height None m n a b = inl refl
-has_height (Some l) m n a b = inr (sym a ∙ b)
 
 same_factor : (m n l : ℕ) → 1 ≤ l → m * l ≡ n * l → m ≡ n
 same_factor m n l some e = sym (mul-div_cancel m (omega (arith, some))) ∙ (ap (λ (k : ℕ). k / l) e ∙ mul-div_cancel n (omega (arith, some)))

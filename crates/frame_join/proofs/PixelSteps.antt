@@ -6,7 +6,7 @@ use Rattle.sane_fixed.specs.declared.params.Params.{Params}
 use Rattle.sane_fixed.specs.declared.byte_order.ByteOrder.{ByteOrder}
 use Rattle.page_picture.specs.Shows.{Frame}
 use Rattle.frame_join.specs.declared.join_stage.JoinFault.{JoinFault}
-use Rattle.frame_join.specs.declared.join_stage.JoinFault.TheVariants.{Shape, Long, Short, NoMem}
+use Rattle.frame_join.specs.declared.join_stage.JoinFault.TheVariants.{Shape, Long, NoMem}
 use Rattle.frame_join.specs.declared.join_stage.Stage.{Stage}
 use Rattle.frame_join.specs.declared.join_stage.Stage.TheVariants.{Idle, Under, Keeping, Between, Whole, WholeColors, Failed}
 use Rattle.frame_join.specs.AloneFrame.{is_alone, most_bytes}
@@ -147,24 +147,6 @@ pub fails_kept : (fault : JoinFault) (q : JoinHistory) (w : PixelJoinState) → 
 fails_kept fault q w stands keeping =
     let given : q.given ≡ [] = (in_kept q w stands keeping).keeps.silent.given_is in
     record { fault = refl; at_stage = λ whole. nothing_is_not_whole (subst (λ (l : List ℕ). IsWhole l) given whole) }
-
-pub starved_fault : (w : PixelJoinState) → is_pixel_out_of_memory w ≡ true → fault_in w.stage ≡ Some NoMem
-starved_fault w e = by w.stage e
-  where
-    of : (x : JoinFault) → is_no_mem x ≡ true → Some x ≡ Some NoMem
-    of Shape e = absurd (let clash : false ≡ true = e in cc)
-    of Long e = absurd (let clash : false ≡ true = e in cc)
-    of Short e = absurd (let clash : false ≡ true = e in cc)
-    of NoMem e = refl
-
-    by : (s : Stage) → is_out_of_memory_at s ≡ true → fault_in s ≡ Some NoMem
-    by Idle e = absurd (let clash : false ≡ true = e in cc)
-    by Under e = absurd (let clash : false ≡ true = e in cc)
-    by Keeping e = absurd (let clash : false ≡ true = e in cc)
-    by Between e = absurd (let clash : false ≡ true = e in cc)
-    by Whole e = absurd (let clash : false ≡ true = e in cc)
-    by WholeColors e = absurd (let clash : false ≡ true = e in cc)
-    by (Failed x) e = of x e
 
 pub fault_starved : (w : PixelJoinState) → fault_in w.stage ≡ Some NoMem → is_pixel_out_of_memory w ≡ true
 fault_starved w e = by w.stage e

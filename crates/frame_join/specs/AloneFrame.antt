@@ -16,7 +16,10 @@ is_depth Blue depth = (depth == 8) || (depth == 16)
 
 -- the depth and the width are admitted, and a line has room for its samples
 abbrev pub is_shaped : Params → Bool
-is_shaped p = is_depth p.format p.depth && (is_side p.pixels_per_line && (nat_le (row_size p.format p.pixels_per_line p.depth) p.bytes_per_line && nat_le p.bytes_per_line 1048576))
+is_shaped p =
+    is_depth p.format p.depth
+    && (is_side p.pixels_per_line
+    && (nat_le (row_size p.format p.pixels_per_line p.depth) p.bytes_per_line && nat_le p.bytes_per_line 1048576))
 
 -- frames of the format are a picture each
 abbrev pub is_alone_format : FrameFormat → Bool

@@ -1,5 +1,6 @@
 -- The file of a frame that is a picture, byte by byte, and how much of it may go out.
-use Rattle.std.specs.Prelude.{ℕ, ◌+◌, ◌-◌, ◌*◌, ◌/◌, ◌%◌, ◌^◌, ◌≡◌, ◌==◌, true, min, if◌then◌else◌, Option, Some, None, List, [], ◌∷◌, ◌++◌, length, slice_index}
+use Rattle.std.specs.Prelude.{ℕ, ◌+◌, ◌-◌, ◌*◌, ◌/◌, ◌%◌, ◌^◌, ◌≡◌, ◌==◌, true, min, if◌then◌else◌, Option, Some, None}
+use Rattle.std.specs.Prelude.{List, [], ◌∷◌, ◌++◌, length, slice_index}
 use Rattle.netpbm.specs.declared.format.PnmFormat.{PnmFormat}
 use Rattle.netpbm.specs.declared.format.PnmFormat.TheVariants.{Pbm, Pgm, Ppm}
 use Rattle.netpbm.specs.declared.format.Header.{Header}
@@ -38,11 +39,14 @@ place_in Little depth j = if depth == 16 then (if j % 2 == 0 then j + 1 else j -
 
 -- the bits past the row's end are 0
 abbrev pub trimmed_byte : ℕ → ℕ → ℕ → ℕ → ℕ
-trimmed_byte width depth j byte = if depth == 1 then byte / 2 ^ (8 * (j + 1) - width) * 2 ^ (8 * (j + 1) - width) else byte
+trimmed_byte width depth j byte =
+    if depth == 1 then byte / 2 ^ (8 * (j + 1) - width) * 2 ^ (8 * (j + 1) - width) else byte
 
 -- byte j of row y of the file's raster
 abbrev pub raster_byte : Frame → ℕ → ℕ → ℕ
-raster_byte f y j = trimmed_byte f.params.pixels_per_line f.params.depth j (slice_index f.payload (y * f.params.bytes_per_line + place_in f.order f.params.depth j))
+raster_byte f y j =
+    trimmed_byte f.params.pixels_per_line f.params.depth j (slice_index f.payload (y * f.params.bytes_per_line
+    + place_in f.order f.params.depth j))
 
 -- the first n bytes of row y
 abbrev pub row_front : Frame → ℕ → ℕ → List ℕ

@@ -1,6 +1,7 @@
 -- What a join was told so far and gave in all, and how each call goes on from that: plain data, apart from what a join
 -- keeps of it.
-use Rattle.std.specs.Prelude.{ℕ, ◌+◌, ◌*◌, ◌/◌, ◌≡◌, ◌==◌, ◌&&◌, ◌||◌, nat_lt, Bool, true, false, not, if◌then◌else◌, Option, Some, None, Result, Ok, Err, List, [], ◌∷◌, ◌++◌, length}
+use Rattle.std.specs.Prelude.{ℕ, ◌+◌, ◌*◌, ◌/◌, ◌≡◌, ◌==◌, ◌&&◌, ◌||◌, nat_lt, Bool, true, false, not, if◌then◌else◌}
+use Rattle.std.specs.Prelude.{Option, Some, None, Result, Ok, Err, List, [], ◌∷◌, ◌++◌, length}
 use Rattle.sane_fixed.specs.declared.byte_order.ByteOrder.{ByteOrder}
 use Rattle.sane_fixed.specs.declared.params.Params.{Params}
 use Rattle.frame_join.specs.declared.join_stage.JoinFault.{JoinFault}
@@ -10,8 +11,8 @@ use Rattle.frame_join.specs.AloneFrame.{is_alone_format, is_alone, most_bytes}
 use Rattle.frame_join.specs.KeptFrame.{is_open_ended, is_pass_that, goes_with}
 use Rattle.page_picture.specs.Extent.{is_side}
 
--- **history of a join (`JoinHistory`)**: the frames that ended, the one under way, the fault that stands first, and what
--- was pulled in all; each call goes on from it.
+-- **history of a join (`JoinHistory`)**: the frames that ended, the one under way, the fault that stands first, and
+-- what was pulled in all; each call goes on from it.
 pub record JoinHistory : Type 0 where
   pub ended : List Frame
   pub under : Option Frame
@@ -27,7 +28,8 @@ empty_history = record { ended = []; under = None; fault = None; given = [] }
 abbrev pub is_accepted : List Frame → Params → ByteOrder → Bool
 is_accepted [] params order = is_alone params || (is_open_ended params || is_pass_that false params)
 is_accepted (a ∷ []) params order = is_pass_that false params && goes_with a params order
-is_accepted (a ∷ b ∷ []) params order = is_pass_that true params && (goes_with a params order && goes_with b params order)
+is_accepted (a ∷ b ∷ []) params order =
+    is_pass_that true params && (goes_with a params order && goes_with b params order)
 is_accepted (a ∷ b ∷ c ∷ rest) params order = false
 
 -- the frames that ended are a whole picture

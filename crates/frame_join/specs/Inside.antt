@@ -1,5 +1,6 @@
 -- What private functions alone promise.
-use Rattle.std.specs.Prelude.{Bool, true, false, ℕ, ◌+◌, ◌-◌, ◌*◌, ◌/◌, ◌==◌, ◌&&◌, ◌||◌, nat_lt, nat_le, not, if◌then◌else◌, Result, Ok, Err, List, ◌++◌, length, slice_index, drop, Some, []}
+use Rattle.std.specs.Prelude.{Bool, true, false, ℕ, ◌+◌, ◌-◌, ◌*◌, ◌/◌, ◌==◌, ◌&&◌, ◌||◌, nat_lt, nat_le, not}
+use Rattle.std.specs.Prelude.{if◌then◌else◌, Result, Ok, Err, List, ◌++◌, length, slice_index, drop, Some, []}
 use Rattle.frame_join.specs.AloneFrame.{is_alone, lines_in, most_lines, row_bytes}
 use Rattle.frame_join.specs.ColorPlanes.{Planes, no_plane, Plane, nth_plane, side_byte, all_colors}
 use Rattle.frame_join.specs.FrameFile.{header_alone, place_in, trimmed_byte}
@@ -10,7 +11,8 @@ use Rattle.frame_join.specs.PixelJoinStates.{PixelJoinState}
 use Rattle.frame_join.specs.declared.join_stage.JoinFault.{JoinFault}
 use Rattle.frame_join.specs.declared.join_stage.JoinFault.TheVariants.{Shape, Long, Short, NoMem}
 use Rattle.frame_join.specs.declared.join_stage.Stage.{Stage}
-use Rattle.frame_join.specs.declared.join_stage.Stage.TheVariants.{Idle, Under, Keeping, Between, Whole, WholeColors, Failed}
+use Rattle.frame_join.specs.declared.join_stage.Stage.TheVariants.{Idle, Under, Keeping, Between, Whole, WholeColors}
+use Rattle.frame_join.specs.declared.join_stage.Stage.TheVariants.{Failed}
 use Rattle.netpbm.specs.FileText.{header_text}
 use Rattle.sane_fixed.specs.declared.byte_order.ByteOrder.{ByteOrder}
 use Rattle.sane_fixed.specs.declared.params.Params.{Params}
@@ -37,7 +39,8 @@ can_give s = is_under s || (is_whole s || is_colors s)
 
 -- a whole line is held, and it may go out
 abbrev pub is_held : PixelJoinState → Bool
-is_held v = nat_le v.params.bytes_per_line (length v.held) && (is_whole v.stage || nat_lt (v.row + 1) (lines_in v.params.lines))
+is_held v =
+    nat_le v.params.bytes_per_line (length v.held) && (is_whole v.stage || nat_lt (v.row + 1) (lines_in v.params.lines))
 
 abbrev pub is_ready : PixelJoinState → Bool
 is_ready v = nat_lt v.row (lines_in v.params.lines) && (is_colors v.stage || is_held v)
@@ -71,7 +74,8 @@ after_samples n v =
 abbrev pub value_fed : List ℕ → Bool → PixelJoinState → PixelJoinState
 value_fed bytes starved v =
     if not (is_under v.stage || is_keeping v.stage) then v
-    else (if nat_lt ((most_lines v.params.lines - v.row) * v.params.bytes_per_line - length v.held) (length bytes) then record v { stage = Failed Long }
+    else (if nat_lt ((most_lines v.params.lines - v.row) * v.params.bytes_per_line - length v.held) (length bytes)
+    then record v { stage = Failed Long }
     else (if starved then record v { stage = Failed NoMem }
     else record v { held = v.held ++ bytes }))
 
@@ -110,16 +114,21 @@ is_there plane = nat_lt 0 plane.line
 
 -- two of the colors are there
 abbrev pub has_two : Planes → Bool
-has_two planes = (is_there planes.red && (is_there planes.green || is_there planes.blue)) || (is_there planes.green && is_there planes.blue)
+has_two planes =
+    (is_there planes.red && (is_there planes.green || is_there planes.blue))
+    || (is_there planes.green && is_there planes.blue)
 
 -- a further color may begin
 abbrev pub accepts_next : PixelJoinState → Params → ByteOrder → Bool
-accepts_next v params order = is_pass_that (has_two v.planes) params && (not (is_there (nth_plane v.planes (color_number params.format))) && is_alike v.params v.order params order)
+accepts_next v params order =
+    is_pass_that (has_two v.planes) params
+    && (not (is_there (nth_plane v.planes (color_number params.format))) && is_alike v.params v.order params order)
 
 abbrev pub first_begun : Params → ByteOrder → Bool → PixelJoinState → PixelJoinState
 first_begun params order starved v =
     if is_alone params then (if starved then record v { stage = Failed NoMem } else new_pixel_join params order)
-    else (if is_open_ended params || is_pass_that false params then (if starved then record v { stage = Failed NoMem } else new_keeping_join params order)
+    else (if is_open_ended params || is_pass_that false params
+    then (if starved then record v { stage = Failed NoMem } else new_keeping_join params order)
     else record v { stage = Failed Shape })
 
 abbrev pub next_begun : Params → ByteOrder → Bool → PixelJoinState → PixelJoinState
@@ -164,7 +173,8 @@ headed_by params v = record v { params = params; head = v.head ++ header_text (h
 
 -- the height of the frame is known
 abbrev pub with_known_height : PixelJoinState → PixelJoinState
-with_known_height v = headed_by (record v.params { lines = Some (length v.held / v.params.bytes_per_line) }) (record v { stage = Whole })
+with_known_height v =
+    headed_by (record v.params { lines = Some (length v.held / v.params.bytes_per_line) }) (record v { stage = Whole })
 
 -- one of the planes is another one
 abbrev pub put_plane : ℕ → Plane → Planes → Planes

@@ -3,7 +3,8 @@ use Rattle.std.specs.Prelude.{Bool, true, false, Option, Some, None}
 use Rattle.frame_join.specs.declared.join_stage.JoinFault.{JoinFault}
 use Rattle.frame_join.specs.declared.join_stage.JoinFault.TheVariants.{Shape, Long, Short, NoMem}
 use Rattle.frame_join.specs.declared.join_stage.Stage.{Stage}
-use Rattle.frame_join.specs.declared.join_stage.Stage.TheVariants.{Idle, Under, Keeping, Between, Whole, WholeColors, Failed}
+use Rattle.frame_join.specs.declared.join_stage.Stage.TheVariants.{Idle, Under, Keeping, Between, Whole, WholeColors}
+use Rattle.frame_join.specs.declared.join_stage.Stage.TheVariants.{Failed}
 
 -- the fault that stands
 abbrev pub fault_in : Stage → Option JoinFault

@@ -10,8 +10,8 @@ use Rattle.frame_join.specs.Pixels.{is_kept, pixel_history}
 -- **the value of a join (`JoinState`, `Represents`)**: what a join keeps, which forgets most of its history, and which
 -- histories it stands for.
 --
--- What a join keeps: the bytes that show pixels and how far their picture is, and, of a frame under way that is kept, the bytes
--- of a line and how many bytes came.
+-- What a join keeps: the bytes that show pixels and how far their picture is, and, of a frame under way that is kept,
+-- the bytes of a line and how many bytes came.
 pub record JoinState : Type 0 where
   pub pixels : PixelJoinState
   pub line : ℕ

@@ -12,10 +12,10 @@ abbrev pub is_unknown : Option ℕ → Bool
 is_unknown None = true
 is_unknown (Some _) = false
 
--- **a frame of unknown height, a pass (`is_open_ended`, `is_pass`), what may follow (`is_accepted`)**: a GRAY or RGB frame
--- whose lines are not told; a frame of one color of known lines; the first frame is a picture alone, of unknown height or a
--- pass, and after a pass come further ones of the other colors, alike in width, lines, depth and byte order, the third
--- alone the last.
+-- **a frame of unknown height, a pass (`is_open_ended`, `is_pass`), what may follow (`is_accepted`)**: a GRAY or RGB
+-- frame whose lines are not told; a frame of one color of known lines; the first frame is a picture alone, of unknown
+-- height or a pass, and after a pass come further ones of the other colors, alike in width, lines, depth and byte
+-- order, the third alone the last.
 --
 -- a frame of these parameters is a picture whose height its end tells
 abbrev pub is_open_ended : Params → Bool
@@ -45,7 +45,9 @@ same_order Big Big = true
 
 -- two frames have one width, one number of lines, one depth and one byte order
 abbrev pub is_alike : Params → ByteOrder → Params → ByteOrder → Bool
-is_alike p order q other = (p.pixels_per_line == q.pixels_per_line) && ((lines_in p.lines == lines_in q.lines) && ((p.depth == q.depth) && same_order order other))
+is_alike p order q other =
+    (p.pixels_per_line == q.pixels_per_line)
+    && ((lines_in p.lines == lines_in q.lines) && ((p.depth == q.depth) && same_order order other))
 
 -- a frame of these parameters shows another color of the picture than the frame f
 abbrev pub goes_with : Frame → Params → ByteOrder → Bool

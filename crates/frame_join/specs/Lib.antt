@@ -12,3 +12,4 @@ pub mod Pixels
 pub mod JoinStates
 pub mod JoinInside
 pub mod Inside
+pub mod Laws

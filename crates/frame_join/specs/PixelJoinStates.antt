@@ -1,11 +1,13 @@
 -- The value of a join, and which histories it stands for.
-use Rattle.std.specs.Prelude.{ℕ, ◌+◌, ◌*◌, ◌≤◌, ◌<◌, ◌≡◌, Bool, true, false, Some, None, List, [], ◌∷◌, ◌++◌, length, slice_index, take, drop}
+use Rattle.std.specs.Prelude.{ℕ, ◌+◌, ◌*◌, ◌≤◌, ◌<◌, ◌≡◌, Bool, true, false, Some, None, List, [], ◌∷◌, ◌++◌, length}
+use Rattle.std.specs.Prelude.{slice_index, take, drop}
 use Rattle.netpbm.specs.Pnm.{IsWhole}
 use Rattle.netpbm.specs.FileText.{header_text}
 use Rattle.sane_fixed.specs.declared.byte_order.ByteOrder.{ByteOrder}
 use Rattle.sane_fixed.specs.declared.params.Params.{Params}
 use Rattle.frame_join.specs.declared.join_stage.Stage.{Stage}
-use Rattle.frame_join.specs.declared.join_stage.Stage.TheVariants.{Idle, Under, Keeping, Between, Whole, WholeColors, Failed}
+use Rattle.frame_join.specs.declared.join_stage.Stage.TheVariants.{Idle, Under, Keeping, Between, Whole, WholeColors}
+use Rattle.frame_join.specs.declared.join_stage.Stage.TheVariants.{Failed}
 use Rattle.page_picture.specs.Shows.{Frame}
 use Rattle.frame_join.specs.AloneFrame.{is_alone, lines_in, AloneParts, row_bytes, most_bytes}
 use Rattle.frame_join.specs.KeptFrame.{is_pass}
@@ -124,8 +126,10 @@ PixelRepresentsAt Idle past v = (past.ended ≡ []) × (past.under ≡ None) × 
 PixelRepresentsAt Under past v = (f : Frame) × (past.ended ≡ []) × (past.under ≡ Some f) × StreamsRows f past.given v
 PixelRepresentsAt Keeping past v = (f : Frame) × (past.under ≡ Some f) × KeepsFrame f past v
 PixelRepresentsAt Between past v = (past.under ≡ None) × WaitsFor past v
-PixelRepresentsAt Whole past v = (f : Frame) × (past.ended ≡ f ∷ []) × (past.under ≡ None) × (length f.payload ≡ frame_height f * f.params.bytes_per_line) × StreamsRows (with_height f) past.given v
-PixelRepresentsAt WholeColors past v = (a : Frame) × (b : Frame) × (c : Frame) × (past.ended ≡ a ∷ b ∷ c ∷ []) × (past.under ≡ None) × HasColors a b c past.given v
+PixelRepresentsAt Whole past v = (f : Frame) × (past.ended ≡ f ∷ []) × (past.under ≡ None)
+    × (length f.payload ≡ frame_height f * f.params.bytes_per_line) × StreamsRows (with_height f) past.given v
+PixelRepresentsAt WholeColors past v = (a : Frame) × (b : Frame) × (c : Frame) × (past.ended ≡ a ∷ b ∷ c ∷ [])
+    × (past.under ≡ None) × HasColors a b c past.given v
 PixelRepresentsAt (Failed fault) past v = (IsWhole past.given → ⊥)
 
 -- the value stands for the history

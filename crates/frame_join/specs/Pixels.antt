@@ -1,6 +1,7 @@
--- What is kept of frames: where a frame is kept, of each line just the bytes that show pixels, without what fills the line up
--- behind them.
-use Rattle.std.specs.Prelude.{ℕ, ◌+◌, ◌%◌, ◌||◌, nat_lt, Bool, true, false, if◌then◌else◌, List, [], ◌∷◌, map, option_map}
+-- What is kept of frames: where a frame is kept, of each line just the bytes that show pixels, without what fills the
+-- line up behind them.
+use Rattle.std.specs.Prelude.{ℕ, ◌+◌, ◌%◌, ◌||◌, nat_lt, Bool, true, false, if◌then◌else◌, List, [], ◌∷◌, map}
+use Rattle.std.specs.Prelude.{option_map}
 use Rattle.sane_fixed.specs.declared.params.Params.{Params}
 use Rattle.page_picture.specs.Shows.{Frame}
 use Rattle.frame_join.specs.AloneFrame.{row_bytes}
@@ -14,7 +15,8 @@ with_byte false byte bytes = bytes
 -- of bytes that stand in a frame from a place on those that are among the first `size` of their line
 unfoldable pub pixels_from : ℕ → ℕ → ℕ → List ℕ → List ℕ
 pixels_from size line at [] = []
-pixels_from size line at (byte ∷ bytes) = with_byte (nat_lt (at % line) size) byte (pixels_from size line (at + 1) bytes)
+pixels_from size line at (byte ∷ bytes) =
+    with_byte (nat_lt (at % line) size) byte (pixels_from size line (at + 1) bytes)
 
 -- frames of these parameters are kept until the picture is whole
 abbrev pub is_kept : Params → Bool

@@ -10,6 +10,7 @@ ghost use Rattle.frame_join.specs.FrameHistory.{JoinHistory, IsJoined, is_accept
 ghost use Rattle.frame_join.specs.JoinStages.{is_keeping, is_between, is_colors};
 ghost use Rattle.frame_join.specs.Pixels.{is_kept, pixels_of};
 ghost use Rattle.frame_join.specs.JoinStates.{JoinState, Represents};
+ghost use Rattle.frame_join.specs.Laws.{MostIsOfPixels, PlanesAreOfPixels, ShownColorsAreAccepted, WholeFileIsOfOneFrame, FrameFileIsTheWritersText};
 
 /// Before the picture is whole, what was given in all is no whole text.
 pub fn not_whole_before()
@@ -38,14 +39,8 @@ pub fn only_pixels_are_kept()
     ensures coming { (past : JoinHistory) (join : JoinState) (f : Frame)
         → Represents past join → is_keeping join.pixels.stage ≡ true
         → past.under ≡ Some f → join.pixels.held ≡ (pixels_of f).payload }
-    ensures most { (past : JoinHistory) (join : JoinState) (f : Frame) (n : ℕ)
-        → Represents past join → is_keeping join.pixels.stage ≡ true
-        → past.under ≡ Some f → length f.payload ≤ n * f.params.bytes_per_line
-        → length join.pixels.held ≤ n * row_bytes f.params }
-    ensures colors { (past : JoinHistory) (join : JoinState)
-        → Represents past join → (is_keeping join.pixels.stage ||
-        (is_between join.pixels.stage || is_colors join.pixels.stage)) ≡ true
-        → join.pixels.planes ≡ planes_of (map pixels_of past.ended) }
+    ensures most { MostIsOfPixels }
+    ensures colors { PlanesAreOfPixels }
     ensures size { (f : Frame) → is_kept f.params ≡ true
         → is_full f ≡ true → length (pixels_of f).payload ≡ frame_height f * row_bytes f.params }
 {}
@@ -65,9 +60,7 @@ pub fn shown_frame_is_accepted()
 
 /// Of three frames that show a picture each is accepted after those before it.
 pub fn shown_colors_are_accepted()
-    ensures { (a b c : Frame) (p : Picture) → ShowsColors a b c p
-        → (is_accepted [] a.params a.order ≡ true) × (is_accepted (a ∷ []) b.params b.order ≡ true)
-        × (is_accepted (a ∷ b ∷ []) c.params c.order ≡ true) }
+    ensures { ShownColorsAreAccepted }
 {}
 
 /// The file of a whole picture is that of one frame of known height; the three frames of one color each make a frame
@@ -76,17 +69,11 @@ pub fn whole_file_is_of_one_frame()
     /// The file of a whole picture is that of one frame of known height, and the header and rows that such a frame
     /// gives are those of the writer's text.
     /// Carried by: `whole_file_is_of_one_frame`, `frame_file_is_the_writers_text`
-    ensures { (past : JoinHistory) (join : JoinState) → Represents past join → IsJoined past
-        → (f : Frame) × (is_alone f.params ≡ true) × ((i : ℕ) → slice_index f.payload i < 256)
-        × (file_of past.ended ≡ file_front f (lines_in f.params.lines)) }
+    ensures { WholeFileIsOfOneFrame }
 {}
 
 /// The header and the first rows that a frame gives for its file are those of the writer's text for the picture that
 /// the frame shows: the comment in the second line, and the bits past a row's end 0.
 pub fn frame_file_is_the_writers_text()
-    ensures { (f : Frame) (n : ℕ)
-        → is_alone f.params ≡ true → ((i : ℕ) → slice_index f.payload i < 256)
-        → file_front f n ≡ header_text (header_alone f.params) ++ concat_up_to (λ y. row_text
-        (header_alone f.params).format (header_alone f.params).maxval (header_alone f.params).width
-        (λ x k. frame_sample (channels_within f.params.format) f x y k)) n }
+    ensures { FrameFileIsTheWritersText }
 {}

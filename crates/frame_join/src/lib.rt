@@ -10,7 +10,6 @@ mod laws;
 mod pixel_join;
 mod planes;
 mod pnm_out;
-mod sample_lanes;
 
 pub use frame_join::FrameJoin;
 pub use join_stage::JoinFault;

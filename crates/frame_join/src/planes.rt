@@ -6,11 +6,11 @@ ghost use Rattle.frame_join.specs.Inside.{no_planes, is_there, has_two, put_plan
 
 use crate::alone_frame::place_in;
 use crate::kept_frame::color_number;
-use crate::sample_lanes::{listed, loaded, turned};
 use sane_fixed::{ByteOrder, FrameFormat};
 use std::alloc::Global;
 use std::marker::Model;
 use std::mem::swap;
+use vector_lanes::words::{listed, loaded, turned};
 
 /// One color of a picture: how many bytes a line has, and the bytes.
 #[derive(Drop)]

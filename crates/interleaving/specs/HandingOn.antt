@@ -4,7 +4,8 @@ use Rattle.saned_serve.specs.SessionActions.{SessionAction}
 use Rattle.saned_serve.specs.SessionActions.SessionAction.{Opens, Feed, Connect}
 use Rattle.saned_serve.specs.Journal.{IsFront, projection_of}
 use Rattle.saned_serve.specs.Journal.LoopAction.{Of}
-use Rattle.interleaving.specs.Interleavings.{JointAction, Traffic, bytes_heard, bytes_sent, bytes_taken, connections_accepted, connections_made, job_journal, server_journal}
+use Rattle.interleaving.specs.Interleavings.{JointAction, Traffic, bytes_heard, bytes_sent, bytes_taken}
+use Rattle.interleaving.specs.Interleavings.{connections_accepted, connections_made, job_journal, server_journal}
 use Rattle.interleaving.specs.Interleavings.JointAction.{OfJob, OfServer}
 use Rattle.interleaving.specs.Interleavings.Traffic.{Reads, Takes}
 
@@ -19,15 +20,19 @@ HaveOneSession owner = (j k i : ℕ) → owner j ≡ Some i → owner k ≡ Some
 -- what a session is fed its job has written before, and it is given a data connection that its job has made
 abbrev pub MayServe : {M : Type 0} → (M → Traffic) → Owner → ℕ → SessionAction → List (JointAction M) → Type 0
 MayServe seen owner k (Opens port) past = (i : ℕ) × (owner k ≡ Some i)
-MayServe seen owner k (Feed piece fed begins) past = (i : ℕ) × (owner k ≡ Some i) × IsFront ((projection_of k (server_journal past)).heard ++ piece) (bytes_sent seen (job_journal i past))
-MayServe seen owner k (Connect port) past = (i : ℕ) × (owner k ≡ Some i) × (connections_accepted k (server_journal past) < connections_made seen (job_journal i past))
+MayServe seen owner k (Feed piece fed begins) past = (i : ℕ) × (owner k ≡ Some i)
+    × IsFront ((projection_of k (server_journal past)).heard ++ piece) (bytes_sent seen (job_journal i past))
+MayServe seen owner k (Connect port) past = (i : ℕ) × (owner k ≡ Some i)
+    × (connections_accepted k (server_journal past) < connections_made seen (job_journal i past))
 MayServe seen owner k act past = Unit {0}
 
 -- what a job reads the daemon gave out before, for its session or on the data connection that this accepted last
 abbrev pub MayMove : {M : Type 0} → (M → Traffic) → Owner → ℕ → Traffic → List (JointAction M) → Type 0
-MayMove seen owner i (Reads bytes) past = (k : ℕ) × (owner k ≡ Some i) × IsFront (bytes_heard seen (job_journal i past) ++ bytes) (projection_of k (server_journal past)).said
+MayMove seen owner i (Reads bytes) past = (k : ℕ) × (owner k ≡ Some i)
+    × IsFront (bytes_heard seen (job_journal i past) ++ bytes) (projection_of k (server_journal past)).said
 MayMove seen owner i (Takes bytes) past =
-    (k : ℕ) × (owner k ≡ Some i) × (connections_accepted k (server_journal past) ≡ connections_made seen (job_journal i past))
+    (k : ℕ) × (owner k ≡ Some i)
+    × (connections_accepted k (server_journal past) ≡ connections_made seen (job_journal i past))
     × IsFront (bytes_taken seen (job_journal i past) ++ bytes) (projection_of k (server_journal past)).shown
 MayMove seen owner i other past = Unit {0}
 
@@ -36,10 +41,10 @@ IsHandedOn seen owner (OfServer (Of k act)) past = MayServe seen owner k act pas
 IsHandedOn seen owner (OfServer action) past = Unit {0}
 IsHandedOn seen owner (OfJob i move) past = MayMove seen owner i (seen move) past
 
--- **hand on (`HandsOn`, `Owner`, `HaveOneSession`)**: each session's control connection is a job's, and no job has two; in
--- the one order what a session is fed is, with all before it, a front of what its job has written, what a job reads a front
--- of the replies that were taken of the core for its session, or of the records since the data connection was accepted, and
--- one is accepted only where the job has made more.
+-- **hand on (`HandsOn`, `Owner`, `HaveOneSession`)**: each session's control connection is a job's, and no job has two;
+-- in the one order what a session is fed is, with all before it, a front of what its job has written, what a job reads
+-- a front of the replies that were taken of the core for its session, or of the records since the data connection was
+-- accepted, and one is accepted only where the job has made more.
 unfoldable pub HandsOn : {M : Type 0} → (M → Traffic) → Owner → List (JointAction M) → Type 0
 HandsOn seen owner [] = Unit {0}
 HandsOn seen owner (action ∷ past) = HandsOn seen owner past × IsHandedOn seen owner action past

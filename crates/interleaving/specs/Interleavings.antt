@@ -1,14 +1,15 @@
--- One order of all that a server and the loops of some jobs do: an interleaving of their journals. All have the newest first.
+-- One order of all that a server and the loops of some jobs do: an interleaving of their journals. All have the newest
+-- first.
 use Rattle.std.specs.Prelude.{ℕ, ◌+◌, cond, eqb, List, [], ◌∷◌, ◌++◌}
 use Rattle.saned_serve.specs.SessionActions.{SessionAction}
 use Rattle.saned_serve.specs.SessionActions.SessionAction.{Connect}
 use Rattle.saned_serve.specs.Journal.{LoopAction}
 use Rattle.saned_serve.specs.Journal.LoopAction.{Of}
 
--- **traffic (`Traffic`, `bytes_sent`, `bytes_heard`, `bytes_taken`, `connections_made`, `connections_accepted`)**: what a
--- move does on its job's connections: bytes are written to the control connection, or read of it, a data connection is
--- made, bytes are read of the one that was made last, or nothing of that; what comes of it over a journal; and how many
--- data connections a session was given.
+-- **traffic (`Traffic`, `bytes_sent`, `bytes_heard`, `bytes_taken`, `connections_made`, `connections_accepted`)**: what
+-- a move does on its job's connections: bytes are written to the control connection, or read of it, a data connection
+-- is made, bytes are read of the one that was made last, or nothing of that; what comes of it over a journal; and how
+-- many data connections a session was given.
 pub data Traffic : Type 0 where
   -- these bytes are written to the control connection
   Writes : (bytes : List ℕ) → Traffic

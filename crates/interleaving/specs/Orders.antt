@@ -4,14 +4,16 @@ use Rattle.saned_serve.specs.SessionActions.{SessionAction}
 use Rattle.saned_serve.specs.SessionActions.SessionAction.{Opens, Take, Connect, Turn}
 use Rattle.saned_serve.specs.Journal.{IsFront, IsJournal, LoopAction, projection_of}
 use Rattle.saned_serve.specs.Journal.LoopAction.{Of}
-use Rattle.interleaving.specs.Interleavings.{JointAction, Traffic, bytes_heard, bytes_sent, bytes_taken, connections_accepted, connections_made, job_journal, server_journal}
+use Rattle.interleaving.specs.Interleavings.{JointAction, Traffic, bytes_heard, bytes_sent, bytes_taken}
+use Rattle.interleaving.specs.Interleavings.{connections_accepted, connections_made, job_journal, server_journal}
 use Rattle.interleaving.specs.Interleavings.JointAction.{OfJob, OfServer}
 use Rattle.interleaving.specs.HandingOn.{HandsOn, HaveOneSession, Owner}
 
 -- ---- acts of a server that give a job nothing
 
--- **gives nothing (`GivesNothing`, `IsFreeOf`, `AllGiveNothing`)**: an act of the server that opens no session of the job,
--- accepts no data connection of it, and takes no reply and no record for it; and an act that is no move of the job either.
+-- **gives nothing (`GivesNothing`, `IsFreeOf`, `AllGiveNothing`)**: an act of the server that opens no session of the
+-- job, accepts no data connection of it, and takes no reply and no record for it; and an act that is no move of the job
+-- either.
 --
 -- no byte and no connection is given to job i
 abbrev pub GivesNothing : Owner → ℕ → ℕ → SessionAction → Type 0
@@ -33,7 +35,9 @@ IsFreeOf owner i (OfJob job move) = job ≢ i
 -- a job's move just behind an act that gives it nothing may come just before that
 abbrev pub MovesMayComeSooner : Type 0 → Type 0
 MovesMayComeSooner M =
-    (seen : M → Traffic) (owner : Owner) (i : ℕ) (move : M) (action : JointAction M) (past : List (JointAction M)) → IsFreeOf owner i action → HandsOn seen owner (OfJob i move ∷ action ∷ past) → HandsOn seen owner (action ∷ OfJob i move ∷ past)
+    (seen : M → Traffic) (owner : Owner) (i : ℕ) (move : M) (action : JointAction M) (past : List (JointAction M))
+    → IsFreeOf owner i action → HandsOn seen owner (OfJob i move ∷ action ∷ past)
+    → HandsOn seen owner (action ∷ OfJob i move ∷ past)
 
 -- ---- many acts
 
@@ -63,28 +67,33 @@ pub record HaveSameJournals {M : Type 0} (a b : List (JointAction M)) : Type 0 w
   pub server : server_journal a ≡ server_journal b
   pub jobs : (j : ℕ) → job_journal j a ≡ job_journal j b
 
--- **comes sooner (`ComesSooner`, `moves_among`, `others_among`)**: all moves of a job since then at once, and behind them
--- whatever else was done since, in its order: an interleaving of the same journals, over connections that hand on.
-pub record ComesSooner {M : Type 0} (seen : M → Traffic) (owner : Owner) (i : ℕ) (since past : List (JointAction M)) : Type 0 where
+-- **comes sooner (`ComesSooner`, `moves_among`, `others_among`)**: all moves of a job since then at once, and behind
+-- them whatever else was done since, in its order: an interleaving of the same journals, over connections that hand on.
+pub record ComesSooner {M : Type 0} (seen : M → Traffic) (owner : Owner) (i : ℕ)
+    (since past : List (JointAction M)) : Type 0 where
   pub same : HaveSameJournals (others_among i since ++ (moves_among i since ++ past)) (since ++ past)
   pub hands : HandsOn seen owner (others_among i since ++ (moves_among i since ++ past))
 
 -- from where the server gives nothing more to a job on, the job may do at once all that it will do
 abbrev pub AllMayComeSooner : Type 0 → Type 0
-AllMayComeSooner M = (seen : M → Traffic) (owner : Owner) (i : ℕ) (since past : List (JointAction M)) → AllGiveNothing owner i since → HandsOn seen owner (since ++ past) → ComesSooner seen owner i since past
+AllMayComeSooner M = (seen : M → Traffic) (owner : Owner) (i : ℕ) (since past : List (JointAction M))
+    → AllGiveNothing owner i since → HandsOn seen owner (since ++ past) → ComesSooner seen owner i since past
 
 -- ---- what is on the way
 
--- **reads are fronts (`ReadsAreFronts`)**: of a session and its job: what was fed is a front of what was written, what was
--- read of the replies taken; no more data connections were accepted than made; where as many were, what was read of the
--- last is a front of its records, else nothing was read of it.
+-- **reads are fronts (`ReadsAreFronts`)**: of a session and its job: what was fed is a front of what was written, what
+-- was read of the replies taken; no more data connections were accepted than made; where as many were, what was read of
+-- the last is a front of its records, else nothing was read of it.
 pub record ReadsAreFronts {M : Type 0} (seen : M → Traffic) (k i : ℕ) (past : List (JointAction M)) : Type 0 where
   pub requests : IsFront (projection_of k (server_journal past)).heard (bytes_sent seen (job_journal i past))
   pub replies : IsFront (bytes_heard seen (job_journal i past)) (projection_of k (server_journal past)).said
   pub accepted : connections_accepted k (server_journal past) ≤ connections_made seen (job_journal i past)
-  pub waits : connections_accepted k (server_journal past) < connections_made seen (job_journal i past) → bytes_taken seen (job_journal i past) ≡ []
-  pub records : connections_accepted k (server_journal past) ≡ connections_made seen (job_journal i past) → IsFront (bytes_taken seen (job_journal i past)) (projection_of k (server_journal past)).shown
+  pub waits : connections_accepted k (server_journal past) < connections_made seen (job_journal i past)
+      → bytes_taken seen (job_journal i past) ≡ []
+  pub records : connections_accepted k (server_journal past) ≡ connections_made seen (job_journal i past)
+      → IsFront (bytes_taken seen (job_journal i past)) (projection_of k (server_journal past)).shown
 
 abbrev pub ReadsWereWritten : Type 0 → Type 0
 ReadsWereWritten M =
-    (seen : M → Traffic) (owner : Owner) (past : List (JointAction M)) (k i : ℕ) → HaveOneSession owner → IsJournal (server_journal past) → HandsOn seen owner past → owner k ≡ Some i → ReadsAreFronts seen k i past
+    (seen : M → Traffic) (owner : Owner) (past : List (JointAction M)) (k i : ℕ) → HaveOneSession owner
+    → IsJournal (server_journal past) → HandsOn seen owner past → owner k ≡ Some i → ReadsAreFronts seen k i past

@@ -2,6 +2,7 @@ mod command_lines;
 mod dialling;
 mod failing;
 mod printed;
+mod reading;
 
 use sane_fixed::Text;
 use std::alloc::Global;

@@ -1,6 +1,7 @@
--- What private functions promise of a job on a scanner: of its settings, of the frames on their way from the scanner to the
--- output, and of the pages of a batch.
-use Rattle.std.specs.Prelude.{ℕ, Option, Some, None, Result, Ok, Err, List, [], ◌∷◌, ◌++◌, slice_get, suc, ◌+◌, ◌≡◌, ◌≤◌, ◌⊎◌, take, length, Bool, true, false}
+-- What private functions promise of a job on a scanner: of its settings, of the frames on their way from the scanner to
+-- the output, and of the pages of a batch.
+use Rattle.std.specs.Prelude.{ℕ, Option, Some, None, Result, Ok, Err, List, [], ◌∷◌, ◌++◌, slice_get, suc, ◌+◌, ◌≡◌}
+use Rattle.std.specs.Prelude.{◌≤◌, ◌⊎◌, take, length, Bool, true, false}
 use Rattle.std.specs.Option.{option_map_or}
 use Rattle.std.specs.Io.KnownBytes.{Appends}
 use Rattle.sane_fixed.specs.declared.status.Status.{Status}
@@ -67,7 +68,11 @@ option_kind_at s n = option_map_or (λ desc. desc.kind) (slice_get (descriptors_
 -- a setting put, or what ends the job, out of memory aside
 abbrev pub put_answered : Setup → List ℕ → ℕ → Value → Result (Value × Info) Status → Result (Setup × Report) Stop
 put_answered s name n asked (Err status) = Err (stop_by_status status)
-put_answered s name n asked (Ok got) = Ok (setup_after s n got.0, record { name = name; kind = option_kind_at s n; asked = asked; given = got.0; info = got.1 })
+put_answered s name n asked (Ok got) =
+    Ok (
+      setup_after s n got.0,
+      record { name = name; kind = option_kind_at s n; asked = asked; given = got.0; info = got.1 },
+    )
 
 abbrev pub put_read : Setup → List ℕ → ℕ → Option Value → Result (Setup × Report) Stop
 put_read s name n None = Err bad_setting
@@ -77,8 +82,8 @@ abbrev pub put_found : Setup → List ℕ × List ℕ → Option ℕ → Result 
 put_found s setting None = Err bad_setting
 put_found s setting (Some n) = put_read s setting.0 n (value_of_setting s n setting.1)
 
--- **settings put (`put_one`, `put_all`)**: the same one after another, as the code does it, with what ends the job at the
--- first that fails; proved to be the settings in force.
+-- **settings put (`put_one`, `put_all`)**: the same one after another, as the code does it, with what ends the job at
+-- the first that fails; proved to be the settings in force.
 --
 -- the option of the setting's name is found, its text is read, and the value is set
 unfoldable pub put_one : Setup → List ℕ × List ℕ → Result (Setup × Report) Stop
@@ -88,7 +93,8 @@ abbrev pub with_first : Report → Result (Setup × List Report) Stop → Result
 with_first report (Ok more) = Ok (more.0, report ∷ more.1)
 with_first report (Err stop) = Err stop
 
-abbrev pub then_more : Result (Setup × Report) Stop → (Setup → Result (Setup × List Report) Stop) → Result (Setup × List Report) Stop
+abbrev pub then_more : Result (Setup × Report) Stop → (Setup → Result (Setup × List Report) Stop)
+    → Result (Setup × List Report) Stop
 then_more (Err stop) more = Err stop
 then_more (Ok first) more = with_first first.1 (more first.0)
 
@@ -106,14 +112,16 @@ with_done done (Err stop) = Err stop
 
 -- **drained (`JoinIsDrainedTo`), stops short (`StopsShort`)**: the output took all that was given so far, and once the
 -- picture is whole that denotes it; the output took a text that is no whole file.
-pub record JoinIsDrainedTo (past : JoinHistory) (first : Option (List ℕ)) (join : JoinState) (contents : Option (List ℕ)) : Type 0 where
+pub record JoinIsDrainedTo (past : JoinHistory) (first : Option (List ℕ)) (join : JoinState)
+    (contents : Option (List ℕ)) : Type 0 where
   pub bytes : List ℕ
   pub stands : Represents (after_pull bytes past) join
   pub taken : Appends first contents (past.given ++ bytes)
   pub denotes : IsJoined past → (p : Picture) → ShowsFrames past.ended p → Denotes (past.given ++ bytes) p
 
 -- bytes came into the frame under way, and the output took what was given
-pub record FeedsJoin (past : JoinHistory) (frame : Frame) (first : Option (List ℕ)) (join : JoinState) (contents : Option (List ℕ)) : Type 0 where
+pub record FeedsJoin (past : JoinHistory) (frame : Frame) (first : Option (List ℕ)) (join : JoinState)
+    (contents : Option (List ℕ)) : Type 0 where
   pub given : List ℕ
   pub stands : Represents (record past { under = Some frame; given = given }) join
   pub taken : Appends first contents given
@@ -128,17 +136,18 @@ pub record JoinIsBetween (past : JoinHistory) (join : JoinState) : Type 0 where
   pub not_whole : is_joined past.ended ≡ false
 
 -- the join is inside this frame, no fault stands, and the output took what was given
-pub record JoinIsInside (past : JoinHistory) (frame : Frame) (first : Option (List ℕ)) (join : JoinState) (contents : Option (List ℕ)) : Type 0 where
+pub record JoinIsInside (past : JoinHistory) (frame : Frame) (first : Option (List ℕ)) (join : JoinState)
+    (contents : Option (List ℕ)) : Type 0 where
   pub stands : Represents past join
   pub no_fault : past.fault ≡ None
   pub under : past.under ≡ Some frame
   pub taken : Appends first contents past.given
 
--- **read to (`FrameUnderWay`, `IsReadTo`), ends the frame (`JoinsFrame`), joined (`HasJoined`), scanned (`IsScanned`)**: so
--- many bytes of a frame came, the front of the pass's where the source is steady; the frame had all its bytes and the
--- output took what was given; so many passes were joined, each with the pass's bytes where the source is steady, and one
--- more is to come; the output took the whole file of a picture, which is the scene's meaning on the page where the source
--- is steady.
+-- **read to (`FrameUnderWay`, `IsReadTo`), ends the frame (`JoinsFrame`), joined (`HasJoined`), scanned
+-- (`IsScanned`)**: so many bytes of a frame came, the front of the pass's where the source is steady; the frame had all
+-- its bytes and the output took what was given; so many passes were joined, each with the pass's bytes where the source
+-- is steady, and one more is to come; the output took the whole file of a picture, which is the scene's meaning on the
+-- page where the source is steady.
 --
 -- a frame under way: what was told to the join, the frame, and what the output held first
 pub record FrameUnderWay : Type 0 where
@@ -176,16 +185,20 @@ frames_came s page pass (bytes ∷ more) = bytes_of_pass s page pass bytes ∷ f
 -- the bytes that came of passes from that number on are those of the passes where the page's source is steady
 abbrev pub AreOfPasses : DeviceState → ℕ → List (List ℕ) → Type 0
 AreOfPasses s pass [] = Unit {0}
-AreOfPasses s pass (bytes ∷ more) = ((steady_of s) ≡ true → bytes ≡ payload s.setup (page_of s) pass) × AreOfPasses s (suc pass) more
+AreOfPasses s pass (bytes ∷ more) = ((steady_of s) ≡ true → bytes ≡ payload s.setup (page_of s) pass)
+    × AreOfPasses s (suc pass) more
 
 -- so many passes were joined, there is one more to come, and the output took what was given
-pub record HasJoined (s : DeviceState) (pass : ℕ) (first : Option (List ℕ)) (join : JoinState) (contents : Option (List ℕ)) : Type 0 where
+pub record HasJoined (s : DeviceState) (pass : ℕ) (first : Option (List ℕ)) (join : JoinState)
+    (contents : Option (List ℕ)) : Type 0 where
   pub passes : List (List ℕ)
   pub count : length passes ≡ pass
   pub more : pass ≤ last_pass s.setup
   pub right : AreOfPasses s 0 passes
   pub given : List ℕ
-  pub stands : Represents (record { ended = frames_came s.setup (page_of s) 0 passes; under = None; fault = None; given = given }) join
+  pub stands
+      : Represents
+      (record { ended = frames_came s.setup (page_of s) 0 passes; under = None; fault = None; given = given }) join
   pub taken : Appends first contents given
 
 -- so many bytes are all of a pass, or none, where `read-return-value` tells of its end
@@ -193,10 +206,12 @@ abbrev pub IsAllOrNone : DeviceState → ℕ → ℕ → Type 0
 IsAllOrNone s pass given = (given ≡ pass_length s.setup (page_of s) pass) ⊎ ((given ≡ 0) × (s.setup.told ≡ Some Eof))
 
 -- the frame had all its bytes, and the output took what was given; the picture is whole or not
-pub record JoinsFrame (past : JoinHistory) (frame : Frame) (is_whole : Bool) (first : Option (List ℕ)) (now : JoinAndOutput) : Type 0 where
+pub record JoinsFrame (past : JoinHistory) (frame : Frame) (is_whole : Bool) (first : Option (List ℕ))
+    (now : JoinAndOutput) : Type 0 where
   pub full : is_full frame ≡ true
   pub joined : is_joined (past.ended ++ frame ∷ []) ≡ is_whole
-  pub drained : JoinIsDrainedTo (record past { ended = past.ended ++ frame ∷ []; under = None }) first now.join now.contents
+  pub drained
+      : JoinIsDrainedTo (record past { ended = past.ended ++ frame ∷ []; under = None }) first now.join now.contents
 
 -- a scanner, the join of its scan, and what the output holds
 pub record ScanState : Type 0 where
@@ -204,11 +219,12 @@ pub record ScanState : Type 0 where
   pub join : JoinState
   pub contents : Option (List ℕ)
 
--- The pass of that number was read and joined: the picture is whole, its file went out and the scanner is at rest, or the
--- scanner waits for the next pass.
+-- The pass of that number was read and joined: the picture is whole, its file went out and the scanner is at rest, or
+-- the scanner waits for the next pass.
 abbrev pub HasScannedPass : DeviceState → ℕ → Bool → Option (List ℕ) → ScanState → Type 0
 HasScannedPass s pass true first now = (now.device.phase ≡ AtRest false) × IsScanned s first now.contents
-HasScannedPass s pass false first now = (now.device.phase ≡ Between (pass + 1)) × HasJoined s (pass + 1) first now.join now.contents
+HasScannedPass s pass false first now = (now.device.phase ≡ Between (pass + 1))
+    × HasJoined s (pass + 1) first now.join now.contents
 
 -- where the end of a frame is refused: one that has all its bytes, by the output alone, and another is short
 abbrev pub FrameEndsAs : Bool → Stop → Type 0
@@ -233,8 +249,8 @@ pub record LeavesPage (k : ℕ) (before after : Option Stock) : Type 0 where
 
 -- ---- the device of a job
 
--- of a device that was reset only the options, the phase and the count of failures changed, and a feeder that is at rest
--- let go of its first page
+-- of a device that was reset only the options, the phase and the count of failures changed, and a feeder that is at
+-- rest let go of its first page
 pub record KeepsPages (old new : DeviceState) : Type 0 where
   pub info : new.info ≡ old.info
   pub pages : AreSamePages old.pages new.pages ⊎ LetsGo (with_setup old new.setup) new

@@ -32,16 +32,18 @@ pub record IsBatchPut (s : DeviceState) (job : Job) (forced : Setup × List Plac
   pub taken : HasJobFault job None
   pub put : in_force s.setup.scene.kind s.setup.order (settings_put job.task job.settings.items) ≡ Some forced
 
--- **done (`IsBatchDone`)**: settings in force and reported, the task's devices and options told, and pages scanned: as many
--- as were asked for, or fewer, at least one, where none is left; the shelf kept the output of each.
+-- **done (`IsBatchDone`)**: settings in force and reported, the task's devices and options told, and pages scanned: as
+-- many as were asked for, or fewer, at least one, where none is left; the shelf kept the output of each.
 pub record IsBatchDone (job : Job) (was now : DeviceAndShelf) (reports : Reports) : Type 0 where
   pub setup : Setup
   pub placed : List Placement
   pub put : IsBatchPut was.device job (setup, placed)
-  pub told : SettingsAreReported (defaults was.device.setup.scene.kind was.device.setup.order) (settings_put job.task job.settings.items) placed reports.settings
+  pub told : SettingsAreReported (defaults was.device.setup.scene.kind was.device.setup.order)
+      (settings_put job.task job.settings.items) placed reports.settings
   pub devices : reports.devices ≡ devices_reported job.task was.device.info
   pub options : reports.options ≡ options_reported job.task setup
-  pub scanned : AreScanned (pages_of_task job.task) (record was { device = with_setup (after_reset was.device) setup }) now
+  pub scanned
+      : AreScanned (pages_of_task job.task) (record was { device = with_setup (after_reset was.device) setup }) now
 
 -- no page was scanned: the shelf was asked for nothing, and the scanner is at rest with all pages that the reset left
 pub record ScansNothing (old : DeviceState) (before after : Option Stock) (new : DeviceState) : Type 0 where
@@ -50,13 +52,16 @@ pub record ScansNothing (old : DeviceState) (before after : Option Stock) (new :
   pub pages : new.pages ≡ (after_reset old).pages
   pub rest : is_at_rest new.phase ≡ true
 
--- **ended (`IsBatchEndedBy`, `StopsAt`, `EndsBehind`, `RefusesLast`)**: the size or the count; the setting that is not put;
--- out of memory before the first page; or, behind the pages that were finished, what ends a scan, where at most one output
--- more was asked for, which took no whole file; or a shelf that refuses the last page's output.
+-- **ended (`IsBatchEndedBy`, `StopsAt`, `EndsBehind`, `RefusesLast`)**: the size or the count; the setting that is not
+-- put; out of memory before the first page; or, behind the pages that were finished, what ends a scan, where at most
+-- one output more was asked for, which took no whole file; or a shelf that refuses the last page's output.
 pub record IsBatchEndedBy (job : Job) (was now : DeviceAndShelf) (stop : Stop) : Type 0 where
   pub size : (HasJobFault job None → ⊥) → stop ≡ bad_setting
-  pub setting : HasJobFault job None → (why : Stop) → FailsAt (defaults was.device.setup.scene.kind was.device.setup.order) (settings_put job.task job.settings.items) why → (stop ≡ no_memory) ⊎ (stop ≡ why)
-  pub none : ((forced : Setup × List Placement) → IsBatchPut was.device job forced → ⊥) → ScansNothing was.device was.stock now.stock now.device
+  pub setting : HasJobFault job None → (why : Stop)
+      → FailsAt (defaults was.device.setup.scene.kind was.device.setup.order) (settings_put job.task job.settings.items)
+      why → (stop ≡ no_memory) ⊎ (stop ≡ why)
+  pub none : ((forced : Setup × List Placement) → IsBatchPut was.device job forced → ⊥)
+      → ScansNothing was.device was.stock now.stock now.device
   pub put : (forced : Setup × List Placement) → IsBatchPut was.device job forced →
       ((stop ≡ no_memory) × ScansNothing was.device was.stock now.stock now.device)
       ⊎ StopsAt (pages_of_task job.task) (record was { device = with_setup (after_reset was.device) forced.0 }) now stop

@@ -1,5 +1,6 @@
 -- Pages scanned one after another, each to an output of its own that a shelf gives.
-use Rattle.std.specs.Prelude.{ℕ, zero, suc, ◌+◌, ◌<◌, ◌≤◌, ◌≡◌, ◌≢◌, ◌⊎◌, Option, List, [], ◌∷◌, ◌++◌, true, false, length, IsSomeAnd}
+use Rattle.std.specs.Prelude.{ℕ, zero, suc, ◌+◌, ◌<◌, ◌≤◌, ◌≡◌, ◌≢◌, ◌⊎◌, Option, List, [], ◌∷◌, ◌++◌, true, false}
+use Rattle.std.specs.Prelude.{length, IsSomeAnd}
 use Rattle.netpbm.specs.Pnm.{Denotes, IsWhole}
 use Rattle.page_picture.specs.Meaning.{meaning_of}
 use Rattle.sane_fixed.specs.declared.status.Status.TheVariants.{Inval, NoDocs}
@@ -44,11 +45,11 @@ pub record DeviceAndShelf : Type 0 where
   pub device : DeviceState
   pub stock : Option Stock
 
--- **pages scanned (`AreScanned`)**: one file for each page: whole, and of the meaning of the options on the scanner's first
--- page where its source is steady; the next is that of the scanner that the page before left.
+-- **pages scanned (`AreScanned`)**: one file for each page: whole, and of the meaning of the options on the scanner's
+-- first page where its source is steady; the next is that of the scanner that the page before left.
 --
--- So many pages were scanned, or fewer, at least one, where no page was left. Each has its file, and they went out under
--- the numbers from 1 on; the shelf kept every one.
+-- So many pages were scanned, or fewer, at least one, where no page was left. Each has its file, and they went out
+-- under the numbers from 1 on; the shelf kept every one.
 pub record AreScanned (count : ℕ) (was now : DeviceAndShelf) : Type 0 where
   pub files : List (List ℕ)
   pub pages : ArePageFiles was.device files
@@ -60,7 +61,8 @@ pub record AreScanned (count : ℕ) (was now : DeviceAndShelf) : Type 0 where
 -- mean no picture on it; or what ends a scan of one.
 pub record EndsPage (s : DeviceState) (behind : ℕ) (new : DeviceState) (stop : Stop) : Type 0 where
   pub no_page : s.pages ≡ [] → (behind ≡ 0) × ((stop ≡ no_memory) ⊎ (stop ≡ stop_by_status NoDocs))
-  pub no_picture : s.pages ≢ [] → has_picture s.setup (page_of s) ≡ false → (stop ≡ no_memory) ⊎ (stop ≡ stop_by_status Inval)
+  pub no_picture : s.pages ≢ [] → has_picture s.setup (page_of s) ≡ false
+      → (stop ≡ no_memory) ⊎ (stop ≡ stop_by_status Inval)
   pub cause : s.pages ≢ [] → has_picture s.setup (page_of s) ≡ true → ScanHasCause stop s new
   pub same : KeepsDevice s new
 
@@ -82,8 +84,8 @@ pub record EndsBehind (files : List (List ℕ)) (was now : DeviceAndShelf) (stop
   pub outputs : TakesBack was.stock (outputs_from 1 files ++ left) now.stock
   pub cause : EndsPage (after_pages (length files) was.device) (length files) now.device stop
 
--- Some pages were scanned, and each has its file. What ended them is a refusal of the shelf to take back the last one's output,
--- or what ended the scan of the page behind them.
+-- Some pages were scanned, and each has its file. What ended them is a refusal of the shelf to take back the last one's
+-- output, or what ended the scan of the page behind them.
 pub record StopsAt (count : ℕ) (was now : DeviceAndShelf) (stop : Stop) : Type 0 where
   pub files : List (List ℕ)
   pub pages : ArePageFiles was.device files

@@ -63,8 +63,8 @@ Writes SetOnly s before after = after ≡ before
 Writes Scan s before after = (first : Option (List ℕ)) → Appends first before [] → IsScanned s first after
 Writes (Batch count) s before after = after ≡ before
 
--- The job has a size that is taken, and its settings are in force on this scanner: the options that they leave, and what
--- each was given.
+-- The job has a size that is taken, and its settings are in force on this scanner: the options that they leave, and
+-- what each was given.
 pub record IsPut (s : DeviceState) (job : Job) (forced : Setup × List Placement) : Type 0 where
   pub taken : IsTakenJob job
   pub put : in_force s.setup.scene.kind s.setup.order (settings_put job.task job.settings.items) ≡ Some forced
@@ -84,28 +84,36 @@ pub record DeviceAndOutput : Type 0 where
 
 -- **done (`IsDone`), ended by (`IsEndedBy`), leaves no file (`LeavesNoFile`)**: the settings that the task puts are in
 -- force and reported, the task told and wrote what it should, and the scanner is left as after a reset, at rest and not
--- cancelled, with the options of the settings; what ends a job: its size, a task that wants more than one file, the setting
--- that fails, a picture that is none, no page, out of memory, or the cause that ends a scan; the output took no whole file.
+-- cancelled, with the options of the settings; what ends a job: its size, a task that wants more than one file, the
+-- setting that fails, a picture that is none, no page, out of memory, or the cause that ends a scan; the output took no
+-- whole file.
 pub record IsDone (job : Job) (was now : DeviceAndOutput) (reports : Reports) : Type 0 where
   pub setup : Setup
   pub placed : List Placement
   pub put : IsPut was.device job (setup, placed)
-  pub told : SettingsAreReported (defaults was.device.setup.scene.kind was.device.setup.order) (settings_put job.task job.settings.items) placed reports.settings
+  pub told : SettingsAreReported (defaults was.device.setup.scene.kind was.device.setup.order)
+      (settings_put job.task job.settings.items) placed reports.settings
   pub devices : reports.devices ≡ devices_reported job.task was.device.info
   pub options : reports.options ≡ options_reported job.task setup
   pub output : Writes job.task (with_setup (after_reset was.device) setup) was.output now.output
   pub left : now.device ≡ left_by job.task (with_setup (after_reset was.device) setup)
 
--- What ends a job that is not done: its size, or more than one file; the setting that is not put; a feeder without a page; settings that mean no
--- picture on the page; what ends a scan of one; and out of memory. The page is that of the scanner after its reset.
+-- What ends a job that is not done: its size, or more than one file; the setting that is not put; a feeder without a
+-- page; settings that mean no picture on the page; what ends a scan of one; and out of memory. The page is that of the
+-- scanner after its reset.
 pub record IsEndedBy (old : DeviceState) (job : Job) (new : DeviceState) (stop : Stop) : Type 0 where
   pub size : (IsTakenJob job → ⊥) → stop ≡ bad_setting
-  pub setting : IsTakenJob job → (why : Stop) → FailsAt (defaults old.setup.scene.kind old.setup.order) (settings_put job.task job.settings.items) why → (stop ≡ no_memory) ⊎ (stop ≡ why)
+  pub setting : IsTakenJob job → (why : Stop)
+      → FailsAt (defaults old.setup.scene.kind old.setup.order) (settings_put job.task job.settings.items) why
+      → (stop ≡ no_memory) ⊎ (stop ≡ why)
   pub put : (forced : Setup × List Placement) → IsPut old job forced → job.task ≢ Scan → stop ≡ no_memory
-  pub no_page : (forced : Setup × List Placement) → IsPut old job forced → job.task ≡ Scan → (after_reset old).pages ≡ [] → (stop ≡ no_memory) ⊎ (stop ≡ stop_by_status NoDocs)
-  pub no_picture : (forced : Setup × List Placement) → IsPut old job forced → job.task ≡ Scan → (after_reset old).pages ≢ [] → has_picture forced.0 (page_of (after_reset old)) ≡ false
+  pub no_page : (forced : Setup × List Placement) → IsPut old job forced → job.task ≡ Scan
+      → (after_reset old).pages ≡ [] → (stop ≡ no_memory) ⊎ (stop ≡ stop_by_status NoDocs)
+  pub no_picture : (forced : Setup × List Placement) → IsPut old job forced → job.task ≡ Scan
+      → (after_reset old).pages ≢ [] → has_picture forced.0 (page_of (after_reset old)) ≡ false
       → (stop ≡ no_memory) ⊎ (stop ≡ stop_by_status Inval)
-  pub scan : (forced : Setup × List Placement) → IsPut old job forced → job.task ≡ Scan → (after_reset old).pages ≢ [] → has_picture forced.0 (page_of (after_reset old)) ≡ true
+  pub scan : (forced : Setup × List Placement) → IsPut old job forced → job.task ≡ Scan → (after_reset old).pages ≢ []
+      → has_picture forced.0 (page_of (after_reset old)) ≡ true
       → ScanHasCause stop (with_setup (after_reset old) forced.0) new
 
 -- the output took no whole file
@@ -116,4 +124,5 @@ LeavesNoFile before after = (first : Option (List ℕ)) → Appends first before
 -- scanned; the reset before let go of one under way.
 pub record ChangesDevice (old new : DeviceState) : Type 0 where
   pub info : new.info ≡ old.info
-  pub pages : AreSamePages (after_reset old).pages new.pages ⊎ (new.pages ≡ left_behind (feeds new) (after_reset old).pages)
+  pub pages : AreSamePages (after_reset old).pages new.pages
+      ⊎ (new.pages ≡ left_behind (feeds new) (after_reset old).pages)

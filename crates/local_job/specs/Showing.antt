@@ -18,7 +18,8 @@ value_got (Err status) = None
 abbrev pub value_reported : Setup → ℕ → Descriptor → Option Value
 value_reported s n desc = if tells_value desc then value_got (option_got s n) else None
 
--- **shown (`options_with_values`, `value_reported`)**: each option in the order of their numbers, with its value where it
--- is active, can be read, has one value, and is no button and no group.
+-- **shown (`options_with_values`, `value_reported`)**: each option in the order of their numbers, with its value where
+-- it is active, can be read, has one value, and is no button and no group.
 unfoldable pub options_with_values : Setup → List (Descriptor × Option Value)
-options_with_values s = map (λ option. (option.1, value_reported s option.0 option.1)) (enumerate_from 0 (descriptors_of s))
+options_with_values s =
+    map (λ option. (option.1, value_reported s option.0 option.1)) (enumerate_from 0 (descriptors_of s))

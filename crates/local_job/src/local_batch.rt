@@ -108,6 +108,9 @@ pub fn run_local_batch_with<S: Shelf, T: Drop, F: FnOnce(&Reports) -> Result<T, 
 /// batch scans page after page, each to an output of the shelf: until it has as many as it asks for, or, behind at least
 /// one, until no page is left. A page that was scanned keeps its file, whatever ends the job. A scan is a batch of one
 /// page, which must be there, and other tasks ask the shelf for nothing.
+///
+/// As of `run_local`, that a batch ends for its output only where one failed is promised by `run_local_batch_with`, which it
+/// calls with a new tally.
 pub fn run_local_batch<S: Shelf>(
     alloc: Global,
     device: &mut dyn Device,

@@ -148,6 +148,9 @@ pub fn run_local_with<W: Write, T: Drop, F: FnOnce(&Reports) -> Result<T, NoMem>
 
 /// Does a job on a scanner of this machine: resets it, puts each setting, does the task, and cancels it
 /// at the end. A scan's file goes to the output, which is not flushed. A batch, which has more than one file, is refused.
+///
+/// No clause on a `Write` tells a write that failed from none, and this call keeps its tally to itself: that a job ends for
+/// its output only behind a failed write is promised by `run_local_with`, which it calls with a new tally.
 pub fn run_local<W: Write>(
     alloc: Global,
     device: &mut dyn Device,

@@ -57,9 +57,6 @@ pub record Follows (bytes after : List ℕ) : Type 0 where
 marked-front : (bytes : List ℕ) → marked bytes ≡ true → bytes ≡ mark ++ drop 5 bytes
 marked-front bytes h = sym (take-append-drop 5 bytes) ∙ ap (λ l. l ++ drop 5 bytes) ((bytes_eq-Decides (take 5 bytes) mark).0 h)
 
-marked-mark : (rest : List ℕ) → marked (mark ++ rest) ≡ true
-marked-mark rest = refl
-
 follows_here : (bytes : List ℕ) → marked bytes ≡ true → Follows bytes (drop 5 bytes)
 follows_here bytes h = record { before = []; bytes_are = marked-front bytes h; first = λ earlier rest e. omega arith }
 

@@ -47,10 +47,6 @@ printable_text line bytes all within c =
     let zero_printable : IsPrintable 0 = All-contains IsPrintable line 0 all (within c) in
     absurd (omega (arith, zero_printable.0))
 
-pub user_text : (line user password backend : List ℕ) → All IsPrintable line → AreFields line user password backend → IsText user
-user_text line user password backend all f =
-    printable_text line user all (λ c. subst (λ (l : List ℕ). Contains l 0) (sym f.line_is) (Contains-append_left user (58 ∷ (password ++ 58 ∷ backend)) 0 c))
-
 pub password_text : (line user password backend : List ℕ) → All IsPrintable line → AreFields line user password backend → IsText password
 password_text line user password backend all f =
     printable_text line password all (λ c. subst (λ (l : List ℕ). Contains l 0) (sym f.line_is)

@@ -25,15 +25,19 @@ abbrev pub HasDigest : List Entry → List ℕ → List ℕ → List ℕ → Lis
 HasDigest users user backend challenge digest =
     Any (λ entry. (entry.user ≡ user) × (entry.backend ≡ backend) × (md5 (challenge ++ entry.password) ≡ digest)) users
 
--- some line allows the user the backend: one of its passwords has, after the challenge, the digest of the password given
+-- some line allows the user the backend: one of its passwords has, after the challenge, the digest of the password
+-- given
 abbrev pub LineAllows : List Entry → List ℕ → List ℕ → List ℕ → List ℕ → Type 0
 LineAllows users user password backend resource =
-    (challenge : List ℕ) × IsChallenge resource challenge × HasDigest users user backend challenge (md5 (challenge ++ password))
+    (challenge : List ℕ) × IsChallenge resource challenge
+    × HasDigest users user backend challenge (md5 (challenge ++ password))
 
--- **allowed (`UserIsAllowed`)**: no line names the backend, or some line of that user and backend has a password whose MD5
--- after the challenge equals that of the password given. `SentAllows` is the second half, with the digest that was sent.
+-- **allowed (`UserIsAllowed`)**: no line names the backend, or some line of that user and backend has a password whose
+-- MD5 after the challenge equals that of the password given. `SentAllows` is the second half, with the digest that was
+-- sent.
 abbrev pub UserIsAllowed : List Entry → List ℕ → List ℕ → List ℕ → List ℕ → Type 0
-UserIsAllowed users user password backend resource = (¬ NamesBackend users backend) ⊎ LineAllows users user password backend resource
+UserIsAllowed users user password backend resource = (¬ NamesBackend users backend)
+    ⊎ LineAllows users user password backend resource
 
 -- a digest as it is sent: `$MD5$` and two lower-case hexadecimal digits a byte
 abbrev pub answer_text : List ℕ → List ℕ
@@ -47,8 +51,10 @@ GivesAnswer user backend challenge answer entry =
 -- some line allows the user the backend with the digest sent
 abbrev pub SentAllows : List Entry → List ℕ → List ℕ → List ℕ → List ℕ → Type 0
 SentAllows users user backend resource answer =
-    (challenge : List ℕ) × (digest : List ℕ) × IsChallenge resource challenge × (answer ≡ answer_text digest) × HasDigest users user backend challenge digest
+    (challenge : List ℕ) × (digest : List ℕ) × IsChallenge resource challenge × (answer ≡ answer_text digest)
+    × HasDigest users user backend challenge digest
 
 -- the text sends the digest of the resource's challenge and the password
 abbrev pub IsAnswer : List ℕ → List ℕ → List ℕ → Type 0
-IsAnswer text resource password = (challenge : List ℕ) × IsChallenge resource challenge × (text ≡ answer_text (md5 (challenge ++ password)))
+IsAnswer text resource password = (challenge : List ℕ) × IsChallenge resource challenge
+    × (text ≡ answer_text (md5 (challenge ++ password)))

@@ -15,4 +15,5 @@ challenge_of resource = option_map (take 128) (after_mark resource)
 
 -- the answer to a resource with a password
 unfoldable pub answer_of : List ℕ → List ℕ → Option (List ℕ)
-answer_of resource password = option_map (λ challenge. answer_text (md5 (challenge ++ password))) (challenge_of resource)
+answer_of resource password =
+    option_map (λ challenge. answer_text (md5 (challenge ++ password))) (challenge_of resource)

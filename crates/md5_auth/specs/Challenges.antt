@@ -11,7 +11,8 @@ word_digits word = encode_lower (to_be_bytes w32 word)
 -- the digits of that many words from that place on, in a stream of 2 ^ 68 words that then begins anew
 unfoldable pub digits_from : List ℕ → ℕ → ℕ → ℕ → List ℕ
 digits_from key stream place zero = []
-digits_from key stream place (suc n) = digits_from key stream place n ++ word_digits (word_at 10 key stream ((place + n) % 2 ^ 68))
+digits_from key stream place (suc n) =
+    digits_from key stream place n ++ word_digits (word_at 10 key stream ((place + n) % 2 ^ 68))
 
 -- the seed's challenge of that number, counted from 0: words 4 k to 4 k + 3
 abbrev pub challenge_at : List ℕ → ℕ → List ℕ

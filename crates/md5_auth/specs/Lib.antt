@@ -3,3 +3,4 @@ pub mod UserLines
 pub mod Allowed
 pub mod ChallengeReading
 pub mod Challenges
+pub mod Laws

@@ -3,7 +3,8 @@ use Rattle.std.specs.Prelude.{ℕ, List, codes}
 use Rattle.text_lines.specs.declared.limits.LimitFault.{LimitFault}
 use Rattle.text_lines.specs.declared.limits.LimitFault.TheVariants.{TooMany as TooManyLines, TooLong as LineTooLong}
 use Rattle.md5_auth.specs.declared.line_fault.LineReason.{LineReason}
-use Rattle.md5_auth.specs.declared.line_fault.LineReason.TheVariants.{TooMany, TooLong, BadByte, Colons, EmptyField, NoMem}
+use Rattle.md5_auth.specs.declared.line_fault.LineReason.TheVariants.{TooMany, TooLong, BadByte, Colons, EmptyField}
+use Rattle.md5_auth.specs.declared.line_fault.LineReason.TheVariants.{NoMem}
 
 abbrev pub reason_text : LineReason → List ℕ
 reason_text TooMany = codes "too many lines"

@@ -2,6 +2,7 @@ ghost use Rattle.std.specs.Prelude.{◌≡◌, ◌↔◌, ℕ, List};
 ghost use Rattle.md5_auth.specs.declared.users.Entry.{Entry as AnEntry};
 ghost use Rattle.md5_auth.specs.Allowed.{IsChallenge, IsAnswer, NamesBackend, LineAllows, UserIsAllowed, SentAllows};
 ghost use Rattle.md5_auth.specs.ChallengeReading.{challenge_of};
+ghost use Rattle.md5_auth.specs.Laws.{AnswerAllowsByLine, AnswerAllowsTheUser};
 
 pub fn one_challenge()
     /// A resource has one challenge, or none.
@@ -12,11 +13,6 @@ pub fn one_challenge()
 pub fn an_answer_allows()
     /// An answer made with a password passes exactly where the password is allowed, where some line names the
     /// backend.
-    ensures line { (users : List AnEntry) (user password backend resource answer : List ℕ)
-        → IsAnswer answer resource password → SentAllows users user backend resource answer
-        ↔ LineAllows users user password backend resource }
-    ensures allowed { (users : List AnEntry) (user password backend resource answer : List ℕ)
-        → IsAnswer answer resource password
-        → NamesBackend users backend → SentAllows users user backend resource answer
-        ↔ UserIsAllowed users user password backend resource }
+    ensures line { AnswerAllowsByLine }
+    ensures allowed { AnswerAllowsTheUser }
 {}

@@ -1,6 +1,6 @@
 -- The end of a frame.
 use Rattle.std.proofs.Common.{◌≡◌, ◌∙◌, ℕ, Option, Some, None, Bool, true, false, List, [], ◌∷◌, ◌++◌, length, refl, sym, ap, subst, inl, inr}
-use Rattle.std.specs.Prelude.{Result, Ok, Err, if◌then◌else◌, nat_lt}
+use Rattle.std.specs.Prelude.{Ok, Err, if◌then◌else◌}
 use Rattle.std.proofs.lemmas.List.{append-nil}
 use Rattle.wire_format.specs.Writer.{behind}
 use Rattle.sane_fixed.specs.declared.status.Status.{Status}
@@ -11,7 +11,7 @@ use Rattle.frame_join.proofs.EndSteps.{whole_not}
 use Rattle.page_picture.specs.Shows.{Frame, ShowsFrames}
 use Rattle.frame_join.specs.declared.join_stage.JoinFault.{JoinFault}
 use Rattle.frame_join.specs.declared.join_stage.JoinFault.TheVariants as faults
-use Rattle.frame_join.specs.FrameHistory.{JoinHistory, empty_history, after_end_at, with_fault, is_full, is_joined, after_end, after_pull, IsJoined, answer_by, answer_of_end}
+use Rattle.frame_join.specs.FrameHistory.{JoinHistory, empty_history, after_end_at, with_fault, is_full, is_joined, after_end, after_pull, IsJoined, answer_by}
 use Rattle.frame_join.specs.JoinStates.{JoinState, Represents}
 use Rattle.data_records.specs.declared.records.RecordPhase.{RecordPhase}
 use Rattle.data_records.specs.declared.records.RecordPhase.TheVariants as phases
@@ -25,15 +25,16 @@ use Rattle.client_replies.specs.declared.progress.Progress.{Progress}
 use Rattle.client_replies.specs.declared.progress.Progress.TheVariants as stages
 use Rattle.client_replies.specs.declared.progress.Notes.{Notes}
 use Rattle.client_replies.specs.declared.progress.Next.{Next}
-use Rattle.client_replies.specs.declared.progress.Next.TheVariants.{Wait, Finish, Stop}
+use Rattle.client_replies.specs.declared.progress.Next.TheVariants.{Wait, Stop}
 use Rattle.client_replies.specs.Asking.{request_for}
-use Rattle.client_replies.specs.ReplyTurns.{turn, stop_unjoined, page_whole, frame_joined, frame_ended_by, frame_ended, status_of, FrameEnd}
+use Rattle.client_replies.specs.ReplyTurns.{turn, stop_unjoined, frame_ended_by, frame_ended, status_of, FrameEnd}
 use Rattle.net_client.specs.Sending.{optional_request_text}
 use Rattle.net_client.specs.ClientStates.{TurnsPage, TakesPage, Stays, Turns, ClientState, ClientRepresents, after_client_end}
 use Rattle.client_replies.specs.ProtocolStates.{is_batch, is_ended, is_turning, turns, is_running, scans, IsWithinFrame, FitsAt, HistoryFits, FitsDone, NextFits, next_outcome, is_receiving, with_payload}
 use Rattle.net_client.specs.Inside.{GoesOnBy, IsBehindFrame, RepresentsWithin}
 use Rattle.net_client.specs.FramePieces.{TakesEndRecord, ReadsTo, ReadsEnd, ReadsFault, Receives}
-use Rattle.client_replies.proofs.Fitting.{within_is_unjoined, faulty_is_unjoined, ended_unjoined, fault_ends}
+use Rattle.client_replies.proofs.Fitting.{within_is_unjoined, faulty_is_unjoined, ended_unjoined}
+use Rattle.client_replies.proofs.TurnRows.{more_pages, EndRow, EndStops, EndMisfits, NextFrame, NextPage, LastPage, end_row}
 use Rattle.net_client.proofs.Hearings.{between, settles_well, differs, running_is}
 
 -- ---- what the join says at the end of a frame
@@ -79,28 +80,26 @@ not_joined (Some x) under after_client_end u e = absurd (let clash : Err x ≡ O
 not_joined None (Some f) after_client_end u e = absurd (let clash : Some f ≡ None = u in cc)
 not_joined None None after_client_end u e = let same : Ok (is_joined after_client_end) ≡ Ok false = e in cc
 
-whole_by : (count file : ℕ) (more : Bool) (past : JoinHistory) → IsJoined past → (IsWhole past.given → ⊥) → NextFits (tasks.Batch count) past (if more then Wait stages.Turning else Finish [])
-whole_by count file true past j short = (refl, (j, short))
-whole_by count file false past j short = inl j
+batched : (task : Task) (file : ℕ) → more_pages task file ≡ true → is_batch task ≡ true
+batched (tasks.Batch count) file e = refl
+batched task file e = absurd (let clash : false ≡ true = e in cc)
 
-whole_fits : (task : Task) (file : ℕ) (past : JoinHistory) → scans task ≡ true → IsJoined past → (IsWhole past.given → ⊥) → NextFits task past (page_whole task file)
-whole_fits tasks.List file past s j short = absurd (let clash : false ≡ true = s in cc)
-whole_fits tasks.Show file past s j short = absurd (let clash : false ≡ true = s in cc)
-whole_fits tasks.SetOnly file past s j short = absurd (let clash : false ≡ true = s in cc)
-whole_fits tasks.Scan file past s j short = j
-whole_fits (tasks.Batch count) file past s j short = whole_by count file (nat_lt file count) past j short
+done_whole : (task : Task) (past : JoinHistory) → scans task ≡ true → IsJoined past → FitsDone task past
+done_whole tasks.Scan past s j = j
+done_whole (tasks.Batch count) past s j = inl j
+done_whole task past s j = absurd (let clash : false ≡ true = s in cc)
 
-joined_fits : (task : Task) (file : ℕ) (past : JoinHistory) (r : Result Bool JoinFault) → scans task ≡ true → answer_of_end past ≡ r → (past.fault ≡ None → past.under ≡ None) → (IsWhole past.given → ⊥) → NextFits task past (frame_joined task file r)
-joined_fits task file past (Ok true) s e none short = whole_fits task file past s e short
-joined_fits task file past (Ok false) s e none short =
-    let calm = answer_calm past.fault past.under past.ended false e in (s, (calm, none calm, not_joined past.fault past.under past.ended (none calm) e))
-joined_fits task file past (Err x) s e none short = fault_ends task past x (answer_fault past.fault past.under past.ended x e)
-
-ended_fits_by : (task : Task) (file : ℕ) (past : JoinHistory) (status : Option Status) → scans task ≡ true → IsWithinFrame past → (IsWhole past.given → ⊥) → NextFits task (frame_ended_by task file past status).history (frame_ended_by task file past status).next
-ended_fits_by task file past None s w short = ended_unjoined task past (within_is_unjoined past w)
-ended_fits_by task file past (Some statuses.Eof) s w short =
-    joined_fits task file (after_end past) (answer_of_end (after_end past)) s refl (end_none past w.0) (λ whole. short (subst IsWhole (end_gives past) whole))
-ended_fits_by task file past (Some status) s w short = ended_unjoined task past (within_is_unjoined past w)
+row_fits : (task : Task) (file : ℕ) (past : JoinHistory) (ending : FrameEnd) → EndRow task file past ending → scans task ≡ true → IsWithinFrame past → (IsWhole past.given → ⊥) → NextFits task ending.history ending.next
+row_fits task file past ending (EndStops status why f) s w short = ended_unjoined task past (within_is_unjoined past w)
+row_fits task file past ending (EndMisfits x status why f e) s w short =
+    let closed = after_end past in ended_unjoined task closed (faulty_is_unjoined closed x (answer_fault closed.fault closed.under closed.ended x e))
+row_fits task file past ending (NextFrame e) s w short =
+    let closed = after_end past in
+    let calm = answer_calm closed.fault closed.under closed.ended false e in
+    let none = end_none past w.0 calm in
+    (s, (calm, none, not_joined closed.fault closed.under closed.ended none e))
+row_fits task file past ending (NextPage joined more) s w short = (batched task file more, (joined, λ whole. short (subst IsWhole (end_gives past) whole)))
+row_fits task file past ending (LastPage joined last) s w short = done_whole task (after_end past) s joined
 
 pub ended_gives_by : (task : Task) (file : ℕ) (past : JoinHistory) (status : Option Status) → (frame_ended_by task file past status).history.given ≡ past.given
 ended_gives_by task file past None = refl
@@ -114,41 +113,19 @@ pub ends_frame : (old new : ClientState) (join : JoinState) (past : JoinHistory)
     → GoesOnBy (record old { join = join }) next new → TakesEndRecord old past status new
 ends_frame old new join past status next was s w next_is stands settles =
     let e : FrameEnd = frame_ended old.target.task old.notes.file past status in
-    let fits = ended_fits_by old.target.task old.notes.file past (status_of status) s w (whole_not past old.join was (within_is_unjoined past w)) in
+    let fits = row_fits old.target.task old.notes.file past e (end_row old.target.task old.notes.file past (status_of status)) s w (whole_not past old.join was (within_is_unjoined past w)) in
     let same : GoesOnBy (between old old.progress old.notes join) e.next new = subst (λ (x : Next). GoesOnBy (record old { join = join }) x new) next_is settles in
     let well = settles_well old new old.progress (turn old.notes e.next) join e.history fits stands same in
     record { protocol = well.0; serves = well.1; said = same.text; rest = differs old new old.progress (turn old.notes e.next) join same }
 
 -- behind a frame START is sent for the next one, or nothing
-unjoined_waits : (fault : JoinFault) (progress : Progress) → stop_unjoined fault ≡ Wait progress → IsBehindFrame progress
-unjoined_waits faults.Shape progress e = absurd (cc)
-unjoined_waits faults.Long progress e = absurd (cc)
-unjoined_waits faults.Short progress e = absurd (cc)
-unjoined_waits faults.NoMem progress e = absurd (cc)
-
-turns_behind : (more : Bool) (progress : Progress) → (if more then Wait stages.Turning else Finish []) ≡ Wait progress → IsBehindFrame progress
-turns_behind true progress e = let same : stages.Turning ≡ progress = cc in subst IsBehindFrame same tt
-turns_behind false progress e = absurd (cc)
-
-whole_waits : (task : Task) (file : ℕ) (progress : Progress) → page_whole task file ≡ Wait progress → IsBehindFrame progress
-whole_waits (tasks.Batch count) file progress e = turns_behind (nat_lt file count) progress e
-whole_waits tasks.List file progress e = absurd (cc)
-whole_waits tasks.Show file progress e = absurd (cc)
-whole_waits tasks.SetOnly file progress e = absurd (cc)
-whole_waits tasks.Scan file progress e = absurd (cc)
-
-joined_waits : (task : Task) (file : ℕ) (r : Result Bool JoinFault) (progress : Progress) → frame_joined task file r ≡ Wait progress → IsBehindFrame progress
-joined_waits task file (Ok true) progress e = whole_waits task file progress e
-joined_waits task file (Ok false) progress e = let same : stages.Starting false ≡ progress = cc in subst IsBehindFrame same tt
-joined_waits task file (Err x) progress e = unjoined_waits x progress e
-
-frame_waits : (task : Task) (file : ℕ) (past : JoinHistory) (status : Option Status) (progress : Progress) → (frame_ended_by task file past status).next ≡ Wait progress → IsBehindFrame progress
-frame_waits task file past (Some statuses.Eof) progress e = joined_waits task file (answer_of_end (after_end past)) progress e
-frame_waits task file past None progress e = absurd (cc)
-frame_waits task file past (Some status) progress e = absurd (cc)
+row_waits : (task : Task) (file : ℕ) (past : JoinHistory) (ending : FrameEnd) (progress : Progress) → EndRow task file past ending → ending.next ≡ Wait progress → IsBehindFrame progress
+row_waits task file past ending progress (NextFrame calm) e = let same : stages.Starting false ≡ progress = cc in subst IsBehindFrame same tt
+row_waits task file past ending progress (NextPage joined more) e = let same : stages.Turning ≡ progress = cc in subst IsBehindFrame same tt
+row_waits task file past ending progress _ e = absurd (cc)
 
 pub behind_frame : (task : Task) (file : ℕ) (past : JoinHistory) (status : ℕ) (progress : Progress) → Wait progress ≡ (frame_ended task file past status).next → IsBehindFrame progress
-behind_frame task file past status progress e = frame_waits task file past (status_of status) progress (sym e)
+behind_frame task file past status progress e = row_waits task file past (frame_ended task file past status) progress (end_row task file past (status_of status)) (sym e)
 
 pub waits_so : (old new : ClientState) (progress : Progress) → is_running old.outcome ≡ true → new ≡ record old { progress = progress; out = new.out } → behind old.out (optional_request_text (request_for old.target old.notes.word progress)) ≡ Some new.out
     → GoesOnBy old (Wait progress) new

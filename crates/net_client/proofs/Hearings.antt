@@ -27,7 +27,7 @@ use Rattle.net_client.specs.ClientStates.{ClientState, protocol_of, ClientRepres
 use Rattle.client_replies.specs.ProtocolStates.{ProtocolState, is_running, suits, FitsAt, HistoryFits, FitsEnded, NextFits, protocol_after_turn, next_outcome, next_progress, heard_at, after_reply, Answer, IsWait, after_params_reply, shaped_by}
 use Rattle.net_client.specs.Inside.{GoesOnBy, after_out_of_memory, HearsReply, RepresentsOrOutOfMemory}
 use Rattle.net_client.specs.ReplyPieces.{IsReply, HearsReplies, EndsOutOfMemoryHere}
-use Rattle.client_replies.proofs.Fitting.{heard_fits, shaped_fits, may_end, ended_unjoined, faulty_is_unjoined}
+use Rattle.client_replies.proofs.Fitting.{answer_fits, may_end, ended_unjoined, faulty_is_unjoined}
 
 pub running_is : (o : Outcome) → is_running o ≡ true → o ≡ Running
 running_is Running e = refl
@@ -45,11 +45,6 @@ pub calm_at : (progress : Progress) (past : JoinHistory) → FitsAt progress pas
 calm_at (stages.Imaging port opened) past w = w.0
 calm_at stages.Turning past j = joined_is_calm past.fault past.under past.ended j.0
 calm_at progress past b = b.0
-
-answer_fits : (progress : Progress) (target : JobTarget) (notes : Notes) (past : JoinHistory) (r : Reply) → suits target.task progress ≡ true → FitsAt progress past
-    → NextFits target.task (heard_at progress target notes past r).history (heard_at progress target notes past r).turn.next
-answer_fits (stages.Shaping port order) target notes past r s b = shaped_fits target.task port order past r s b
-answer_fits progress target notes past r s b = heard_fits progress target notes past r s b
 
 pub next_fits : (task : Task) (notes : Notes) (next : Next) (past : JoinHistory) → NextFits task past next → HistoryFits task (next_outcome task notes next) (next_progress next) past
 next_fits task notes (Wait progress) past n = n

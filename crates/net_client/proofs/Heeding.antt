@@ -18,7 +18,6 @@ use Rattle.wire_message.specs.Message.{message_limit, reply, devices, descriptor
 use Rattle.scan_job.specs.declared.outcome.Outcome.TheVariants.{Ended}
 use Rattle.scan_job.specs.declared.outcome.Why.TheVariants as whys
 use Rattle.client_replies.specs.declared.progress.JobTarget.{JobTarget}
-use Rattle.client_replies.specs.declared.progress.Progress.{Progress}
 use Rattle.client_replies.specs.declared.progress.Progress.TheVariants as stages
 use Rattle.net_client.specs.ClientStates.{ClientState, protocol_of, ClientRepresents, sent_by, after_client_end}
 use Rattle.client_replies.specs.ProtocolStates.{ProtocolState, is_running, answer_to, after_reply}
@@ -34,10 +33,6 @@ word_some K text x w = subst (λ (l : List ℕ). 0 < length l) (sym w.text_is) (
 
 in_front : {A B : Type 0} (F : List ℕ → A → Type 0) (G : A → List ℕ → B → Type 0) (text : List ℕ) (b : B) → ((t : List ℕ) (a : A) → F t a → 0 < length t) → Parts F G text b → 0 < length text
 in_front F G text b some p = omega (arith, ap length p.whole, length-append p.front p.back, some p.front p.first p.in_front)
-
-devices_some : (text : List ℕ) (r : _) → devices.spells text r → 0 < length text
-unfolding devices
-devices_some text r s = in_front _ _ text r (λ t a w. word_some _ t a w) s
 
 descriptors_some : (text : List ℕ) (r : _) → descriptors.spells text r → 0 < length text
 unfolding descriptors
@@ -157,12 +152,6 @@ starves old mid got new past piece h running got_is starved_by =
       starved = record { outcome = s.outcome; progress = s.progress; target = s.target; out = s.out; history_then = s.history_then; given = s.given; serves = s.serves };
       ended = choked.ended;
     })
-
-over_is : (progress : Progress) (o : Option Procedure) → awaited_procedure progress ≡ o → o ≡ None → (q : Procedure) → awaited_procedure progress ≡ Some q → ⊥
-over_is progress o e none q f = let clash : Some q ≡ None = sym f ∙ e ∙ none in cc
-
-pub waits_for_none : (old mid : ClientState) (past : JoinHistory) (piece : List ℕ) → HasHeard old past piece mid → awaited_procedure mid.progress ≡ None → Heeds old past piece mid
-waits_for_none old mid past piece h none = Whole h (λ running q e. absurd (over_is mid.progress None none refl q e))
 
 pub is_over : (old mid : ClientState) (past : JoinHistory) (piece : List ℕ) → HasHeard old past piece mid → is_running mid.outcome ≡ false → Heeds old past piece mid
 is_over old mid past piece h over = Whole h (λ running q e. absurd (let clash : true ≡ false = sym running ∙ over in cc))

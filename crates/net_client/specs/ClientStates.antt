@@ -25,9 +25,9 @@ use Rattle.client_replies.specs.Asking.{request_for, goodbye}
 use Rattle.client_replies.specs.ProtocolStates.{ProtocolState, HistoryFits, answer_to, target_of, next_file}
 use Rattle.net_client.specs.Sending.{requests_text, optional_request_text}
 
--- **client (`ClientState`, `ClientRepresents`)**: the job, its outcome, what it waits for and knows, the bytes to go out,
--- what came of the next reply, where it stands in a frame's records, and the join; it represents a history where the join
--- does and it fits.
+-- **client (`ClientState`, `ClientRepresents`)**: the job, its outcome, what it waits for and knows, the bytes to go
+-- out, what came of the next reply, where it stands in a frame's records, and the join; it represents a history where
+-- the join does and it fits.
 pub record ClientState : Type 0 where
   pub target : JobTarget
   pub outcome : Outcome
@@ -51,7 +51,8 @@ sends target word (Finish devices) = requests_text (goodbye target.task word)
 sends target word (Stop status why) = Some []
 
 abbrev pub sent_by : JobTarget → ProtocolState → Reply → Option (List ℕ)
-sent_by target protocol reply = sends target (answer_to target protocol reply).turn.notes.word (answer_to target protocol reply).turn.next
+sent_by target protocol reply =
+    sends target (answer_to target protocol reply).turn.notes.word (answer_to target protocol reply).turn.next
 
 -- ---- which histories a client stands for
 
@@ -91,12 +92,22 @@ pub record IsNewClient (job : Job) (c : ClientState) : Type 0 where
 
 -- the next page of a batch: a new join, and its START
 pub record TurnsPage (old new : ClientState) : Type 0 where
-  pub rest : new ≡ record old { progress = stages.Starting true; notes = record old.notes { file = next_file old.notes.file }; out = new.out; join = new.join }
-  pub text : behind old.out (optional_request_text (request_for old.target old.notes.word (stages.Starting true))) ≡ Some new.out
+  pub rest : new
+      ≡ record old {
+        progress = stages.Starting true;
+        notes = record old.notes { file = next_file old.notes.file };
+        out =
+            new.out;
+        join = new.join;
+      }
+  pub text : behind old.out (optional_request_text (request_for old.target old.notes.word (stages.Starting true)))
+      ≡ Some new.out
   pub stands : Represents empty_history new.join
 
--- **a page's file taken (`TakesPage`)**: bytes that are not the file's last; or the last one, with which the file denotes
--- the picture of the page's frames, START is asked for, and a new join stands.
+-- **a page's file taken (`TakesPage`)**: bytes that are not the file's last; or the last one, with which the file
+-- denotes the picture of the page's frames, START is asked for, and a new join stands.
 pub data TakesPage (old : ClientState) (past : JoinHistory) (bytes : List ℕ) (new : ClientState) : Type 0 where
-  Stays : (IsWhole (past.given ++ bytes) → ⊥) → new ≡ record old { join = new.join } → ClientRepresents (after_pull bytes past) new → TakesPage old past bytes new
-  Turns : IsWhole (past.given ++ bytes) → ((p : Picture) → ShowsFrames past.ended p → Denotes (past.given ++ bytes) p) → TurnsPage old new → ClientRepresents empty_history new → TakesPage old past bytes new
+  Stays : (IsWhole (past.given ++ bytes) → ⊥) → new ≡ record old { join = new.join }
+      → ClientRepresents (after_pull bytes past) new → TakesPage old past bytes new
+  Turns : IsWhole (past.given ++ bytes) → ((p : Picture) → ShowsFrames past.ended p → Denotes (past.given ++ bytes) p)
+      → TurnsPage old new → ClientRepresents empty_history new → TakesPage old past bytes new

@@ -14,20 +14,23 @@ use Rattle.net_client.specs.ClientStates.{ClientState, protocol_of, sends, Clien
 use Rattle.client_replies.specs.ProtocolStates.{with_payload, next_outcome, protocol_after_turn}
 
 -- a reader used the bytes, and the join took what they gave
-pub record ReadsTo (old : RecordPhase) (past : JoinHistory) (frame : Frame) (used : List ℕ) (new : RecordPhase) (join : JoinState) : Type 0 where
+pub record ReadsTo (old : RecordPhase) (past : JoinHistory) (frame : Frame) (used : List ℕ) (new : RecordPhase)
+    (join : JoinState) : Type 0 where
   pub given : List ℕ
   pub carries : CarriesRecords old new used given
   pub stands : Represents (with_payload past frame given) join
 
 -- the end record came
-pub record ReadsEnd (old : RecordPhase) (past : JoinHistory) (frame : Frame) (piece : List ℕ) (status : ℕ) (join : JoinState) : Type 0 where
+pub record ReadsEnd (old : RecordPhase) (past : JoinHistory) (frame : Frame) (piece : List ℕ) (status : ℕ)
+    (join : JoinState) : Type 0 where
   pub used : List ℕ
   pub rest : List ℕ
   pub whole : piece ≡ used ++ rest
   pub reads : ReadsTo old past frame used (phases.Ended status) join
 
 -- the last of the bytes that came made a fault
-pub record ReadsFault (old : RecordPhase) (past : JoinHistory) (frame : Frame) (piece : List ℕ) (fault : JoinFault) (new : RecordPhase) (join : JoinState) : Type 0 where
+pub record ReadsFault (old : RecordPhase) (past : JoinHistory) (frame : Frame) (piece : List ℕ) (fault : JoinFault)
+    (new : RecordPhase) (join : JoinState) : Type 0 where
   pub used : List ℕ
   pub rest : List ℕ
   pub before : List ℕ
@@ -45,10 +48,13 @@ frame_end_of v past status = frame_ended v.target.task v.notes.file past status
 
 -- the end record: how the job goes on, and what is sent then
 pub record TakesEndRecord (old : ClientState) (past : JoinHistory) (status : ℕ) (new : ClientState) : Type 0 where
-  pub protocol : protocol_of new (frame_end_of old past status).history ≡ protocol_after_turn old.target.task (turn old.notes (frame_end_of old past status).next) (frame_end_of old past status).history
+  pub protocol : protocol_of new (frame_end_of old past status).history
+      ≡ protocol_after_turn old.target.task (turn old.notes (frame_end_of old past status).next)
+      (frame_end_of old past status).history
   pub serves : ClientRepresents (frame_end_of old past status).history new
   pub said : behind old.out (sends old.target old.notes.word (frame_end_of old past status).next) ≡ Some new.out
-  pub rest : new ≡ record old { outcome = new.outcome; progress = new.progress; notes = new.notes; out = new.out; join = new.join }
+  pub rest : new
+      ≡ record old { outcome = new.outcome; progress = new.progress; notes = new.notes; out = new.out; join = new.join }
 
 -- bytes of the frame came
 pub record TakesBytes (old : ClientState) (past : JoinHistory) (piece : List ℕ) (new : ClientState) : Type 0 where
@@ -66,7 +72,8 @@ pub record TakesFrameEnd (old : ClientState) (past : JoinHistory) (piece : List 
   pub status : ℕ
   pub join : JoinState
   pub reads : ReadsEnd old.phase past frame piece status join
-  pub ends : TakesEndRecord (record old { phase = phases.Head; join = join }) (with_payload past frame reads.reads.given) status new
+  pub ends : TakesEndRecord (record old { phase = phases.Head; join = join })
+      (with_payload past frame reads.reads.given) status new
 
 -- the bytes are too many, or there is no memory for them
 pub record FailsAtBytes (old : ClientState) (past : JoinHistory) (piece : List ℕ) (new : ClientState) : Type 0 where
@@ -75,9 +82,17 @@ pub record FailsAtBytes (old : ClientState) (past : JoinHistory) (piece : List �
   pub fault : JoinFault
   pub reads : ReadsFault old.phase past frame piece fault new.phase new.join
   pub serves : ClientRepresents (after_feed reads.last reads.starved (with_payload past frame reads.before)) new
-  pub rest : new ≡ record old { outcome = next_outcome old.target.task old.notes (stop_unjoined fault); progress = stages.Over; phase = new.phase; join = new.join }
+  pub rest : new
+      ≡ record old {
+        outcome = next_outcome old.target.task old.notes (stop_unjoined fault);
+        progress = stages.Over;
+        phase =
+            new.phase;
+        join = new.join;
+      }
 
--- **receives (`Receives`)**: what a piece of a data connection makes of it: bytes of the frame, the end record, bytes too
--- many, or out of memory.
+-- **receives (`Receives`)**: what a piece of a data connection makes of it: bytes of the frame, the end record, bytes
+-- too many, or out of memory.
 abbrev pub Receives : ClientState → JoinHistory → List ℕ → ClientState → Type 0
-Receives old past piece new = TakesBytes old past piece new ⊎ (TakesFrameEnd old past piece new ⊎ FailsAtBytes old past piece new)
+Receives old past piece new = TakesBytes old past piece new
+    ⊎ (TakesFrameEnd old past piece new ⊎ FailsAtBytes old past piece new)

@@ -35,14 +35,21 @@ word_request code word = to_be_bytes w32 code ++ to_be_bytes w32 word
 
 -- the job goes on so, and sends what it sends then
 pub record GoesOnBy (old : ClientState) (next : Next) (new : ClientState) : Type 0 where
-  pub rest : new ≡ record old { outcome = next_outcome old.target.task old.notes next; progress = next_progress next; notes = next_notes old.notes next; out = new.out }
+  pub rest : new
+      ≡ record old {
+        outcome = next_outcome old.target.task old.notes next;
+        progress = next_progress next;
+        notes =
+            next_notes old.notes next;
+        out = new.out;
+      }
   pub text : behind old.out (sends old.target old.notes.word next) ≡ Some new.out
 
 abbrev pub after_out_of_memory : ClientState → ClientState
 after_out_of_memory v = after_client_end statuses.NoMem whys.Memory v
 
--- **within a frame (`RepresentsWithin`)**: the join stands for what was told to it, no fault does, and this frame is under
--- way.
+-- **within a frame (`RepresentsWithin`)**: the join stands for what was told to it, no fault does, and this frame is
+-- under way.
 pub record RepresentsWithin (past : JoinHistory) (frame : Frame) (join : JoinState) : Type 0 where
   pub stands : Represents past join
   pub clear : past.fault ≡ None
@@ -91,10 +98,12 @@ pub record OutboxState : Type 0 where
 
 -- what a reply makes of a client: how the job goes on, and what is sent then
 pub record HearsReply (old : ClientState) (past : JoinHistory) (r : Reply) (new : ClientState) : Type 0 where
-  pub protocol : protocol_of new (answer_to old.target (protocol_of old past) r).history ≡ after_reply old.target (protocol_of old past) r
+  pub protocol : protocol_of new (answer_to old.target (protocol_of old past) r).history
+      ≡ after_reply old.target (protocol_of old past) r
   pub serves : ClientRepresents (answer_to old.target (protocol_of old past) r).history new
   pub said : behind old.out (sent_by old.target (protocol_of old past) r) ≡ Some new.out
-  pub rest : new ≡ record old { outcome = new.outcome; progress = new.progress; notes = new.notes; out = new.out; join = new.join }
+  pub rest : new
+      ≡ record old { outcome = new.outcome; progress = new.progress; notes = new.notes; out = new.out; join = new.join }
 
 -- the join stands for what was told, or for that and out of memory
 abbrev pub RepresentsOrOutOfMemory : JoinHistory → JoinState → Type 0
@@ -115,7 +124,8 @@ pub record FailsReading (procedure : Procedure) (old new : ClientState) : Type 0
 
 -- reading a reply gave none: more is wanted, or it failed
 abbrev pub StopsReading : Procedure → ClientState → ClientState → Type 0
-StopsReading procedure old new = ((new ≡ old) × NeedsMore message_limit (reply procedure) old.input.rest) ⊎ FailsReading procedure old new
+StopsReading procedure old new = ((new ≡ old) × NeedsMore message_limit (reply procedure) old.input.rest)
+    ⊎ FailsReading procedure old new
 
 -- These bytes were taken, where there was room for so many. Where the picture is whole and nothing more comes, what was
 -- given in all denotes it; before it is whole, what was given in all is not.

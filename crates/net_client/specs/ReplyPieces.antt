@@ -38,12 +38,15 @@ pub record IsReply (progress : Progress) (text : List ℕ) (r : Reply) : Type 0 
   pub awaited_is : awaited_procedure progress ≡ Some procedure
   pub spelled : (limited_format message_limit (reply procedure)).spells text r
 
--- One reply after another, each to what is waited for: the text that spells them, what is sent, and how the job goes on.
+-- One reply after another, each to what is waited for: the text that spells them, what is sent, and how the job goes
+-- on.
 abbrev pub HearsReplies : JobTarget → ProtocolState → List Reply → List ℕ → List ℕ → ProtocolState → Type 0
 HearsReplies target t [] text sent u = (text ≡ []) × (sent ≡ []) × (u ≡ t)
 HearsReplies target t (r ∷ rs) text sent u =
-    (front : List ℕ) × (back : List ℕ) × (said : List ℕ) × (more : List ℕ) × (text ≡ front ++ back) × (sent ≡ said ++ more)
-    × IsReply t.progress front r × (sent_by target t r ≡ Some said) × HearsReplies target (after_reply target t r) rs back more u
+    (front : List ℕ) × (back : List ℕ) × (said : List ℕ) × (more : List ℕ) × (text ≡ front ++ back)
+    × (sent ≡ said ++ more)
+    × IsReply t.progress front r × (sent_by target t r ≡ Some said)
+    × HearsReplies target (after_reply target t r) rs back more u
 
 -- memory ran out: the job has ended so, and what was given of the file stays
 pub record EndsOutOfMemory (old : ClientState) (past : JoinHistory) (new : ClientState) : Type 0 where
@@ -72,9 +75,11 @@ pub record HasHeard (old : ClientState) (past : JoinHistory) (piece : List ℕ) 
   pub out : new.out ≡ old.out ++ sent
   pub target : new.target ≡ old.target
 
--- More is wanted of the reply that is waited for; or no reply is, and the rest waits with it, or is ignored where the job is over.
+-- More is wanted of the reply that is waited for; or no reply is, and the rest waits with it, or is ignored where the
+-- job is over.
 abbrev pub WantsReply : Progress → List ℕ → Type 0
-WantsReply progress rest = (procedure : Procedure) → awaited_procedure progress ≡ Some procedure → NeedsMore message_limit (reply procedure) rest
+WantsReply progress rest = (procedure : Procedure) → awaited_procedure progress ≡ Some procedure
+    → NeedsMore message_limit (reply procedure) rest
 
 -- what comes next is no reply to what is waited for: the job has ended so
 pub record IsGarbled (was : ClientState) (new : ClientState) : Type 0 where
@@ -83,12 +88,16 @@ pub record IsGarbled (was : ClientState) (new : ClientState) : Type 0 where
   pub no_start : IsNoStart message_limit (reply procedure) was.input.rest
   pub ends : new ≡ record (after_client_end statuses.IoError whys.Malformed was) { input = new.input }
 
--- **heeds (`Heeds`, `HearsReplies`)**: what a piece of the control connection makes of a client: replies spelled one behind
--- the other, each heard, with what is sent then; and more is wanted, or what comes is no reply, or memory ran out.
+-- **heeds (`Heeds`, `HearsReplies`)**: what a piece of the control connection makes of a client: replies spelled one
+-- behind the other, each heard, with what is sent then; and more is wanted, or what comes is no reply, or memory ran
+-- out.
 --
 -- how hearing a piece ends: by replies alone, by what is none, or for lack of memory
 pub data Heeds (old : ClientState) (past : JoinHistory) (piece : List ℕ) (new : ClientState) : Type 0 where
-  Whole : HasHeard old past piece new → (is_running new.outcome ≡ true → WantsReply new.progress new.input.rest) → Heeds old past piece new
-  Garbled : (was : ClientState) → HasHeard old past piece was → is_running was.outcome ≡ true → IsGarbled was new → Heeds old past piece new
-  OutOfMemoryBehind : (was : ClientState) → (h : HasHeard old past piece was) → is_running was.outcome ≡ true → EndsOutOfMemoryHere was h.history_then new → Heeds old past piece new
+  Whole : HasHeard old past piece new → (is_running new.outcome ≡ true → WantsReply new.progress new.input.rest)
+      → Heeds old past piece new
+  Garbled : (was : ClientState) → HasHeard old past piece was → is_running was.outcome ≡ true → IsGarbled was new
+      → Heeds old past piece new
+  OutOfMemoryBehind : (was : ClientState) → (h : HasHeard old past piece was) → is_running was.outcome ≡ true
+      → EndsOutOfMemoryHere was h.history_then new → Heeds old past piece new
   OutOfMemoryAtOnce : EndsOutOfMemoryHere old past new → Heeds old past piece new

@@ -1,42 +1,30 @@
 -- The ports that a job asks for are those of its START replies.
-use Rattle.std.proofs.Common.{◌≡◌, ◌∙◌, ◌⊎◌, inl, inr, ℕ, Bool, true, false, Option, Some, None, Result, Ok, Err, List, [], ◌∷◌, ◌++◌, refl, sym, ap, subst, append_assoc}
-use Rattle.std.specs.Prelude.{if◌then◌else◌, nat_lt, position, slice_get}
+use Rattle.std.proofs.Common.{◌≡◌, ◌∙◌, ◌⊎◌, inl, inr, ℕ, true, false, Option, Some, None, List, [], ◌∷◌, ◌++◌, refl, sym, ap, subst, append_assoc}
 use Rattle.sane_fixed.specs.declared.status.Status.{Status}
 use Rattle.sane_fixed.specs.declared.status.Status.TheVariants as statuses
-use Rattle.sane_fixed.specs.declared.kind.Kind.{Kind}
-use Rattle.sane_fixed.specs.declared.info.Info.{Info}
 use Rattle.sane_fixed.specs.declared.byte_order.ByteOrder.{ByteOrder}
 use Rattle.sane_fixed.specs.declared.params.Params.{Params}
-use Rattle.option_desc.specs.declared.descriptor.Descriptor.{Descriptor}
-use Rattle.option_desc.specs.declared.value.Value.{Value}
-use Rattle.option_desc.specs.Reads.{read_value}
-use Rattle.sane_fixed.specs.Cap.{has_cap}
-use Rattle.md5_auth.specs.ChallengeReading.{answer_of}
-use Rattle.frame_join.specs.declared.join_stage.JoinFault.{JoinFault}
-use Rattle.frame_join.specs.declared.join_stage.JoinFault.TheVariants.{Shape, Long, Short, NoMem}
-use Rattle.frame_join.specs.FrameHistory.{JoinHistory, after_begin}
+use Rattle.frame_join.specs.FrameHistory.{JoinHistory}
 use Rattle.wire_format.specs.Limit.{limited_format}
 use Rattle.wire_message.specs.Message.{message_limit, reply}
 use Rattle.wire_message.specs.declared.message.Procedure.{Procedure}
 use Rattle.wire_message.specs.declared.message.Procedure.TheVariants as procedures
 use Rattle.wire_message.specs.declared.message.Reply.{Reply}
 use Rattle.wire_message.specs.declared.message.Reply.TheVariants as replies
-use Rattle.wire_message.specs.declared.message.WireValue.{WireValue}
-use Rattle.scan_job.specs.KnownValues.{with_known_value}
 use Rattle.scan_job.specs.declared.job.Job.{Job}
 use Rattle.scan_job.specs.declared.job.Task.{Task}
 use Rattle.scan_job.specs.declared.job.Task.TheVariants as tasks
 use Rattle.scan_job.specs.declared.outcome.Outcome.{Outcome}
 use Rattle.scan_job.specs.declared.outcome.Outcome.TheVariants.{Running, Done, Ended}
-use Rattle.client_replies.specs.GivenValues.{given_like, wire_value_in}
 use Rattle.client_replies.specs.declared.progress.JobTarget.{JobTarget}
 use Rattle.client_replies.specs.declared.progress.Progress.{Progress}
 use Rattle.client_replies.specs.declared.progress.Progress.TheVariants as stages
 use Rattle.client_replies.specs.declared.progress.Notes.{Notes}
 use Rattle.client_replies.specs.declared.progress.Next.{Next}
 use Rattle.client_replies.specs.declared.progress.Next.TheVariants.{Wait, Finish, Stop}
-use Rattle.client_replies.specs.ReplyTurns.{stop_by_answer, if_good, after_greeting, after_init_reply, after_list_reply, after_challenge, after_admission, opened_with, after_open_reply, after_authorize_reply, element_number, wants_value, gets_at, gets, after_settings, option_number_of, puts, puts_at, puts_named, next_of, next_setting, after_describe_reply, after_put, given_to, of_kind, put_good, put_without_resource, was_put, after_get_value, got_good, got_without_resource, was_got, is_all, started_by, started_with, after_start_reply, stop_unjoined, begun_by, status_of, page_whole, frame_joined, frame_ended_by}
-use Rattle.client_replies.specs.ProtocolStates.{is_running, is_receiving, wanted_port, next_outcome, target_of, next_progress, turns, shaped_by, after_params_reply, heard_at, answer_to, progress_connected}
+use Rattle.client_replies.proofs.TurnRows.{BeforeStart, AtOpening, AtReopening, AtDescribing, AtPutting, AtGetting, TurnRow, Greets, Challenges, Admits, Allows, Reloads, Puts, Gets, Starts, Begins, Images, turn_row, EndRow, NextFrame, NextPage, end_row}
+use Rattle.client_replies.specs.ReplyTurns.{FrameEnd, after_greeting, status_of}
+use Rattle.client_replies.specs.ProtocolStates.{Answer, is_running, is_receiving, wanted_port, next_outcome, target_of, next_progress, turns, answer_to, progress_connected}
 use Rattle.net_client.specs.ReplyPieces.{IsReply}
 use Rattle.net_jobs.specs.JobTraces.{TraceEvent, Replied, Opened, Came, Finished, Gave, Turned, JobTrace, EventsLead, EventLeads, initial_trace, frame_end_at, ports_named, port_named}
 use Rattle.net_jobs.specs.Inside.{ports_opened}
@@ -50,128 +38,7 @@ awaits (stages.Shaping port order) = port ∷ []
 awaits (stages.Imaging port false) = port ∷ []
 awaits progress = []
 
-abbrev pending : Next → List ℕ
-pending (Wait progress) = awaits progress
-pending (Finish devices) = []
-pending (Stop status why) = []
-
-abbrev Quiet : Next → Type 0
-Quiet next = pending next ≡ []
-
--- ---- replies that name no port
-
-if_good_quiet : (status : Status) (next : Next) → Quiet next → Quiet (if_good status next)
-if_good_quiet statuses.Good next r = r
-if_good_quiet status next r = refl
-
-greeting : (task : Task) → Quiet (Wait (after_greeting task))
-greeting tasks.List = refl
-greeting task = refl
-
-greets : (task : Task) (r : Reply) → Quiet (after_init_reply task r)
-greets task (replies.Init status version) = if_good_quiet status (Wait (after_greeting task)) (greeting task)
-greets task r = refl
-
-lists_stop : (r : Reply) → Quiet (after_list_reply r)
-lists_stop (replies.GetDevices status devices) = if_good_quiet status (Finish devices) refl
-lists_stop r = refl
-
-challenges : (resource : List ℕ) (answer : Option (List ℕ)) → Quiet (after_challenge resource answer)
-challenges resource (Some answer) = refl
-challenges resource None = refl
-
-admits : (notes : Notes) (status : Status) (word : ℕ) → Quiet (after_admission notes status word).next
-admits notes statuses.Good word = refl
-admits notes status word = refl
-
-opens_with : (password : List ℕ) (notes : Notes) (status : Status) (word : ℕ) (resource : List ℕ) → Quiet (opened_with password notes status word resource).next
-opens_with password notes status word [] = admits notes status word
-opens_with password notes status word (b ∷ bytes) = challenges (b ∷ bytes) (answer_of (b ∷ bytes) password)
-
-opens : (password : List ℕ) (notes : Notes) (r : Reply) → Quiet (after_open_reply password notes r).next
-opens password notes (replies.Open status word resource) = opens_with password notes status word resource
-opens password notes r = refl
-
-allows : (r : Reply) → Quiet (after_authorize_reply r)
-allows replies.Authorize = refl
-allows r = refl
-
-gets_one : (option : Option (Descriptor × Option Value)) (n : ℕ) → Quiet (gets_at option n)
-gets_one None n = refl
-gets_one (Some option) n = refl
-
-gets_next : (known : List (Descriptor × Option Value)) (place : Option ℕ) → Quiet (gets known place)
-gets_next known None = refl
-gets_next known (Some n) = gets_one (slice_get known n) n
-
-settings_end : (task : Task) (known : List (Descriptor × Option Value)) → Quiet (after_settings task known)
-settings_end tasks.List known = refl
-settings_end tasks.Show known = gets_next known (element_number (position wants_value known))
-settings_end tasks.SetOnly known = refl
-settings_end tasks.Scan known = refl
-settings_end (tasks.Batch count) known = refl
-
-puts_one : (name : List ℕ) (n : ℕ) (kind : Kind) (value : Option Value) → Quiet (puts name n kind value)
-puts_one name n kind None = refl
-puts_one name n kind (Some value) = refl
-
-puts_one_at : (name text : List ℕ) (n : ℕ) (option : Option (Descriptor × Option Value)) → Quiet (puts_at name text n option)
-puts_one_at name text n None = refl
-puts_one_at name text n (Some option) = puts_one name n option.0.kind (read_value option.0 text)
-
-puts_one_named : (name text : List ℕ) (known : List (Descriptor × Option Value)) (place : Option ℕ) → Quiet (puts_named name text known place)
-puts_one_named name text known None = refl
-puts_one_named name text known (Some n) = puts_one_at name text n (slice_get known n)
-
-goes_on_by : (task : Task) (notes : Notes) (left : List (List ℕ × List ℕ)) → Quiet (next_of task notes left).next
-goes_on_by task notes [] = settings_end task notes.known
-goes_on_by task notes (setting ∷ left) = puts_one_named setting.0 setting.1 notes.known (option_number_of setting.0 notes.known)
-
-goes_on : (task : Task) (notes : Notes) → Quiet (next_setting task notes).next
-unfolding next_setting
-goes_on task notes = goes_on_by task notes notes.left
-
-describes : (task : Task) (notes : Notes) (r : Reply) → Quiet (after_describe_reply task notes r).next
-describes task notes (replies.GetOptionDescriptors descriptors) = goes_on task _
-describes task notes r = refl
-
-puts_after : (task : Task) (notes : Notes) (reloads : Bool) → Quiet (after_put task notes reloads).next
-puts_after task notes true = refl
-puts_after task notes false = goes_on task notes
-
-puts_given : (task : Task) (notes : Notes) (kind : Kind) (name : List ℕ) (value : Value) (info : Info) (given : Option Value) → Quiet (given_to task notes kind name value info given).next
-puts_given task notes kind name value info None = refl
-puts_given task notes kind name value info (Some given) = puts_after task _ (has_cap info.0 2)
-
-puts_good : (task : Task) (notes : Notes) (kind : Kind) (name : List ℕ) (value : Value) (status : Status) (info : Info) (given : Kind) (found : WireValue) → Quiet (put_good task notes kind name value status info given found).next
-puts_good task notes kind name value statuses.Good info given found = puts_given task notes kind name value info (of_kind kind given (given_like value found))
-puts_good task notes kind name value status info given found = refl
-
-puts_told : (task : Task) (notes : Notes) (kind : Kind) (name : List ℕ) (value : Value) (status : Status) (info : Info) (given : Kind) (found : WireValue) (resource : List ℕ) → Quiet (put_without_resource task notes kind name value status info given found resource).next
-puts_told task notes kind name value status info given found [] = puts_good task notes kind name value status info given found
-puts_told task notes kind name value status info given found (x ∷ bytes) = refl
-
-puts_reply : (task : Task) (notes : Notes) (kind : Kind) (name : List ℕ) (value : Value) (r : Reply) → Quiet (was_put task notes kind name value r).next
-puts_reply task notes kind name value (replies.ControlOption status info given found resource) = puts_told task notes kind name value status info given found resource
-puts_reply task notes kind name value r = refl
-
-gets_found : (notes : Notes) (n : ℕ) (found : Option Value) → Quiet (after_get_value notes n found).next
-gets_found notes n None = refl
-gets_found notes n (Some value) = gets_next (with_known_value n value notes.known) (element_number (position wants_value (with_known_value n value notes.known)))
-
-gets_good : (notes : Notes) (n : ℕ) (kind : Kind) (status : Status) (given : Kind) (found : WireValue) → Quiet (got_good notes n kind status given found).next
-gets_good notes n kind statuses.Good given found = gets_found notes n (of_kind kind given (wire_value_in kind found))
-gets_good notes n kind status given found = refl
-
-gets_told : (notes : Notes) (n : ℕ) (kind : Kind) (status : Status) (given : Kind) (found : WireValue) (resource : List ℕ) → Quiet (got_without_resource notes n kind status given found resource).next
-gets_told notes n kind status given found [] = gets_good notes n kind status given found
-gets_told notes n kind status given found (x ∷ bytes) = refl
-
-gets_reply : (notes : Notes) (n : ℕ) (kind : Kind) (r : Reply) → Quiet (was_got notes n kind r).next
-gets_reply notes n kind (replies.ControlOption status info given found resource) = gets_told notes n kind status given found resource
-gets_reply notes n kind r = refl
-
--- ---- the replies to START and GET_PARAMETERS
+-- ---- each reply
 
 abbrev IsOneAtMost : List ℕ → Type 0
 IsOneAtMost ports = (ports ≡ []) ⊎ ((port : ℕ) × (ports ≡ port ∷ []))
@@ -182,132 +49,56 @@ Lands ports (Wait progress) = ports ≡ awaits progress
 Lands ports (Finish devices) = IsOneAtMost ports
 Lands ports (Stop status why) = IsOneAtMost ports
 
-lands_quiet : (next : Next) → Quiet next → Lands ([] ++ []) next
-lands_quiet (Wait progress) e = sym e
-lands_quiet (Finish devices) e = inl refl
-lands_quiet (Stop status why) e = inl refl
-
 named_by_start : (status : Status) (port : ℕ) (order : ByteOrder) (resource : List ℕ) → IsOneAtMost (port_named (replies.Start status port order resource) ++ [])
 named_by_start statuses.Good port order [] = inr (port, refl)
 named_by_start statuses.Good port order (b ∷ bytes) = inl refl
 named_by_start status port order resource = inl refl
-
-named_few : (r : Reply) → IsOneAtMost (port_named r ++ [])
-named_few (replies.Start status port order resource) = named_by_start status port order resource
-named_few r = inl refl
-
-greets_lands : (task : Task) (r : Reply) → Lands (port_named r ++ []) (after_init_reply task r)
-greets_lands task (replies.Init status version) = lands_quiet (after_init_reply task (replies.Init status version)) (greets task (replies.Init status version))
-greets_lands task r = named_few r
-
-lists_lands : (r : Reply) → Lands (port_named r ++ []) (after_list_reply r)
-lists_lands (replies.GetDevices status devices) = lands_quiet (after_list_reply (replies.GetDevices status devices)) (lists_stop (replies.GetDevices status devices))
-lists_lands r = named_few r
-
-opens_lands : (password : List ℕ) (notes : Notes) (r : Reply) → Lands (port_named r ++ []) (after_open_reply password notes r).next
-opens_lands password notes (replies.Open status word resource) = lands_quiet (after_open_reply password notes (replies.Open status word resource)).next (opens password notes (replies.Open status word resource))
-opens_lands password notes r = named_few r
-
-allows_lands : (r : Reply) → Lands (port_named r ++ []) (after_authorize_reply r)
-allows_lands replies.Authorize = refl
-allows_lands r = named_few r
-
-describes_lands : (task : Task) (notes : Notes) (r : Reply) → Lands (port_named r ++ []) (after_describe_reply task notes r).next
-describes_lands task notes (replies.GetOptionDescriptors descriptors) = lands_quiet (after_describe_reply task notes (replies.GetOptionDescriptors descriptors)).next (describes task notes (replies.GetOptionDescriptors descriptors))
-describes_lands task notes r = named_few r
-
-puts_lands : (task : Task) (notes : Notes) (kind : Kind) (name : List ℕ) (value : Value) (r : Reply) → Lands (port_named r ++ []) (was_put task notes kind name value r).next
-puts_lands task notes kind name value (replies.ControlOption status info given found resource) =
-    lands_quiet (was_put task notes kind name value (replies.ControlOption status info given found resource)).next (puts_reply task notes kind name value (replies.ControlOption status info given found resource))
-puts_lands task notes kind name value r = named_few r
-
-gets_lands : (notes : Notes) (n : ℕ) (kind : Kind) (r : Reply) → Lands (port_named r ++ []) (was_got notes n kind r).next
-gets_lands notes n kind (replies.ControlOption status info given found resource) = lands_quiet (was_got notes n kind (replies.ControlOption status info given found resource)).next (gets_reply notes n kind (replies.ControlOption status info given found resource))
-gets_lands notes n kind r = named_few r
-
-no_docs : (all : Bool) → Lands [] (if all then Finish [] else stop_by_answer statuses.NoDocs)
-no_docs true = inl refl
-no_docs false = inl refl
-
-starts_by : (all : Bool) (status : Status) (port : ℕ) (order : ByteOrder) → Lands (port_named (replies.Start status port order []) ++ []) (started_by all status port order)
-starts_by all statuses.Good port order = refl
-starts_by all statuses.NoDocs port order = no_docs all
-starts_by all status port order = inl refl
-
-starts_with : (all : Bool) (status : Status) (port : ℕ) (order : ByteOrder) (resource : List ℕ) → Lands (port_named (replies.Start status port order resource) ++ []) (started_with all status port order resource)
-starts_with all status port order [] = starts_by all status port order
-starts_with all status port order (b ∷ bytes) = named_by_start status port order (b ∷ bytes)
-
-starts_lands : (task : Task) (first : Bool) (file : ℕ) (r : Reply) → Lands (port_named r ++ []) (after_start_reply task first file r)
-starts_lands task first file (replies.Start status port order resource) = starts_with (is_all task first file) status port order resource
-starts_lands task first file r = named_few r
 
 -- only a reply to GET_PARAMETERS is heard while it is waited for
 is_params : (text : List ℕ) (r : Reply) → (limited_format message_limit (reply procedures.GetParameters)).spells text r → (status : Status) × (params : Params) × (r ≡ replies.GetParameters status params)
 unfolding limited_format reply
 is_params text r s = (s.1.first, s.1.behind.first, s.1.behind.behind.1)
 
-unjoined_one : (port : ℕ) (fault : JoinFault) → Lands (port ∷ []) (stop_unjoined fault)
-unjoined_one port Shape = inr (port, refl)
-unjoined_one port Long = inr (port, refl)
-unjoined_one port Short = inr (port, refl)
-unjoined_one port NoMem = inr (port, refl)
+-- each names one port at most, with the one that awaits its connection
+named_few : (progress : Progress) (text : List ℕ) (r : Reply) → IsReply progress text r → IsOneAtMost (port_named r ++ awaits progress)
+named_few (stages.Shaping port order) text r is =
+    let same : procedures.GetParameters ≡ is.procedure = (let e : Some procedures.GetParameters ≡ Some is.procedure = is.awaited_is in cc) in
+    let shaped = is_params text r (subst (λ (x : Procedure). (limited_format message_limit (reply x)).spells text r) (sym same) is.spelled) in
+    subst (λ (x : Reply). IsOneAtMost (port_named x ++ port ∷ [])) (sym shaped.2) (inr (port, refl))
+named_few (stages.Imaging port opened) text r is = absurd (let clash : None ≡ Some is.procedure = is.awaited_is in cc)
+named_few progress text (replies.Start status port order resource) is = named_by_start status port order resource
+named_few progress text r is = inl refl
 
-begins_lands : (fault : Option JoinFault) (port : ℕ) → Lands (port ∷ []) (begun_by fault port)
-begins_lands None port = refl
-begins_lands (Some fault) port = unjoined_one port fault
+before_start : {progress : Progress} {r : Reply} → BeforeStart progress r → port_named r ++ awaits progress ≡ []
+before_start AtOpening = refl
+before_start AtReopening = refl
+before_start AtDescribing = refl
+before_start AtPutting = refl
+before_start AtGetting = refl
 
-shapes_by : (status : Status) (port : ℕ) (order : ByteOrder) (params : Params) (past : JoinHistory) → Lands (port ∷ []) (shaped_by status port order params past).next
-shapes_by statuses.Good port order params past = begins_lands (after_begin params order false past).fault port
-shapes_by status port order params past = inr (port, refl)
+greeting : (task : Task) → [] ≡ awaits (after_greeting task)
+greeting tasks.List = refl
+greeting task = refl
 
-shapes_lands : (port : ℕ) (order : ByteOrder) (past : JoinHistory) (text : List ℕ) (r : Reply) (procedure : Procedure) → Some procedures.GetParameters ≡ Some procedure → (limited_format message_limit (reply procedure)).spells text r
-    → Lands (port_named r ++ port ∷ []) (after_params_reply port order past r).next
-shapes_lands port order past text r procedure e s =
-    let same : procedures.GetParameters ≡ procedure = cc in
-    let is = is_params text r (subst (λ (x : Procedure). (limited_format message_limit (reply x)).spells text r) (sym same) s) in
-    subst (λ (x : Reply). Lands (port_named x ++ port ∷ []) (after_params_reply port order past x).next) (sym is.2) (shapes_by is.0 port order is.1 past)
-
-reply_lands : (progress : Progress) (target : JobTarget) (notes : Notes) (past : JoinHistory) (text : List ℕ) (r : Reply) → IsReply progress text r → Lands (port_named r ++ awaits progress) (heard_at progress target notes past r).turn.next
-reply_lands stages.Greeting target notes past text r is = greets_lands target.task r
-reply_lands stages.Listing target notes past text r is = lists_lands r
-reply_lands stages.Opening target notes past text r is = opens_lands target.password notes r
-reply_lands (stages.Allowing resource answer) target notes past text r is = allows_lands r
-reply_lands stages.Reopening target notes past text r is = opens_lands target.password notes r
-reply_lands stages.Describing target notes past text r is = describes_lands target.task notes r
-reply_lands (stages.Putting n kind name value) target notes past text r is = puts_lands target.task notes kind name value r
-reply_lands (stages.Getting n kind size) target notes past text r is = gets_lands notes n kind r
-reply_lands (stages.Starting first) target notes past text r is = starts_lands target.task first notes.file r
-reply_lands (stages.Shaping port order) target notes past text r is = shapes_lands port order past text r is.procedure is.awaited_is is.spelled
-reply_lands (stages.Imaging port opened) target notes past text r is = absurd (let clash : None ≡ Some is.procedure = is.awaited_is in cc)
-reply_lands stages.Turning target notes past text r is = absurd (let clash : None ≡ Some is.procedure = is.awaited_is in cc)
-reply_lands stages.Over target notes past text r is = absurd (let clash : None ≡ Some is.procedure = is.awaited_is in cc)
+row_lands : (task : Task) (password : List ℕ) (notes : Notes) (past : JoinHistory) (progress : Progress) (text : List ℕ) (r : Reply) (a : Answer) → TurnRow task password notes past progress r a → IsReply progress text r → Lands (port_named r ++ awaits progress) a.turn.next
+row_lands task password notes past progress text r a Greets is = greeting task
+row_lands task password notes past progress text r a (Challenges b bytes answer q e) is = before_start q
+row_lands task password notes past progress text r a (Admits word q) is = before_start q
+row_lands task password notes past progress text r a Allows is = refl
+row_lands task password notes past progress text r a (Reloads now q k) is = before_start q
+row_lands task password notes past progress text r a (Puts now n option name asked value e reads q k) is = before_start q
+row_lands task password notes past progress text r a (Gets now n option e m q k) is = before_start q
+row_lands task password notes past progress text r a (Starts now scanned q k) is = before_start q
+row_lands task password notes past progress text r a Begins is = refl
+row_lands task password notes past progress text r a (Images calm) is = refl
+row_lands task password notes past progress text r a _ is = named_few progress text r is
 
 -- ---- a frame's end
 
-unjoined_quiet : (fault : JoinFault) → Lands [] (stop_unjoined fault)
-unjoined_quiet Shape = inl refl
-unjoined_quiet Long = inl refl
-unjoined_quiet Short = inl refl
-unjoined_quiet NoMem = inl refl
-
-more_lands : (more : Bool) → Lands [] (if more then Wait stages.Turning else Finish [])
-more_lands true = refl
-more_lands false = inl refl
-
-page_lands : (task : Task) (file : ℕ) → Lands [] (page_whole task file)
-page_lands (tasks.Batch count) file = more_lands (nat_lt file count)
-page_lands task file = inl refl
-
-joined_lands : (task : Task) (file : ℕ) (answer : Result Bool JoinFault) → Lands [] (frame_joined task file answer)
-joined_lands task file (Ok true) = page_lands task file
-joined_lands task file (Ok false) = refl
-joined_lands task file (Err fault) = unjoined_quiet fault
-
-frame_lands : (task : Task) (file : ℕ) (past : JoinHistory) (status : Option Status) → Lands [] (frame_ended_by task file past status).next
-frame_lands task file past None = inl refl
-frame_lands task file past (Some statuses.Eof) = joined_lands task file _
-frame_lands task file past (Some status) = inl refl
+end_lands : (task : Task) (file : ℕ) (past : JoinHistory) (ending : FrameEnd) → EndRow task file past ending → Lands [] ending.next
+end_lands task file past ending (NextFrame e) = refl
+end_lands task file past ending (NextPage joined more) = refl
+end_lands task file past ending _ = inl refl
 
 -- ---- event by event
 
@@ -363,7 +154,7 @@ names_on target was now (Replied r) before n l =
     let e : port_named r ++ ports_named before ≡ (port_named r ++ awaits was.protocol.progress) ++ ports_opened before = ap (λ (x : List ℕ). port_named r ++ x) named ∙ sym (append_assoc (port_named r) (awaits was.protocol.progress) (ports_opened before)) in
     subst (λ (x : JobTrace). Names x.protocol.outcome x.protocol.progress (ports_opened before) (port_named r ++ ports_named before)) (sym l.5)
     (names_then target.task (answer_to target was.protocol r).turn.notes (answer_to target was.protocol r).turn.next (port_named r ++ awaits was.protocol.progress) (ports_opened before) (port_named r ++ ports_named before) e
-    (reply_lands was.protocol.progress target was.protocol.notes was.protocol.history l.0 r l.3))
+    (row_lands target.task target.password was.protocol.notes was.protocol.history was.protocol.progress l.0 r _ (turn_row was.protocol.progress target was.protocol.notes was.protocol.history r) l.3))
 names_on target was now (Opened port) before n l =
     let wanted = wanted_awaits was.protocol.progress port l.1 in
     let named = names_running was.protocol.outcome was.protocol.progress (ports_opened before) (ports_named before) l.0 n in
@@ -376,7 +167,7 @@ names_on target was now (Finished status) before n l =
     let named = names_running was.protocol.outcome was.protocol.progress (ports_opened before) (ports_named before) received.0 n in
     subst (λ (x : JobTrace). Names x.protocol.outcome x.protocol.progress (ports_opened before) (ports_named before)) (sym l.7)
     (names_then target.task was.protocol.notes (frame_end_at target was.protocol status).next [] (ports_opened before) (ports_named before) (named ∙ ap (λ (x : List ℕ). x ++ ports_opened before) received.1)
-    (frame_lands target.task was.protocol.notes.file was.protocol.history (status_of status)))
+    (end_lands target.task was.protocol.notes.file was.protocol.history _ (end_row target.task was.protocol.notes.file was.protocol.history (status_of status))))
 names_on target was now (Gave bytes) before n l = subst (λ (x : JobTrace). Names x.protocol.outcome x.protocol.progress (ports_opened before) (ports_named before)) (sym l) n
 names_on target was now (Turned bytes) before n l =
     let turning = is_turning_at was.protocol.outcome was.protocol.progress l.1 in

@@ -1,42 +1,25 @@
 -- The number of the file under way is one more than the pages that were turned.
-use Rattle.std.proofs.Common.{◌≡◌, ◌∙◌, ◌⊎◌, inl, inr, ◌+◌, ◌<◌, ℕ, Bool, true, false, Option, Some, None, Result, Ok, Err, List, [], ◌∷◌, ◌++◌, length, refl, sym, ap, subst, arith, length-append}
-use Rattle.std.specs.Prelude.{◌&&◌, if◌then◌else◌, nat_lt, position, slice_get}
+use Rattle.std.proofs.Common.{◌≡◌, ◌∙◌, ◌⊎◌, inl, inr, ◌+◌, ◌<◌, ℕ, Bool, true, false, List, [], ◌∷◌, ◌++◌, length, refl, sym, ap, subst, arith, length-append}
+use Rattle.std.specs.Prelude.{◌&&◌, if◌then◌else◌, nat_lt}
 use Rattle.std.proofs.lemmas.Bool.{ltb-true, ltb-false}
-use Rattle.sane_fixed.specs.declared.status.Status.{Status}
-use Rattle.sane_fixed.specs.declared.status.Status.TheVariants as statuses
-use Rattle.sane_fixed.specs.declared.kind.Kind.{Kind}
-use Rattle.sane_fixed.specs.declared.info.Info.{Info}
-use Rattle.sane_fixed.specs.declared.byte_order.ByteOrder.{ByteOrder}
-use Rattle.sane_fixed.specs.declared.params.Params.{Params}
-use Rattle.option_desc.specs.declared.descriptor.Descriptor.{Descriptor}
-use Rattle.option_desc.specs.declared.value.Value.{Value}
-use Rattle.option_desc.specs.Reads.{read_value}
-use Rattle.sane_fixed.specs.Cap.{has_cap}
-use Rattle.md5_auth.specs.ChallengeReading.{answer_of}
-use Rattle.frame_join.specs.declared.join_stage.JoinFault.{JoinFault}
-use Rattle.frame_join.specs.declared.join_stage.JoinFault.TheVariants.{Shape, Long, Short, NoMem}
-use Rattle.frame_join.specs.FrameHistory.{JoinHistory, IsJoined, after_begin, after_pull}
+use Rattle.frame_join.specs.FrameHistory.{JoinHistory, IsJoined, after_pull}
 use Rattle.wire_message.specs.declared.message.Reply.{Reply}
-use Rattle.wire_message.specs.declared.message.Reply.TheVariants as replies
-use Rattle.wire_message.specs.declared.message.WireValue.{WireValue}
-use Rattle.scan_job.specs.KnownValues.{with_known_value}
 use Rattle.scan_job.specs.JobSize.{HasCount}
 use Rattle.scan_job.specs.declared.job.Job.{Job}
 use Rattle.scan_job.specs.declared.job.Task.{Task}
 use Rattle.scan_job.specs.declared.job.Task.TheVariants as tasks
 use Rattle.scan_job.specs.declared.report.Reports.{Reports}
-use Rattle.scan_job.specs.declared.outcome.Why.TheVariants as whys
 use Rattle.scan_job.specs.declared.outcome.Outcome.{Outcome}
 use Rattle.scan_job.specs.declared.outcome.Outcome.TheVariants.{Running, Done, Ended}
-use Rattle.client_replies.specs.GivenValues.{given_like, wire_value_in}
 use Rattle.client_replies.specs.declared.progress.JobTarget.{JobTarget}
 use Rattle.client_replies.specs.declared.progress.Progress.{Progress}
 use Rattle.client_replies.specs.declared.progress.Progress.TheVariants as stages
 use Rattle.client_replies.specs.declared.progress.Notes.{Notes}
 use Rattle.client_replies.specs.declared.progress.Next.{Next}
 use Rattle.client_replies.specs.declared.progress.Next.TheVariants.{Wait, Finish, Stop}
-use Rattle.client_replies.specs.ReplyTurns.{Turn, turn, stop_by_answer, if_good, after_greeting, after_init_reply, after_list_reply, after_challenge, after_admission, opened_with, after_open_reply, after_authorize_reply, element_number, wants_value, gets_at, gets, after_settings, option_number_of, puts, puts_at, puts_named, next_of, next_setting, after_describe_reply, after_put, given_to, of_kind, put_good, put_without_resource, was_put, after_get_value, got_good, got_without_resource, was_got, is_all, started_by, started_with, after_start_reply, stop_unjoined, begun_by, status_of, page_whole, frame_joined, frame_ended_by}
-use Rattle.client_replies.specs.ProtocolStates.{is_running, lists, shows, next_outcome, target_of, next_notes, next_progress, shaped_by, after_params_reply, heard_at, answer_to, after_reply, progress_connected, turns, next_file}
+use Rattle.client_replies.proofs.TurnRows.{MayShow, TurnRow, Greets, Lists, Gets, ShowsAll, SetsAll, RunsOut, turn_row, turn_calm, more_pages, EndRow, NextFrame, NextPage, LastPage, end_row}
+use Rattle.client_replies.specs.ReplyTurns.{FrameEnd, after_greeting, is_all, status_of}
+use Rattle.client_replies.specs.ProtocolStates.{Answer, is_turning, scans, is_running, lists, shows, next_outcome, target_of, next_notes, next_progress, answer_to, after_reply, progress_connected, turns, next_file}
 use Rattle.net_jobs.specs.JobTraces.{TraceEvent, Replied, Opened, Came, Finished, Gave, Turned, JobTrace, EventsLead, EventLeads, initial_trace, frame_end_at}
 
 -- ---- a reply leaves the number as it is, and turns to no page
@@ -57,6 +40,10 @@ Leads task file (Wait progress) = Apt task progress
 Leads task file (Finish devices) = HasSome task file
 Leads task file (Stop status why) = Unit {0}
 
+some_unscanned : (task : Task) (file : ℕ) → scans task ≡ false → HasSome task file
+some_unscanned (tasks.Batch count) file e = absurd (let clash : true ≡ false = e in cc)
+some_unscanned task file e = tt
+
 some_listed : (task : Task) (file : ℕ) → lists task ≡ true → HasSome task file
 some_listed (tasks.Batch count) file e = absurd (let clash : false ≡ true = e in cc)
 some_listed task file e = tt
@@ -73,182 +60,22 @@ some_all : (task : Task) (first : Bool) (file : ℕ) → is_all task first file 
 some_all (tasks.Batch count) first file e = ltb-true 1 file (both_set first (nat_lt 1 file) e)
 some_all task first file e = tt
 
-abbrev Plain : Task → ℕ → Turn → Type 0
-Plain task file t = (t.notes.file ≡ file) × (next_progress t.next ≡ stages.Turning → ⊥) × Leads task file t.next
-
-over : stages.Over ≡ stages.Turning → ⊥
-over e = cc
-
-if_good_plain : (task : Task) (notes : Notes) (status : Status) (next : Next) → (next_progress next ≡ stages.Turning → ⊥) → Leads task notes.file next → Plain task notes.file (turn notes (if_good status next))
-if_good_plain task notes statuses.Good next plain leads = (refl, plain, leads)
-if_good_plain task notes status next plain leads = (refl, over, tt)
-
-greeting_plain : (task : Task) → after_greeting task ≡ stages.Turning → ⊥
-greeting_plain tasks.List e = let clash : stages.Listing ≡ stages.Turning = e in cc
-greeting_plain task e = let clash : stages.Opening ≡ stages.Turning = e in cc
-
 greeting_apt : (task : Task) → Apt task (after_greeting task)
 greeting_apt tasks.List = refl
 greeting_apt task = tt
 
-greets : (task : Task) (notes : Notes) (r : Reply) → Plain task notes.file (turn notes (after_init_reply task r))
-greets task notes (replies.Init status version) = if_good_plain task notes status (Wait (after_greeting task)) (greeting_plain task) (greeting_apt task)
-greets task notes r = (refl, over, tt)
+shown_at : (task : Task) (progress : Progress) → Apt task progress → MayShow task progress → shows task ≡ true
+shown_at task (stages.Getting n kind size) s m = s
+shown_at task progress s m = m
 
-lists_plain : (task : Task) (notes : Notes) (r : Reply) → lists task ≡ true → Plain task notes.file (turn notes (after_list_reply r))
-lists_plain task notes (replies.GetDevices status devices) s = if_good_plain task notes status (Finish devices) over (some_listed task notes.file s)
-lists_plain task notes r s = (refl, over, tt)
-
-challenges : (task : Task) (notes : Notes) (resource : List ℕ) (answer : Option (List ℕ)) → Plain task notes.file (turn notes (after_challenge resource answer))
-challenges task notes resource (Some answer) = (refl, λ e. (let clash : stages.Allowing resource answer ≡ stages.Turning = e in cc), tt)
-challenges task notes resource None = (refl, over, tt)
-
-admits : (task : Task) (notes : Notes) (status : Status) (word : ℕ) → Plain task notes.file (after_admission notes status word)
-admits task notes statuses.Good word = (refl, λ e. (let clash : stages.Describing ≡ stages.Turning = e in cc), tt)
-admits task notes status word = (refl, over, tt)
-
-opens_with : (task : Task) (password : List ℕ) (notes : Notes) (status : Status) (word : ℕ) (resource : List ℕ) → Plain task notes.file (opened_with password notes status word resource)
-opens_with task password notes status word [] = admits task notes status word
-opens_with task password notes status word (b ∷ bytes) = challenges task notes (b ∷ bytes) (answer_of (b ∷ bytes) password)
-
-opens : (task : Task) (password : List ℕ) (notes : Notes) (r : Reply) → Plain task notes.file (after_open_reply password notes r)
-opens task password notes (replies.Open status word resource) = opens_with task password notes status word resource
-opens task password notes r = (refl, over, tt)
-
-allows : (task : Task) (notes : Notes) (r : Reply) → Plain task notes.file (turn notes (after_authorize_reply r))
-allows task notes replies.Authorize = (refl, λ e. (let clash : stages.Reopening ≡ stages.Turning = e in cc), tt)
-allows task notes r = (refl, over, tt)
-
-gets_one : (task : Task) (notes : Notes) (option : Option (Descriptor × Option Value)) (n : ℕ) → shows task ≡ true → Plain task notes.file (turn notes (gets_at option n))
-gets_one task notes None n s = (refl, over, some_shown task notes.file s)
-gets_one task notes (Some option) n s = (refl, λ e. (let clash : stages.Getting n option.0.kind option.0.size ≡ stages.Turning = e in cc), s)
-
-gets_next : (task : Task) (notes : Notes) (known : List (Descriptor × Option Value)) (place : Option ℕ) → shows task ≡ true → Plain task notes.file (turn notes (gets known place))
-gets_next task notes known None s = (refl, over, some_shown task notes.file s)
-gets_next task notes known (Some n) s = gets_one task notes (slice_get known n) n s
-
-settings_end : (task : Task) (notes : Notes) → Plain task notes.file (turn notes (after_settings task notes.known))
-settings_end tasks.List notes = (refl, over, tt)
-settings_end tasks.Show notes = gets_next tasks.Show notes notes.known (element_number (position wants_value notes.known)) refl
-settings_end tasks.SetOnly notes = (refl, over, tt)
-settings_end tasks.Scan notes = (refl, λ e. (let clash : stages.Starting true ≡ stages.Turning = e in cc), tt)
-settings_end (tasks.Batch count) notes = (refl, λ e. (let clash : stages.Starting true ≡ stages.Turning = e in cc), tt)
-
-puts_one : (task : Task) (notes : Notes) (name : List ℕ) (n : ℕ) (kind : Kind) (value : Option Value) → Plain task notes.file (turn notes (puts name n kind value))
-puts_one task notes name n kind None = (refl, over, tt)
-puts_one task notes name n kind (Some value) = (refl, λ e. (let clash : stages.Putting n kind name value ≡ stages.Turning = e in cc), tt)
-
-puts_one_at : (task : Task) (notes : Notes) (name text : List ℕ) (n : ℕ) (option : Option (Descriptor × Option Value)) → Plain task notes.file (turn notes (puts_at name text n option))
-puts_one_at task notes name text n None = (refl, over, tt)
-puts_one_at task notes name text n (Some option) = puts_one task notes name n option.0.kind (read_value option.0 text)
-
-puts_one_named : (task : Task) (notes : Notes) (name text : List ℕ) (known : List (Descriptor × Option Value)) (place : Option ℕ) → Plain task notes.file (turn notes (puts_named name text known place))
-puts_one_named task notes name text known None = (refl, over, tt)
-puts_one_named task notes name text known (Some n) = puts_one_at task notes name text n (slice_get known n)
-
-goes_on_by : (task : Task) (notes : Notes) (left : List (List ℕ × List ℕ)) → Plain task notes.file (next_of task notes left)
-goes_on_by task notes [] = settings_end task notes
-goes_on_by task notes (setting ∷ left) = puts_one_named task (record notes { left = left }) setting.0 setting.1 notes.known (option_number_of setting.0 notes.known)
-
-goes_on : (task : Task) (notes : Notes) → Plain task notes.file (next_setting task notes)
-unfolding next_setting
-goes_on task notes = goes_on_by task notes notes.left
-
-describes : (task : Task) (notes : Notes) (r : Reply) → Plain task notes.file (after_describe_reply task notes r)
-describes task notes (replies.GetOptionDescriptors descriptors) = goes_on task _
-describes task notes r = (refl, over, tt)
-
-puts_after : (task : Task) (notes : Notes) (reloads : Bool) → Plain task notes.file (after_put task notes reloads)
-puts_after task notes true = (refl, λ e. (let clash : stages.Describing ≡ stages.Turning = e in cc), tt)
-puts_after task notes false = goes_on task notes
-
-puts_given : (task : Task) (notes : Notes) (kind : Kind) (name : List ℕ) (value : Value) (info : Info) (given : Option Value) → Plain task notes.file (given_to task notes kind name value info given)
-puts_given task notes kind name value info None = (refl, over, tt)
-puts_given task notes kind name value info (Some given) = puts_after task _ (has_cap info.0 2)
-
-puts_good : (task : Task) (notes : Notes) (kind : Kind) (name : List ℕ) (value : Value) (status : Status) (info : Info) (given : Kind) (found : WireValue) → Plain task notes.file (put_good task notes kind name value status info given found)
-puts_good task notes kind name value statuses.Good info given found = puts_given task notes kind name value info (of_kind kind given (given_like value found))
-puts_good task notes kind name value status info given found = (refl, over, tt)
-
-puts_told : (task : Task) (notes : Notes) (kind : Kind) (name : List ℕ) (value : Value) (status : Status) (info : Info) (given : Kind) (found : WireValue) (resource : List ℕ) → Plain task notes.file (put_without_resource task notes kind name value status info given found resource)
-puts_told task notes kind name value status info given found [] = puts_good task notes kind name value status info given found
-puts_told task notes kind name value status info given found (x ∷ bytes) = (refl, over, tt)
-
-puts_reply : (task : Task) (notes : Notes) (kind : Kind) (name : List ℕ) (value : Value) (r : Reply) → Plain task notes.file (was_put task notes kind name value r)
-puts_reply task notes kind name value (replies.ControlOption status info given found resource) = puts_told task notes kind name value status info given found resource
-puts_reply task notes kind name value r = (refl, over, tt)
-
-gets_found : (task : Task) (notes : Notes) (n : ℕ) (found : Option Value) → shows task ≡ true → Plain task notes.file (after_get_value notes n found)
-gets_found task notes n None s = (refl, over, tt)
-gets_found task notes n (Some value) s = gets_next task (record notes { known = with_known_value n value notes.known }) (with_known_value n value notes.known) (element_number (position wants_value (with_known_value n value notes.known))) s
-
-gets_good : (task : Task) (notes : Notes) (n : ℕ) (kind : Kind) (status : Status) (given : Kind) (found : WireValue) → shows task ≡ true → Plain task notes.file (got_good notes n kind status given found)
-gets_good task notes n kind statuses.Good given found s = gets_found task notes n (of_kind kind given (wire_value_in kind found)) s
-gets_good task notes n kind status given found s = (refl, over, tt)
-
-gets_told : (task : Task) (notes : Notes) (n : ℕ) (kind : Kind) (status : Status) (given : Kind) (found : WireValue) (resource : List ℕ) → shows task ≡ true → Plain task notes.file (got_without_resource notes n kind status given found resource)
-gets_told task notes n kind status given found [] s = gets_good task notes n kind status given found s
-gets_told task notes n kind status given found (x ∷ bytes) s = (refl, over, tt)
-
-gets_reply : (task : Task) (notes : Notes) (n : ℕ) (kind : Kind) (r : Reply) → shows task ≡ true → Plain task notes.file (was_got notes n kind r)
-gets_reply task notes n kind (replies.ControlOption status info given found resource) s = gets_told task notes n kind status given found resource s
-gets_reply task notes n kind r s = (refl, over, tt)
-
-no_docs : (task : Task) (all : Bool) (notes : Notes) → (all ≡ true → HasSome task notes.file) → Plain task notes.file (turn notes (if all then Finish [] else stop_by_answer statuses.NoDocs))
-no_docs task true notes some = (refl, over, some refl)
-no_docs task false notes some = (refl, over, tt)
-
-starts_by : (task : Task) (notes : Notes) (all : Bool) (status : Status) (port : ℕ) (order : ByteOrder) → (all ≡ true → HasSome task notes.file) → Plain task notes.file (turn notes (started_by all status port order))
-starts_by task notes all statuses.Good port order some = (refl, λ e. (let clash : stages.Shaping port order ≡ stages.Turning = e in cc), tt)
-starts_by task notes all statuses.NoDocs port order some = no_docs task all notes some
-starts_by task notes all status port order some = (refl, over, tt)
-
-starts_with : (task : Task) (notes : Notes) (all : Bool) (status : Status) (port : ℕ) (order : ByteOrder) (resource : List ℕ) → (all ≡ true → HasSome task notes.file) → Plain task notes.file (turn notes (started_with all status port order resource))
-starts_with task notes all status port order [] some = starts_by task notes all status port order some
-starts_with task notes all status port order (x ∷ bytes) some = (refl, over, tt)
-
-starts : (task : Task) (first : Bool) (notes : Notes) (r : Reply) → Plain task notes.file (turn notes (after_start_reply task first notes.file r))
-starts task first notes (replies.Start status port order resource) = starts_with task notes (is_all task first notes.file) status port order resource (some_all task first notes.file)
-starts task first notes r = (refl, over, tt)
-
-unjoined_plain : (fault : JoinFault) → next_progress (stop_unjoined fault) ≡ stages.Turning → ⊥
-unjoined_plain Shape e = over e
-unjoined_plain Long e = over e
-unjoined_plain Short e = over e
-unjoined_plain NoMem e = over e
-
-unjoined_leads : (task : Task) (file : ℕ) (fault : JoinFault) → Leads task file (stop_unjoined fault)
-unjoined_leads task file Shape = tt
-unjoined_leads task file Long = tt
-unjoined_leads task file Short = tt
-unjoined_leads task file NoMem = tt
-
-begins : (task : Task) (notes : Notes) (fault : Option JoinFault) (port : ℕ) → Plain task notes.file (turn notes (begun_by fault port))
-begins task notes None port = (refl, λ e. (let clash : stages.Imaging port false ≡ stages.Turning = e in cc), tt)
-begins task notes (Some fault) port = (refl, unjoined_plain fault, unjoined_leads task notes.file fault)
-
-shapes_by : (task : Task) (notes : Notes) (status : Status) (port : ℕ) (order : ByteOrder) (params : Params) (past : JoinHistory) → Plain task notes.file (turn notes (shaped_by status port order params past).next)
-shapes_by task notes statuses.Good port order params past = begins task notes (after_begin params order false past).fault port
-shapes_by task notes status port order params past = (refl, over, tt)
-
-shapes : (task : Task) (notes : Notes) (port : ℕ) (order : ByteOrder) (past : JoinHistory) (r : Reply) → Plain task notes.file (turn notes (after_params_reply port order past r).next)
-shapes task notes port order past (replies.GetParameters status params) = shapes_by task notes status port order params past
-shapes task notes port order past r = (refl, over, tt)
-
-reply_plain : (progress : Progress) (target : JobTarget) (notes : Notes) (past : JoinHistory) (r : Reply) → Apt target.task progress → Plain target.task notes.file (heard_at progress target notes past r).turn
-reply_plain stages.Greeting target notes past r s = greets target.task notes r
-reply_plain stages.Listing target notes past r s = lists_plain target.task notes r s
-reply_plain stages.Opening target notes past r s = opens target.task target.password notes r
-reply_plain (stages.Allowing resource answer) target notes past r s = allows target.task notes r
-reply_plain stages.Reopening target notes past r s = opens target.task target.password notes r
-reply_plain stages.Describing target notes past r s = describes target.task notes r
-reply_plain (stages.Putting n kind name value) target notes past r s = puts_reply target.task notes kind name value r
-reply_plain (stages.Getting n kind size) target notes past r s = gets_reply target.task notes n kind r s
-reply_plain (stages.Starting first) target notes past r s = starts target.task first notes r
-reply_plain (stages.Shaping port order) target notes past r s = shapes target.task notes port order past r
-reply_plain (stages.Imaging port after_open_reply) target notes past r s = (refl, over, tt)
-reply_plain stages.Turning target notes past r s = (refl, over, tt)
-reply_plain stages.Over target notes past r s = (refl, over, tt)
+row_leads : (task : Task) (password : List ℕ) (notes : Notes) (past : JoinHistory) (progress : Progress) (r : Reply) (a : Answer) → TurnRow task password notes past progress r a → Apt task progress → Leads task notes.file a.turn.next
+row_leads task password notes past progress r a Greets s = greeting_apt task
+row_leads task password notes past progress r a (Lists devices) s = some_listed task notes.file s
+row_leads task password notes past progress r a (Gets now n option e m q k) s = shown_at task progress s m
+row_leads task password notes past progress r a (ShowsAll now m q k) s = some_shown task notes.file (shown_at task progress s m)
+row_leads task password notes past progress r a (SetsAll now none q k) s = some_unscanned task notes.file none
+row_leads task password notes past progress r a (RunsOut {first = first} e) s = some_all task first notes.file e
+row_leads task password notes past progress r a _ s = tt
 
 next_file_is : (notes : Notes) (next : Next) → (next_notes notes next).file ≡ notes.file
 next_file_is notes (Wait progress) = refl
@@ -285,65 +112,36 @@ counts_begun job h = record { number = refl; turning = λ e. absurd (let clash :
 
 -- ---- a frame's end
 
-more_pages : (task : Task) (count file : ℕ) (more : Bool) → nat_lt file count ≡ more → next_progress (if more then Wait stages.Turning else Finish []) ≡ stages.Turning → file < count
-more_pages task count file true e turning = ltb-true file count e
-more_pages task count file false e turning = absurd (over turning)
+more_come : (task : Task) (file : ℕ) → more_pages task file ≡ true → HasMore task file
+more_come (tasks.Batch count) file e = ltb-true file count e
+more_come task file e = absurd (let clash : false ≡ true = e in cc)
 
-page_more : (task : Task) (file : ℕ) → next_progress (page_whole task file) ≡ stages.Turning → HasMore task file
-page_more (tasks.Batch count) file e = more_pages (tasks.Batch count) count file (nat_lt file count) refl e
-page_more task file e = over e
+-- it turns to a further page only where one is to come, what is waited for then is apt, and a job is done with a whole picture
+abbrev Closes : Task → ℕ → JoinHistory → Next → Type 0
+Closes task file past (Wait progress) = (progress ≡ stages.Turning → HasMore task file) × Apt task progress
+Closes task file past (Finish devices) = IsJoined past
+Closes task file past (Stop status why) = Unit {0}
 
-joined_more : (task : Task) (file : ℕ) (answer : Result Bool JoinFault) → next_progress (frame_joined task file answer) ≡ stages.Turning → HasMore task file
-joined_more task file (Ok true) e = page_more task file e
-joined_more task file (Ok false) e = absurd (let clash : stages.Starting false ≡ stages.Turning = e in cc)
-joined_more task file (Err fault) e = absurd (unjoined_plain fault e)
+end_closes : (task : Task) (file : ℕ) (past : JoinHistory) (ending : FrameEnd) → EndRow task file past ending → Closes task file ending.history ending.next
+end_closes task file past ending (NextFrame e) = (λ turning. absurd (let clash : stages.Starting false ≡ stages.Turning = turning in cc), tt)
+end_closes task file past ending (NextPage joined more) = (λ turning. more_come task file more, tt)
+end_closes task file past ending (LastPage joined last) = joined
+end_closes task file past ending _ = tt
 
-status_more : (task : Task) (file : ℕ) (past : JoinHistory) (status : Option Status) → next_progress (frame_ended_by task file past status).next ≡ stages.Turning → HasMore task file
-status_more task file past None e = absurd (over e)
-status_more task file past (Some statuses.Eof) e = joined_more task file _ e
-status_more task file past (Some status) e = absurd (over e)
+closes_more : (task : Task) (file : ℕ) (past : JoinHistory) (next : Next) → Closes task file past next → next_progress next ≡ stages.Turning → HasMore task file
+closes_more task file past (Wait progress) c e = c.0 e
+closes_more task file past (Finish devices) c e = absurd (let clash : stages.Over ≡ stages.Turning = e in cc)
+closes_more task file past (Stop status why) c e = absurd (let clash : stages.Over ≡ stages.Turning = e in cc)
 
--- and what it leads to
-more_apt : (task : Task) (more : Bool) → Apt task (next_progress (if more then Wait stages.Turning else Finish []))
-more_apt task true = tt
-more_apt task false = tt
+closes_apt : (task : Task) (file : ℕ) (past : JoinHistory) (next : Next) → Closes task file past next → Apt task (next_progress next)
+closes_apt task file past (Wait progress) c = c.1
+closes_apt task file past (Finish devices) c = tt
+closes_apt task file past (Stop status why) c = tt
 
-page_apt : (task : Task) (file : ℕ) → Apt task (next_progress (page_whole task file))
-page_apt (tasks.Batch count) file = more_apt (tasks.Batch count) (nat_lt file count)
-page_apt task file = tt
-
-unjoined_apt : (task : Task) (fault : JoinFault) → Apt task (next_progress (stop_unjoined fault))
-unjoined_apt task Shape = tt
-unjoined_apt task Long = tt
-unjoined_apt task Short = tt
-unjoined_apt task NoMem = tt
-
-joined_apt : (task : Task) (file : ℕ) (answer : Result Bool JoinFault) → Apt task (next_progress (frame_joined task file answer))
-joined_apt task file (Ok true) = page_apt task file
-joined_apt task file (Ok false) = tt
-joined_apt task file (Err fault) = unjoined_apt task fault
-
-ended_apt : (task : Task) (file : ℕ) (past : JoinHistory) (status : Option Status) → Apt task (next_progress (frame_ended_by task file past status).next)
-ended_apt task file past None = tt
-ended_apt task file past (Some statuses.Eof) = joined_apt task file _
-ended_apt task file past (Some status) = tt
-
-unjoined_not_done : (task : Task) (notes : Notes) (fault : JoinFault) (reports : Reports) → next_outcome task notes (stop_unjoined fault) ≡ Done reports → ⊥
-unjoined_not_done task notes Shape reports e = let clash : Ended statuses.IoError whys.Malformed ≡ Done reports = e in cc
-unjoined_not_done task notes Long reports e = let clash : Ended statuses.IoError whys.Long ≡ Done reports = e in cc
-unjoined_not_done task notes Short reports e = let clash : Ended statuses.IoError whys.Short ≡ Done reports = e in cc
-unjoined_not_done task notes NoMem reports e = let clash : Ended statuses.NoMem whys.Memory ≡ Done reports = e in cc
-
-joined_done : (task : Task) (notes : Notes) (file : ℕ) (answer : Result Bool JoinFault) (reports : Reports) → next_outcome task notes (frame_joined task file answer) ≡ Done reports → answer ≡ Ok true
-joined_done task notes file (Ok true) reports e = refl
-joined_done task notes file (Ok false) reports e = absurd (let clash : Running ≡ Done reports = e in cc)
-joined_done task notes file (Err fault) reports e = absurd (unjoined_not_done task notes fault reports e)
-
-ended_joined : (task : Task) (notes : Notes) (file : ℕ) (past : JoinHistory) (status : Option Status) (reports : Reports) → next_outcome task notes (frame_ended_by task file past status).next ≡ Done reports → IsJoined (frame_ended_by task file past status).history
-ended_joined task notes file past None reports e = absurd (let clash : Ended statuses.IoError whys.Malformed ≡ Done reports = e in cc)
-ended_joined task notes file past (Some statuses.Eof) reports e = joined_done task notes file _ reports e
-ended_joined task notes file past (Some statuses.Good) reports e = absurd (let clash : Ended statuses.IoError whys.Malformed ≡ Done reports = e in cc)
-ended_joined task notes file past (Some status) reports e = absurd (let clash : Ended status whys.Answer ≡ Done reports = e in cc)
+closes_joined : (task : Task) (notes : Notes) (file : ℕ) (past : JoinHistory) (next : Next) (reports : Reports) → Closes task file past next → next_outcome task notes next ≡ Done reports → IsJoined past
+closes_joined task notes file past (Wait progress) reports c e = absurd (let clash : Running ≡ Done reports = e in cc)
+closes_joined task notes file past (Finish devices) reports c e = c
+closes_joined task notes file past (Stop status why) reports c e = absurd (let clash : Ended status why ≡ Done reports = e in cc)
 
 -- ---- event by event
 
@@ -359,14 +157,16 @@ leads_some task file notes (Stop status why) reports l e = absurd (let clash : E
 
 counts_replied : (target : JobTarget) (was : JobTrace) (r : Reply) (text sent : List ℕ) → Counts target.task was → Counts target.task (record { text = text; streams = was.streams; pages = was.pages; sent = sent; protocol = after_reply target was.protocol r })
 counts_replied target was r text sent c =
-    let plain = reply_plain was.protocol.progress target was.protocol.notes was.protocol.history r c.apt in
-    let file = next_file_is (answer_to target was.protocol r).turn.notes (answer_to target was.protocol r).turn.next ∙ plain.0 in
+    let made = (answer_to target was.protocol r).turn in
+    let calm = turn_calm was.protocol.progress target was.protocol.notes was.protocol.history r in
+    let leads = row_leads target.task target.password was.protocol.notes was.protocol.history was.protocol.progress r _ (turn_row was.protocol.progress target was.protocol.notes was.protocol.history r) c.apt in
+    let file = next_file_is made.notes made.next ∙ calm.0 in
     record {
       number = file ∙ c.number;
-      turning = λ e. absurd (plain.1 e);
+      turning = λ e. absurd (let clash : true ≡ false = ap is_turning (sym e) ∙ calm.1 in cc);
       few = c.few;
-      apt = leads_apt target.task was.protocol.notes.file (answer_to target was.protocol r).turn.next plain.2;
-      done = λ reports e. inr (subst (λ (i : ℕ). HasSome target.task i) (sym file) (leads_some target.task was.protocol.notes.file (answer_to target was.protocol r).turn.notes (answer_to target was.protocol r).turn.next reports plain.2 e));
+      apt = leads_apt target.task was.protocol.notes.file made.next leads;
+      done = λ reports e. inr (subst (λ (i : ℕ). HasSome target.task i) (sym file) (leads_some target.task was.protocol.notes.file made.notes made.next reports leads e));
     }
 
 stays_turning : (progress : Progress) → progress_connected progress ≡ stages.Turning → progress ≡ stages.Turning
@@ -410,12 +210,16 @@ counts_on target was now (Opened port) h c l =
     subst (λ (x : JobTrace). Counts target.task x) (sym l.2) (record { number = c.number; turning = λ e. c.turning (stays_turning was.protocol.progress e); few = c.few; apt = stays_apt target.task was.protocol.progress c.apt; done = c.done })
 counts_on target was now (Came bytes) h c l = subst (λ (x : JobTrace). Counts target.task x) (sym l.3) (record { number = c.number; turning = c.turning; few = c.few; apt = c.apt; done = λ reports e. absurd (let clash : true ≡ false = sym l.1 ∙ ap is_running e in cc) })
 counts_on target was now (Finished status) h c l =
+    let next = (frame_end_at target was.protocol status).next in
+    let past = (frame_end_at target was.protocol status).history in
+    let file = was.protocol.notes.file in
+    let closes = end_closes target.task file was.protocol.history _ (end_row target.task file was.protocol.history (status_of status)) in
     subst (λ (x : JobTrace). Counts target.task x) (sym l.7) (record {
-      number = next_file_is was.protocol.notes (frame_end_at target was.protocol status).next ∙ c.number;
-      turning = λ e. (let m = status_more target.task was.protocol.notes.file was.protocol.history (status_of status) e in subst (λ (i : ℕ). HasMore target.task i) (sym (next_file_is was.protocol.notes (frame_end_at target was.protocol status).next)) m);
+      number = next_file_is was.protocol.notes next ∙ c.number;
+      turning = λ e. subst (λ (i : ℕ). HasMore target.task i) (sym (next_file_is was.protocol.notes next)) (closes_more target.task file past next closes e);
       few = c.few;
-      apt = ended_apt target.task was.protocol.notes.file was.protocol.history (status_of status);
-      done = λ reports e. inl (ended_joined target.task was.protocol.notes was.protocol.notes.file was.protocol.history (status_of status) reports e);
+      apt = closes_apt target.task file past next closes;
+      done = λ reports e. inl (closes_joined target.task was.protocol.notes file past next reports closes e);
     })
 counts_on target was now (Gave bytes) h c l = subst (λ (x : JobTrace). Counts target.task x) (sym l) (record { number = c.number; turning = c.turning; few = c.few; apt = c.apt; done = c.done })
 counts_on target was now (Turned bytes) h c l =

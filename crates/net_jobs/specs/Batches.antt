@@ -1,5 +1,6 @@
 -- What is promised of a job over streams whose files go to the outputs of a shelf.
-use Rattle.std.specs.Prelude.{ℕ, ◌+◌, ◌≡◌, ◌≢◌, ◌≤◌, ◌⊎◌, true, false, Bool, Result, Ok, Err, Option, Some, List, [], ◌∷◌, ◌++◌, All, length}
+use Rattle.std.specs.Prelude.{ℕ, ◌+◌, ◌≡◌, ◌≢◌, ◌≤◌, ◌⊎◌, true, false, Bool, Result, Ok, Err, Option, Some, List, []}
+use Rattle.std.specs.Prelude.{◌∷◌, ◌++◌, All, length}
 use Rattle.sane_fixed.specs.declared.status.Status.TheVariants as statuses
 use Rattle.netpbm.specs.Picture.{Picture}
 use Rattle.netpbm.specs.Pnm.{Denotes}
@@ -39,8 +40,8 @@ last_whole_page (Ok true) page = page ∷ []
 last_whole_page (Ok false) page = []
 last_whole_page (Err fault) page = []
 
--- The pages of a job that is done: those behind which another was asked for, and the last one. A batch that found no further
--- page has no such last one, nor has a job that scans none.
+-- The pages of a job that is done: those behind which another was asked for, and the last one. A batch that found no
+-- further page has no such last one, nor has a job that scans none.
 abbrev pub pages_of : JobTrace → List JoinHistory
 pages_of trace = trace.pages ++ last_whole_page (answer_of_end trace.protocol.history) trace.protocol.history
 
@@ -50,15 +51,18 @@ MayScan tasks.Scan n = n ≡ 1
 MayScan (tasks.Batch count) n = (1 ≤ n) × (n ≤ count)
 MayScan task n = n ≡ 0
 
--- **Batch done, batch ended, batch refused**: what `run_batch` promises, as [PROMISES.md](PROMISES.md#net_jobs) has it. Of
--- a batch that ended otherwise the shelf **keeps all pages**, or **refuses the last** (`KeepsAllPages`, `RefusesLastPage`).
--- The pages of a job that is done are those that were turned and the last one, if its picture is whole.
+-- **Batch done, batch ended, batch refused**: what `run_batch` promises, as [PROMISES.md](PROMISES.md#net_jobs) has it.
+-- Of a batch that ended otherwise the shelf **keeps all pages**, or **refuses the last** (`KeepsAllPages`,
+-- `RefusesLastPage`). The pages of a job that is done are those that were turned and the last one, if its picture is
+-- whole.
 --
--- The job is done, as the client's rules have it for these replies and frames. All was written, with CLOSE and EXIT, unless a
--- write failed; each data connection began with its frame's records, which ended with EOF; and the shelf kept one output for
--- each page, in their order, numbered from 1, each with the whole file of the picture that the page's frames show, and was given
--- back no other. Each piece that came was followed by the bytes of the files that it brought.
-pub record BatchDone {L : Type 0} (views : LinkViews L) (job : Job) (was now : SeenStreams L (Option Stock)) (reports : Reports) : Type 0 where
+-- The job is done, as the client's rules have it for these replies and frames. All was written, with CLOSE and EXIT,
+-- unless a write failed; each data connection began with its frame's records, which ended with EOF; and the shelf kept
+-- one output for each page, in their order, numbered from 1, each with the whole file of the picture that the page's
+-- frames show, and was given back no other. Each piece that came was followed by the bytes of the files that it
+-- brought.
+pub record BatchDone {L : Type 0} (views : LinkViews L) (job : Job) (was now : SeenStreams L (Option Stock))
+    (reports : Reports) : Type 0 where
   pub ran : RanWithTrace views job was now
   pub told : ran.trace.protocol.outcome ≡ Done reports
   pub last_told : ran.last.outcome ≡ Done reports
@@ -83,19 +87,23 @@ pub record RefusesLastPage (pages : List JoinHistory) (before after : Option Sto
   pub shelved : List JoinHistory
   pub last : JoinHistory
   pub pages_are : pages ≡ shelved ++ last ∷ []
-  pub outputs : TakesBack before (page_outputs_from 1 shelved ++ refused_output (length shelved + 1) last.given ∷ []) after
+  pub outputs
+      : TakesBack before (page_outputs_from 1 shelved ++ refused_output (length shelved + 1) last.given ∷ []) after
 
--- The pages whose files came to their end: those behind which another was asked for; and the last one of a job that was done
--- but for the shelf.
+-- The pages whose files came to their end: those behind which another was asked for; and the last one of a job that was
+-- done but for the shelf.
 abbrev pub AreFinished : JobTrace → List JoinHistory → Type 0
-AreFinished trace pages = (pages ≡ trace.pages) ⊎ ((pages ≡ pages_of trace) × ((reports : Reports) × (trace.protocol.outcome ≡ Done reports)))
+AreFinished trace pages = (pages ≡ trace.pages)
+    ⊎ ((pages ≡ pages_of trace) × ((reports : Reports) × (trace.protocol.outcome ≡ Done reports)))
 
--- The job has ended otherwise, with a cause: an output could not be had, did not take its file, or was refused as it was given
--- back, or another. All that was to go out was written, unless a write failed, or an output did. The pages before have whole
--- files, and at most one more output stands, which took no whole file. The shelf kept the output of each page, but for one that
--- it refused, which was the last and ended the job. What went out to the outputs is what was given, and where one failed bytes
--- more. Where it is told as the client ended, each piece that came was followed by the bytes of the files that it brought.
-pub record BatchEnded {L : Type 0} (views : LinkViews L) (job : Job) (was now : SeenStreams L (Option Stock)) (stop : Stop) : Type 0 where
+-- The job has ended otherwise, with a cause: an output could not be had, did not take its file, or was refused as it
+-- was given back, or another. All that was to go out was written, unless a write failed, or an output did. The pages
+-- before have whole files, and at most one more output stands, which took no whole file. The shelf kept the output of
+-- each page, but for one that it refused, which was the last and ended the job. What went out to the outputs is what
+-- was given, and where one failed bytes more. Where it is told as the client ended, each piece that came was followed
+-- by the bytes of the files that it brought.
+pub record BatchEnded {L : Type 0} (views : LinkViews L) (job : Job) (was now : SeenStreams L (Option Stock))
+    (stop : Stop) : Type 0 where
   pub ran : RanWithTrace views job was now
   pub cause : HasEndingCause ran.moves ran.trace.protocol ran.rest (Ended stop.status stop.why)
   pub all : stop.why ≢ whys.Sink → has_write_failed ran.moves ≡ false → ran.left ≡ []
@@ -109,12 +117,15 @@ pub record BatchEnded {L : Type 0} (views : LinkViews L) (job : Job) (was now : 
   pub behind : List ℕ
   pub gave : files_text pages ++ text ≡ given_by ran.moves ++ behind
   pub none_behind : stop.why ≢ whys.Sink → behind ≡ []
-  pub steps : ran.last.outcome ≡ Ended stop.status stop.why → (s : MovesAreSteps ran.first ran.moves ran.last) × StepsGive s.steps ran.trace.pages text
-  pub sunk : stop.why ≡ whys.Sink → (ran.last.outcome ≡ Ended stop.status stop.why → ⊥) → MovesAreSteps ran.first ran.moves ran.last ⊎ MovesStopWithin ran.first ran.moves ran.last
+  pub steps : ran.last.outcome ≡ Ended stop.status stop.why
+      → (s : MovesAreSteps ran.first ran.moves ran.last) × StepsGive s.steps ran.trace.pages text
+  pub sunk : stop.why ≡ whys.Sink → (ran.last.outcome ≡ Ended stop.status stop.why → ⊥)
+      → MovesAreSteps ran.first ran.moves ran.last ⊎ MovesStopWithin ran.first ran.moves ran.last
   pub shelf : ((pages ≡ ran.trace.pages) × KeepsAllPages pages text was.output now.output)
       ⊎ ((stop ≡ failed_output) × (text ≡ []) × RefusesLastPage pages was.output now.output)
 
 -- a job that is refused, for a fault or since there is no memory for its buffers, touches no stream and no shelf
 pub record RefusesBatch {C D S : Type 0} (job : Job) (outcome : Outcome) (was now : JobStreams C D S) : Type 0 where
-  pub why : ((fault : JobFault) × HasJobFault job (Some fault) × (outcome ≡ refused_as fault)) ⊎ (outcome ≡ Ended statuses.NoMem whys.Memory)
+  pub why : ((fault : JobFault) × HasJobFault job (Some fault) × (outcome ≡ refused_as fault))
+      ⊎ (outcome ≡ Ended statuses.NoMem whys.Memory)
   pub same : now ≡ was

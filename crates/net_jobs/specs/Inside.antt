@@ -1,5 +1,7 @@
 -- What private functions promise: one turn of a job, bytes written and read, files drained, pages filed.
-use Rattle.std.specs.Prelude.{ℕ, zero, suc, Bool, true, false, Option, None, Some, Result, Ok, Err, ◌≡◌, ◌≤◌, List, length, take, drop, [], ◌∷◌, ◌+◌, ◌-◌, ◌≢◌, ◌<◌, if◌then◌else◌, ◌++◌, ⊤, ◌⊎◌, All, IfSome, option_map}
+use Rattle.std.specs.Prelude.{ℕ, zero, suc, Bool, true, false, Option, None, Some, Result, Ok, Err, ◌≡◌, ◌≤◌, List}
+use Rattle.std.specs.Prelude.{length, take, drop, [], ◌∷◌, ◌+◌, ◌-◌, ◌≢◌, ◌<◌, if◌then◌else◌, ◌++◌, ⊤, ◌⊎◌, All, IfSome}
+use Rattle.std.specs.Prelude.{option_map}
 use Rattle.std.specs.IoError.{error_kind}
 use Rattle.byte_output.specs.Writes.{is_interruption}
 use Rattle.std.specs.declared.io.Error.{Error}
@@ -25,7 +27,9 @@ use Rattle.sane_fixed.specs.declared.status.Status.TheVariants as statuses
 use Rattle.scan_job.specs.declared.outcome.Why.TheVariants as whys
 use Rattle.net_jobs.specs.declared.calls.Loss.{Loss}
 use Rattle.net_jobs.specs.declared.calls.Loss.TheVariants.{ReadFailed, StreamEnded, DialFailed}
-use Rattle.net_jobs.specs.JobJournal.{AreGives, IsPiece, JobMove, StandsBehind, Hears, Resumes, MovesLead, Fails, Dials, Takes, Gives, Loses, MoveLeads, HearsPiece, TakesPiece, DialsPort, MissesPort, LosesLink, has_write_failed, given_by}
+use Rattle.net_jobs.specs.JobJournal.{AreGives, IsPiece, JobMove, StandsBehind, Hears, Resumes, MovesLead, Fails, Dials}
+use Rattle.net_jobs.specs.JobJournal.{Takes, Gives, Loses, MoveLeads, HearsPiece, TakesPiece, DialsPort, MissesPort}
+use Rattle.net_jobs.specs.JobJournal.{LosesLink, has_write_failed, given_by}
 use Rattle.net_jobs.specs.JobSteps.{FileRunsOut, IsDelivery, MovesAreSteps, MovesStopWithin, PageEnds, StepsGive}
 use Rattle.net_jobs.specs.JobTraces.{TraceEvent, EndWell}
 use Rattle.net_jobs.specs.JobTraces.TraceEvent.{Opened}
@@ -76,7 +80,9 @@ pub record GivesAll (old : ClientState) (gives : List JobMove) (new : ClientStat
 
 -- bytes of a page's file go out: the client goes on with it, or they were its last
 abbrev pub GivesPage : ClientState → List JobMove → ClientState → Type 0
-GivesPage old gives new = (FileRunsOut old gives new × (turns new.outcome new.progress ≡ turns old.outcome old.progress)) ⊎ PageEnds old gives new
+GivesPage old gives new =
+    (FileRunsOut old gives new × (turns new.outcome new.progress ≡ turns old.outcome old.progress))
+    ⊎ PageEnds old gives new
 
 -- those of the connections that were made
 abbrev pub ports_opened : List TraceEvent → List ℕ
@@ -89,11 +95,12 @@ abbrev pub HasReadOf : Option (List (List ℕ)) → Option (List ℕ) → List �
 HasReadOf None remaining whole bytes = whole ≡ bytes
 HasReadOf (Some all) remaining whole bytes = Consumes (Some whole) remaining bytes
 
--- ---- a turn of a job's loop: its moves, with what each makes of the client, of the connections, and of the tally of their calls
+-- ---- a turn of a job's loop: its moves, with what each makes of the client, of the connections, and of the tally of
+-- their calls
 
 -- **Notes** (`CallNotes`, `NotesMatch`): what the tally of a job's calls noted of them: why nothing more is read, and
--- whether a write failed. **All moves** of a turn (`MovesAll`) lead from one client, links, data connection and notes to
--- the next; a journal's notes match where it tells of losses and failed writes what the tally does.
+-- whether a write failed. **All moves** of a turn (`MovesAll`) lead from one client, links, data connection and notes
+-- to the next; a journal's notes match where it tells of losses and failed writes what the tally does.
 pub record CallNotes : Type 0 where
   pub loss : Option Loss
   pub write_failed : Bool
@@ -126,8 +133,8 @@ LiesWithin stream room = (stream.at ≤ stream.end) × (stream.end ≤ length ro
 abbrev pub IfOpenLiesWithin : {R : Type 0} → Option (DataStream R) → List ℕ → Type 0
 IfOpenLiesWithin stream room = IfSome stream (λ s. LiesWithin s room)
 
--- where a loop is: its client, its links, the bytes of the data connections to come, the one that is open, and what became of
--- its calls
+-- where a loop is: its client, its links, the bytes of the data connections to come, the one that is open, and what
+-- became of its calls
 pub record LoopState (L R : Type 0) : Type 0 where
   pub client : ClientState
   pub links : L
@@ -135,7 +142,8 @@ pub record LoopState (L R : Type 0) : Type 0 where
   pub stream : Option R
   pub notes : CallNotes
 
-abbrev pub loop_state : {C D R : Type 0} → (D → Option (List (List ℕ))) → ClientState → C → D → Option (ReadAhead R) → CallTally → LoopState (JobLinks C D) (ReadAhead R)
+abbrev pub loop_state : {C D R : Type 0} → (D → Option (List (List ℕ))) → ClientState → C → D → Option (ReadAhead R)
+    → CallTally → LoopState (JobLinks C D) (ReadAhead R)
 loop_state coming client control dial stream tally = record {
   client = client;
   links = record { control = control; dial = dial };
@@ -146,9 +154,11 @@ loop_state coming client control dial stream tally = record {
 
 -- what a move makes of the data connections: one that was read is let go where no more of its frame is to come
 abbrev pub DataCalled : {L R : Type 0} → (R → Option (List ℕ)) → LoopState L R → JobMove → LoopState L R → Type 0
-DataCalled {L} {R} left_of was (Dials port true) now = (conn : R) × (now.stream ≡ Some conn) × DialBrings was.coming now.coming (left_of conn)
+DataCalled {L} {R} left_of was (Dials port true) now = (conn : R) × (now.stream ≡ Some conn)
+    × DialBrings was.coming now.coming (left_of conn)
 DataCalled {L} {R} left_of was (Takes piece) now =
-    (before : R) × (behind : R) × (was.stream ≡ Some before) × Consumes (left_of before) (left_of behind) piece × (now.coming ≡ was.coming)
+    (before : R) × (behind : R) × (was.stream ≡ Some before) × Consumes (left_of before) (left_of behind) piece
+    × (now.coming ≡ was.coming)
     × (now.stream ≡ (if is_receiving now.client.outcome now.client.progress then Some behind else None))
 DataCalled left_of was (Dials port false) now = now.coming ≡ was.coming
 DataCalled left_of was (Loses link reason) now = now.coming ≡ was.coming
@@ -165,7 +175,8 @@ IsOfLinks (Gives bytes) = ⊥
 IsOfLinks move = Unit {0}
 
 -- behind a write that failed there is none
-pub record Moves {L R : Type 0} (views : LinkViews L) (left_of : R → Option (List ℕ)) (was : LoopState L R) (move : JobMove) (now : LoopState L R) : Type 0 where
+pub record Moves {L R : Type 0} (views : LinkViews L) (left_of : R → Option (List ℕ)) (was : LoopState L R)
+    (move : JobMove) (now : LoopState L R) : Type 0 where
   pub of_links : IsOfLinks move
   pub up : was.notes.write_failed ≡ false
   pub client : MoveLeads was.client move now.client
@@ -188,12 +199,15 @@ AreQuiet (move ∷ moves) = IsQuiet move × StandsBehind move moves × AreQuiet 
 -- the moves of a turn that leads to that client: with its newest something comes, if that is told, or it ends the job
 pub data AreOfTurn (came : Bool) (now : ClientState) (moves : List JobMove) : Type 0 where
   Quiet : AreQuiet moves → (came ≡ true → is_running now.outcome ≡ false) → AreOfTurn came now moves
-  Delivered : (move : JobMove) (before : List JobMove) → moves ≡ move ∷ before → IsDelivery move → AreQuiet before → came ≡ true → AreOfTurn came now moves
+  Delivered : (move : JobMove) (before : List JobMove) → moves ≡ move ∷ before → IsDelivery move → AreQuiet before
+      → came ≡ true → AreOfTurn came now moves
 
 -- moves one after another, the newest first
-abbrev pub MovesAll : {L R : Type 0} → LinkViews L → (R → Option (List ℕ)) → LoopState L R → List JobMove → LoopState L R → Type 0
+abbrev pub MovesAll : {L R : Type 0} → LinkViews L → (R → Option (List ℕ)) → LoopState L R → List JobMove
+    → LoopState L R → Type 0
 MovesAll views left_of first [] now = now ≡ first
-MovesAll {L} {R} views left_of first (move ∷ moves) now = (was : LoopState L R) × MovesAll views left_of first moves was × Moves views left_of was move now
+MovesAll {L} {R} views left_of first (move ∷ moves) now = (was : LoopState L R) × MovesAll views left_of first moves was
+    × Moves views left_of was move now
 
 -- reads and turns alone were used up
 abbrev pub KeepsWrites : CallTally → CallTally → Type 0
@@ -210,27 +224,40 @@ abbrev pub IsLost : Option Loss → Type 0
 IsLost loss = (reason : Loss) × (loss ≡ Some reason)
 
 -- a read of the control connection: a piece that the client hears, or none, and the connection is lost
-pub data HearsOrLoses (old : ClientState) (was : Option (List ℕ)) (new : ClientState) (now : Option (List ℕ)) (loss : Option Loss) : Type 0 where
-  Heard : (piece : List ℕ) → IsPiece piece → Consumes was now piece → HearsPiece old piece new → loss ≡ None → HearsOrLoses old was new now loss
-  Lost : (reason : Loss) → Consumes was now [] → LosesLink old links.Control new → loss ≡ Some reason → HearsOrLoses old was new now loss
+pub data HearsOrLoses (old : ClientState) (was : Option (List ℕ)) (new : ClientState) (now : Option (List ℕ))
+    (loss : Option Loss) : Type 0 where
+  Heard : (piece : List ℕ) → IsPiece piece → Consumes was now piece → HearsPiece old piece new → loss ≡ None
+      → HearsOrLoses old was new now loss
+  Lost : (reason : Loss) → Consumes was now [] → LosesLink old links.Control new → loss ≡ Some reason
+      → HearsOrLoses old was new now loss
 
 -- one of a data connection, which is let go where no more of its frame is to come
-pub data TakesOrLoses {R : Type 0} (left_of : R → Option (List ℕ)) (old : ClientState) (conn : R) (new : ClientState) (kept : Option R) (loss : Option Loss) : Type 0 where
-  Took : (piece : List ℕ) (behind : R) → IsPiece piece → Consumes (left_of conn) (left_of behind) piece → TakesPiece old piece new → kept ≡ (if is_receiving new.outcome new.progress then Some behind else None) → loss ≡ None
+pub data TakesOrLoses {R : Type 0} (left_of : R → Option (List ℕ)) (old : ClientState) (conn : R) (new : ClientState)
+    (kept : Option R) (loss : Option Loss) : Type 0 where
+  Took : (piece : List ℕ) (behind : R) → IsPiece piece → Consumes (left_of conn) (left_of behind) piece
+      → TakesPiece old piece new → kept ≡ (if is_receiving new.outcome new.progress then Some behind else None)
+      → loss ≡ None
       → TakesOrLoses left_of old conn new kept loss
-  Missed : (reason : Loss) → LosesLink old links.Image new → loss ≡ Some reason → TakesOrLoses left_of old conn new kept loss
+  Missed : (reason : Loss) → LosesLink old links.Image new → loss ≡ Some reason
+      → TakesOrLoses left_of old conn new kept loss
 
 -- a dial
-pub data DialsOrLoses {R : Type 0} (left_of : R → Option (List ℕ)) (old : ClientState) (was : Option (List (List ℕ))) (port : ℕ) (new : ClientState) (now : Option (List (List ℕ))) (made : Option R) (loss : Option Loss) : Type 0 where
-  Made : (conn : R) → made ≡ Some conn → DialBrings was now (left_of conn) → DialsPort old port new → loss ≡ None → DialsOrLoses left_of old was port new now made loss
-  Refused : now ≡ was → MissesPort old port new → loss ≡ Some DialFailed → DialsOrLoses left_of old was port new now made loss
+pub data DialsOrLoses {R : Type 0} (left_of : R → Option (List ℕ)) (old : ClientState) (was : Option (List (List ℕ)))
+    (port : ℕ) (new : ClientState) (now : Option (List (List ℕ))) (made : Option R) (loss : Option Loss) : Type 0 where
+  Made : (conn : R) → made ≡ Some conn → DialBrings was now (left_of conn) → DialsPort old port new → loss ≡ None
+      → DialsOrLoses left_of old was port new now made loss
+  Refused : now ≡ was → MissesPort old port new → loss ≡ Some DialFailed
+      → DialsOrLoses left_of old was port new now made loss
 
--- leave is taken of the daemon: nothing goes out behind a write that failed; else all that is to go out does, or a front of it
--- and a write fails
-pub data TakesLeave {C : Type 0} (contents : C → Option (List ℕ)) (was : C) (before : CallNotes) (out : List ℕ) (now : C) (behind : CallNotes) : Type 0 where
+-- leave is taken of the daemon: nothing goes out behind a write that failed; else all that is to go out does, or a
+-- front of it and a write fails
+pub data TakesLeave {C : Type 0} (contents : C → Option (List ℕ)) (was : C) (before : CallNotes) (out : List ℕ)
+    (now : C) (behind : CallNotes) : Type 0 where
   Silent : before.write_failed ≡ true → now ≡ was → behind ≡ before → TakesLeave contents was before out now behind
-  Whole : before.write_failed ≡ false → Appends (contents was) (contents now) out → behind ≡ before → TakesLeave contents was before out now behind
-  Short : before.write_failed ≡ false → (n : ℕ) → n < length out → Appends (contents was) (contents now) (take n out) → behind ≡ record before { write_failed = true } → TakesLeave contents was before out now behind
+  Whole : before.write_failed ≡ false → Appends (contents was) (contents now) out → behind ≡ before
+      → TakesLeave contents was before out now behind
+  Short : before.write_failed ≡ false → (n : ℕ) → n < length out → Appends (contents was) (contents now) (take n out)
+      → behind ≡ record before { write_failed = true } → TakesLeave contents was before out now behind
 
 -- the turns that a job may still take, and one more while it runs
 abbrev pub turns_to_go : Outcome → ℕ → ℕ
@@ -242,15 +269,19 @@ pub record NotesMatch (moves : List JobMove) (notes : CallNotes) : Type 0 where
   pub write_failed : has_write_failed moves ≡ notes.write_failed
 
 -- how a job is over, with a journal that tells what the tally of its calls does
-abbrev pub HasRunNoted : {L : Type 0} → LinkViews L → Job → SeenStreams L (Option (List ℕ)) → SeenStreams L (Option (List ℕ)) → Outcome → CallNotes → Type 0
+abbrev pub HasRunNoted : {L : Type 0} → LinkViews L → Job → SeenStreams L (Option (List ℕ))
+    → SeenStreams L (Option (List ℕ)) → Outcome → CallNotes → Type 0
 HasRunNoted views job was now Running notes = ⊥
-HasRunNoted views job was now (Done reports) notes = (run : RanDone views job was now reports) × NotesMatch run.ran.moves notes
-HasRunNoted views job was now (Ended status why) notes = (run : RanEnded views job was now (record { status = status; why = why })) × NotesMatch run.ran.moves notes
+HasRunNoted views job was now (Done reports) notes = (run : RanDone views job was now reports)
+    × NotesMatch run.ran.moves notes
+HasRunNoted views job was now (Ended status why) notes =
+    (run : RanEnded views job was now (record { status = status; why = why })) × NotesMatch run.ran.moves notes
 
 -- ---- how a job is over
 
 -- how a job over streams is over
-abbrev pub HasRun : {L : Type 0} → LinkViews L → Job → SeenStreams L (Option (List ℕ)) → SeenStreams L (Option (List ℕ)) → Outcome → Type 0
+abbrev pub HasRun : {L : Type 0} → LinkViews L → Job → SeenStreams L (Option (List ℕ)) → SeenStreams L (Option (List ℕ))
+    → Outcome → Type 0
 HasRun views job was now Running = ⊥
 HasRun views job was now (Done reports) = RanDone views job was now reports
 HasRun views job was now (Ended status why) = RanEnded views job was now (record { status = status; why = why })
@@ -263,8 +294,8 @@ StopsAs (Ended status why) stop = stop ≡ record { status = status; why = why }
 
 -- ---- the bytes of a scan's file on their way to the output
 
--- **Holds what was given** (`HoldsGiven`): a scan's client stands for what was told to it and given, and the output took
--- what was given, behind what it held first.
+-- **Holds what was given** (`HoldsGiven`): a scan's client stands for what was told to it and given, and the output
+-- took what was given, behind what it held first.
 pub record HoldsGiven (past : JoinHistory) (client : ClientState) (first contents : Option (List ℕ)) : Type 0 where
   pub scan : client.target.task ≡ tasks.Scan
   pub serves : ClientRepresents past client
@@ -274,11 +305,13 @@ pub record HoldsGiven (past : JoinHistory) (client : ClientState) (first content
 -- picture once that is whole; or it took a text that is no whole file.
 --
 -- these bytes more were given, the output took all that were given so far, and once the picture is whole they denote it
-pub record IsDrainedTo (past : JoinHistory) (old : ClientState) (first : Option (List ℕ)) (bytes : List ℕ) (new : ClientState) (contents : Option (List ℕ)) : Type 0 where
+pub record IsDrainedTo (past : JoinHistory) (old : ClientState) (first : Option (List ℕ)) (bytes : List ℕ)
+    (new : ClientState) (contents : Option (List ℕ)) : Type 0 where
   pub serves : ClientRepresents (after_pull bytes past) new
   pub rest : new ≡ record old { join = new.join }
   pub taken : Appends first contents (past.given ++ bytes)
-  pub denotes : is_ended old.outcome ≡ false → IsJoined past → (p : Picture) → ShowsFrames past.ended p → Denotes (past.given ++ bytes) p
+  pub denotes : is_ended old.outcome ≡ false → IsJoined past → (p : Picture) → ShowsFrames past.ended p
+      → Denotes (past.given ++ bytes) p
 
 -- the output took what was given, and then not all: no whole file
 pub record StopsBehind (given : List ℕ) (first contents : Option (List ℕ)) : Type 0 where
@@ -297,22 +330,28 @@ HoldsOutput (Some contents) number k bytes = (number ≡ k) × (contents ≡ Som
 abbrev pub HasTaken : Option Stock → List ReturnedOutput → Option Stock → Option (Option (List ℕ)) → ℕ → List ℕ → Type 0
 HasTaken None outputs now out k bytes = ⊤
 HasTaken (Some old) outputs None out k bytes = ⊥
-HasTaken (Some old) outputs (Some now) out k bytes = (now.taken ≡ old.taken ++ outputs) × HoldsOutput out now.number k bytes
+HasTaken (Some old) outputs (Some now) out k bytes = (now.taken ≡ old.taken ++ outputs)
+    × HoldsOutput out now.number k bytes
 
 -- and it was asked for at the first
-pub record OutputIsUnderWay (before : Option Stock) (outputs : List ReturnedOutput) (now : Option Stock) (out : Option (Option (List ℕ))) (k : ℕ) (bytes : List ℕ) : Type 0 where
+pub record OutputIsUnderWay (before : Option Stock) (outputs : List ReturnedOutput) (now : Option Stock)
+    (out : Option (Option (List ℕ))) (k : ℕ) (bytes : List ℕ) : Type 0 where
   pub taken : HasTaken before outputs now out k bytes
   pub asked : bytes ≡ [] → out ≡ None
 
--- **Takes more, takes a front** (`TakesMore`, `TakesFront`): whatever the output under way took before, it took these bytes
--- more, or only a proper front of them.
-abbrev pub TakesMore : Option Stock → Option (Option (List ℕ)) → Option Stock → Option (Option (List ℕ)) → ℕ → List ℕ → Type 0
-TakesMore was out now new k bytes = (before : Option Stock) (outputs : List ReturnedOutput) (had : List ℕ) → HasTaken before outputs was out k had → HasTaken before outputs now new k (had ++ bytes)
+-- **Takes more, takes a front** (`TakesMore`, `TakesFront`): whatever the output under way took before, it took these
+-- bytes more, or only a proper front of them.
+abbrev pub TakesMore : Option Stock → Option (Option (List ℕ)) → Option Stock → Option (Option (List ℕ)) → ℕ → List ℕ
+    → Type 0
+TakesMore was out now new k bytes = (before : Option Stock) (outputs : List ReturnedOutput) (had : List ℕ)
+    → HasTaken before outputs was out k had → HasTaken before outputs now new k (had ++ bytes)
 
 -- or only a proper front of them
-abbrev pub TakesFront : Option Stock → Option (Option (List ℕ)) → Option Stock → Option (Option (List ℕ)) → ℕ → List ℕ → Type 0
+abbrev pub TakesFront : Option Stock → Option (Option (List ℕ)) → Option Stock → Option (Option (List ℕ)) → ℕ → List ℕ
+    → Type 0
 TakesFront was out now new k bytes =
-    (before : Option Stock) (outputs : List ReturnedOutput) (had : List ℕ) → HasTaken before outputs was out k had → (n : ℕ) × (n < length bytes) × HasTaken before outputs now new k (had ++ take n bytes)
+    (before : Option Stock) (outputs : List ReturnedOutput) (had : List ℕ) → HasTaken before outputs was out k had
+    → (n : ℕ) × (n < length bytes) × HasTaken before outputs now new k (had ++ take n bytes)
 
 -- ---- how a batch is over
 
@@ -322,33 +361,40 @@ closed_as (Done reports) false = Ended statuses.IoError whys.Sink
 closed_as outcome is_taken = outcome
 
 -- how such a job is over
-abbrev pub HasBatchRun : {L : Type 0} → LinkViews L → Job → SeenStreams L (Option Stock) → SeenStreams L (Option Stock) → Outcome → Type 0
+abbrev pub HasBatchRun : {L : Type 0} → LinkViews L → Job → SeenStreams L (Option Stock) → SeenStreams L (Option Stock)
+    → Outcome → Type 0
 HasBatchRun views job was now Running = ⊥
 HasBatchRun views job was now (Done reports) = BatchDone views job was now reports
 HasBatchRun views job was now (Ended status why) = BatchEnded views job was now (record { status = status; why = why })
 
 -- ---- files and pages of a batch
 
--- **Filing, filed, filed short** (`IsFiling`, `HasFiled`, `HasFiledShort`): a client that scans stands for what was told to
--- it and given, and the output of the file under way, by its number, took what was given of that; then all that the client
--- gave was taken, and it goes on with its file or turned to the next page; or an output fell short, or the shelf refused
--- the one that was given back as the client turned.
-pub record IsFiling (past : JoinHistory) (client : ClientState) (k : ℕ) (before : Option Stock) (outputs : List ReturnedOutput) (now : Option Stock) (out : Option (Option (List ℕ))) : Type 0 where
+-- **Filing, filed, filed short** (`IsFiling`, `HasFiled`, `HasFiledShort`): a client that scans stands for what was
+-- told to it and given, and the output of the file under way, by its number, took what was given of that; then all that
+-- the client gave was taken, and it goes on with its file or turned to the next page; or an output fell short, or the
+-- shelf refused the one that was given back as the client turned.
+pub record IsFiling (past : JoinHistory) (client : ClientState) (k : ℕ) (before : Option Stock)
+    (outputs : List ReturnedOutput) (now : Option Stock) (out : Option (Option (List ℕ))) : Type 0 where
   pub scanning : scans client.target.task ≡ true
   pub number : is_ended client.outcome ≡ false → client.notes.file ≡ k
   pub serves : ClientRepresents past client
   pub under_way : OutputIsUnderWay before outputs now out k past.given
 
 -- the client gave these bytes of its file, not the last ones of a page, and the output took them
-pub record PageGoesOn (past : JoinHistory) (old : ClientState) (k : ℕ) (before : Option Stock) (outputs : List ReturnedOutput) (bytes : List ℕ) (new : ClientState) (after : Option Stock) (out : Option (Option (List ℕ))) : Type 0 where
+pub record PageGoesOn (past : JoinHistory) (old : ClientState) (k : ℕ) (before : Option Stock)
+    (outputs : List ReturnedOutput) (bytes : List ℕ) (new : ClientState) (after : Option Stock)
+    (out : Option (Option (List ℕ))) : Type 0 where
   pub serves : ClientRepresents (after_pull bytes past) new
   pub rest : new ≡ record old { join = new.join }
   pub under_way : OutputIsUnderWay before outputs after out k (past.given ++ bytes)
-  pub denotes : is_ended old.outcome ≡ false → IsJoined past → (p : Picture) → ShowsFrames past.ended p → Denotes (past.given ++ bytes) p
+  pub denotes : is_ended old.outcome ≡ false → IsJoined past → (p : Picture) → ShowsFrames past.ended p
+      → Denotes (past.given ++ bytes) p
 
--- the client gave the last bytes of a page's file and turned to the next page, and the file's output was given back, which the
--- shelf kept or refused
-pub record TurnsOn (past : JoinHistory) (old : ClientState) (k : ℕ) (before : Option Stock) (outputs : List ReturnedOutput) (bytes : List ℕ) (kept : Bool) (new : ClientState) (after : Option Stock) (out : Option (Option (List ℕ))) : Type 0 where
+-- the client gave the last bytes of a page's file and turned to the next page, and the file's output was given back,
+-- which the shelf kept or refused
+pub record TurnsOn (past : JoinHistory) (old : ClientState) (k : ℕ) (before : Option Stock)
+    (outputs : List ReturnedOutput) (bytes : List ℕ) (kept : Bool) (new : ClientState) (after : Option Stock)
+    (out : Option (Option (List ℕ))) : Type 0 where
   pub turning : turns old.outcome old.progress ≡ true
   pub whole : IsWhole (past.given ++ bytes)
   pub denotes : (p : Picture) → ShowsFrames past.ended p → Denotes (past.given ++ bytes) p
@@ -358,21 +404,29 @@ pub record TurnsOn (past : JoinHistory) (old : ClientState) (k : ℕ) (before : 
   pub taken : TakesBack before (outputs ++ returned_output k (past.given ++ bytes) kept ∷ []) after
   pub none : out ≡ None
 
--- an output could not be had, or did not take all bytes behind those that were given before: what it took is no whole file
-pub record FallsShort (given : List ℕ) (k : ℕ) (before : Option Stock) (outputs : List ReturnedOutput) (after : Option Stock) (out : Option (Option (List ℕ))) : Type 0 where
+-- an output could not be had, or did not take all bytes behind those that were given before: what it took is no whole
+-- file
+pub record FallsShort (given : List ℕ) (k : ℕ) (before : Option Stock) (outputs : List ReturnedOutput)
+    (after : Option Stock) (out : Option (Option (List ℕ))) : Type 0 where
   pub behind : List ℕ
   pub taken : HasTaken before outputs after out k (given ++ behind)
   pub not_whole : IsWhole (given ++ behind) → ⊥
 
 -- all that was given was taken: the client goes on with its file, or it turned to the next page
-abbrev pub HasFiled : JoinHistory → ClientState → ℕ → Option Stock → List ReturnedOutput → List ℕ → ClientState → Option Stock → Option (Option (List ℕ)) → Type 0
-HasFiled past old k before outputs bytes new after out = PageGoesOn past old k before outputs bytes new after out ⊎ TurnsOn past old k before outputs bytes true new after out
+abbrev pub HasFiled : JoinHistory → ClientState → ℕ → Option Stock → List ReturnedOutput → List ℕ → ClientState
+    → Option Stock → Option (Option (List ℕ)) → Type 0
+HasFiled past old k before outputs bytes new after out = PageGoesOn past old k before outputs bytes new after out
+    ⊎ TurnsOn past old k before outputs bytes true new after out
 
--- not all was: an output fell short, or the shelf refused the one that was given back as the client turned to the next page
-abbrev pub HasFiledShort : JoinHistory → ClientState → ℕ → Option Stock → List ReturnedOutput → List ℕ → ClientState → Option Stock → Option (Option (List ℕ)) → Type 0
-HasFiledShort past old k before outputs bytes new after out = FallsShort past.given k before outputs after out ⊎ TurnsOn past old k before outputs bytes false new after out
+-- not all was: an output fell short, or the shelf refused the one that was given back as the client turned to the next
+-- page
+abbrev pub HasFiledShort : JoinHistory → ClientState → ℕ → Option Stock → List ReturnedOutput → List ℕ → ClientState
+    → Option Stock → Option (Option (List ℕ)) → Type 0
+HasFiledShort past old k before outputs bytes new after out = FallsShort past.given k before outputs after out
+    ⊎ TurnsOn past old k before outputs bytes false new after out
 
-pub record BatchCameDone {L : Type 0} (views : LinkViews L) (job : Job) (was now : SeenStreams L (Option Stock)) (out : Option (Option (List ℕ))) (reports : Reports) : Type 0 where
+pub record BatchCameDone {L : Type 0} (views : LinkViews L) (job : Job) (was now : SeenStreams L (Option Stock))
+    (out : Option (Option (List ℕ))) (reports : Reports) : Type 0 where
   pub ran : RanWithTrace views job was now
   pub told : ran.trace.protocol.outcome ≡ Done reports
   pub last_told : ran.last.outcome ≡ Done reports
@@ -384,11 +438,14 @@ pub record BatchCameDone {L : Type 0} (views : LinkViews L) (job : Job) (was now
   pub count : MayScan job.task (length (pages_of ran.trace))
   pub files : All IsPageFile (pages_of ran.trace)
   pub gave : files_text (pages_of ran.trace) ≡ given_by ran.moves
-  pub taken : HasTaken was.output (page_outputs_from 1 ran.trace.pages) now.output out (length ran.trace.pages + 1) ran.trace.protocol.history.given
+  pub taken
+      : HasTaken was.output (page_outputs_from 1 ran.trace.pages) now.output out (length ran.trace.pages
+      + 1) ran.trace.protocol.history.given
   pub none : (IsJoined ran.trace.protocol.history → ⊥) → out ≡ None
   pub last : IsJoined ran.trace.protocol.history → IsPageFile ran.trace.protocol.history
 
-pub record BatchCameEnded {L : Type 0} (views : LinkViews L) (job : Job) (was now : SeenStreams L (Option Stock)) (out : Option (Option (List ℕ))) (stop : Stop) : Type 0 where
+pub record BatchCameEnded {L : Type 0} (views : LinkViews L) (job : Job) (was now : SeenStreams L (Option Stock))
+    (out : Option (Option (List ℕ))) (stop : Stop) : Type 0 where
   pub ran : RanWithTrace views job was now
   pub cause : HasEndingCause ran.moves ran.trace.protocol ran.rest (Ended stop.status stop.why)
   pub all : stop.why ≢ whys.Sink → has_write_failed ran.moves ≡ false → ran.left ≡ []
@@ -400,12 +457,18 @@ pub record BatchCameEnded {L : Type 0} (views : LinkViews L) (job : Job) (was no
   pub behind : List ℕ
   pub gave : files_text ran.trace.pages ++ text ≡ given_by ran.moves ++ behind
   pub none_behind : stop.why ≢ whys.Sink → behind ≡ []
-  pub steps : ran.last.outcome ≡ Ended stop.status stop.why → (s : MovesAreSteps ran.first ran.moves ran.last) × StepsGive s.steps ran.trace.pages text
-  pub sunk : stop.why ≡ whys.Sink → (ran.last.outcome ≡ Ended stop.status stop.why → ⊥) → MovesStopWithin ran.first ran.moves ran.last
+  pub steps : ran.last.outcome ≡ Ended stop.status stop.why
+      → (s : MovesAreSteps ran.first ran.moves ran.last) × StepsGive s.steps ran.trace.pages text
+  pub sunk : stop.why ≡ whys.Sink → (ran.last.outcome ≡ Ended stop.status stop.why → ⊥)
+      → MovesStopWithin ran.first ran.moves ran.last
   pub shelf : HasTaken was.output (page_outputs_from 1 ran.trace.pages) now.output out (length ran.trace.pages + 1) text
       ⊎ ((out ≡ None) × (text ≡ []) × (stop ≡ failed_output) × RefusesLastPage ran.trace.pages was.output now.output)
 
-abbrev pub BatchHasCome : {L : Type 0} → LinkViews L → Job → SeenStreams L (Option Stock) → SeenStreams L (Option Stock) → Option (Option (List ℕ)) → Outcome → CallNotes → Type 0
+abbrev pub BatchHasCome : {L : Type 0} → LinkViews L → Job → SeenStreams L (Option Stock) → SeenStreams L (Option Stock)
+    → Option (Option (List ℕ)) → Outcome → CallNotes → Type 0
 BatchHasCome views job was now out Running notes = ⊥
-BatchHasCome views job was now out (Done reports) notes = (run : BatchCameDone views job was now out reports) × NotesMatch run.ran.moves notes
-BatchHasCome views job was now out (Ended status why) notes = (run : BatchCameEnded views job was now out (record { status = status; why = why })) × NotesMatch run.ran.moves notes
+BatchHasCome views job was now out (Done reports) notes = (run : BatchCameDone views job was now out reports)
+    × NotesMatch run.ran.moves notes
+BatchHasCome views job was now out (Ended status why) notes =
+    (run : BatchCameEnded views job was now out (record { status = status; why = why }))
+    × NotesMatch run.ran.moves notes

@@ -1,22 +1,25 @@
 -- What the loop of a job does, one move after another, and what each makes of the client by the client's own contracts.
-use Rattle.std.specs.Prelude.{ℕ, ◌≡◌, ◌≢◌, ◌<◌, ◌≤◌, if◌then◌else◌, Bool, true, false, Some, List, [], ◌∷◌, ◌++◌, length}
+use Rattle.std.specs.Prelude.{ℕ, ◌≡◌, ◌≢◌, ◌<◌, ◌≤◌, if◌then◌else◌, Bool, true, false, Some, List, [], ◌∷◌, ◌++◌}
+use Rattle.std.specs.Prelude.{length}
 use Rattle.sane_fixed.specs.declared.status.Status.TheVariants as statuses
 use Rattle.frame_join.specs.FrameHistory.{JoinHistory}
 use Rattle.scan_job.specs.declared.outcome.Why.TheVariants as whys
 use Rattle.client_replies.specs.declared.progress.Link.{Link}
 use Rattle.client_replies.specs.declared.progress.Link.TheVariants as links
-use Rattle.client_replies.specs.ProtocolStates.{is_ended, is_lost_by, is_receiving, is_running, progress_connected, turns, wanted_port}
-use Rattle.net_client.specs.ClientStates.{ClientState, ClientRepresents, HasEarlyReply, after_client_end, phase_connected}
+use Rattle.client_replies.specs.ProtocolStates.{is_ended, is_lost_by, is_receiving, is_running, progress_connected}
+use Rattle.client_replies.specs.ProtocolStates.{turns, wanted_port}
+use Rattle.net_client.specs.ClientStates.{ClientState, ClientRepresents, HasEarlyReply, after_client_end}
+use Rattle.net_client.specs.ClientStates.{phase_connected}
 use Rattle.net_client.specs.FramePieces.{Receives}
 use Rattle.net_client.specs.ToldPorts.{port_told}
 use Rattle.net_client.specs.ReplyPieces.{Heeds}
 use Rattle.net_client.specs.Taking.{TakesFile}
 use Rattle.net_jobs.specs.declared.calls.Loss.{Loss}
 
--- **Move** (`JobMove`, `MoveLeads`): what a loop does, with what it makes of the client by the client's own contracts. All
--- that is to go out is written, or only a front of it, as a write failed; a piece of the control connection is heard, or
--- what came too soon is looked at again; a data connection at a port is asked for, and made or not; a piece of it is taken;
--- bytes of the job's files go out; a connection is lost, for a reason (`Loss`, `src/calls.rt`).
+-- **Move** (`JobMove`, `MoveLeads`): what a loop does, with what it makes of the client by the client's own contracts.
+-- All that is to go out is written, or only a front of it, as a write failed; a piece of the control connection is
+-- heard, or what came too soon is looked at again; a data connection at a port is asked for, and made or not; a piece
+-- of it is taken; bytes of the job's files go out; a connection is lost, for a reason (`Loss`, `src/calls.rt`).
 pub data JobMove : Type 0 where
   -- all that was to go out to the daemon is written to the control connection
   Writes : (bytes : List ℕ) → JobMove
@@ -69,7 +72,8 @@ pub record PreparesPort (old : ClientState) (port : ℕ) (new : ClientState) : T
 pub record DialsPort (old : ClientState) (port : ℕ) (new : ClientState) : Type 0 where
   pub running : is_running old.outcome ≡ true
   pub wanted : wanted_port old.progress ≡ Some port
-  pub new_is : new ≡ record old { progress = progress_connected old.progress; phase = phase_connected old.progress old.phase }
+  pub new_is : new
+      ≡ record old { progress = progress_connected old.progress; phase = phase_connected old.progress old.phase }
   pub serves : (past : JoinHistory) → ClientRepresents past old → ClientRepresents past new
 
 pub record MissesPort (old : ClientState) (port : ℕ) (new : ClientState) : Type 0 where
@@ -91,7 +95,8 @@ pub record GivesFileBytes (old : ClientState) (bytes : List ℕ) (new : ClientSt
   pub some_room : 0 < room
   pub outcome : new.outcome ≡ old.outcome
   pub ended : is_ended old.outcome ≡ true → (length bytes ≡ 0) × (new ≡ old)
-  pub same : is_ended old.outcome ≡ false → turns old.outcome old.progress ≡ false → new ≡ record old { join = new.join }
+  pub same : is_ended old.outcome ≡ false → turns old.outcome old.progress ≡ false
+      → new ≡ record old { join = new.join }
   pub taken : (past : JoinHistory) → ClientRepresents past old → TakesFile old past room bytes new
 
 -- 1 to 4,096 bytes
@@ -110,8 +115,8 @@ MoveLeads c (Takes piece) e = TakesPiece c piece e × IsPiece piece
 MoveLeads c (Gives bytes) e = GivesFileBytes c bytes e
 MoveLeads c (Loses link reason) e = LosesLink c link e
 
--- **Journal** (`MovesLead`): moves one after another, the newest first. It tells what was written, read and given, which
--- ports were asked for, and whether a write failed (`bytes_written_by`, `heard_by`, `given_by`, `dialled_by`,
+-- **Journal** (`MovesLead`): moves one after another, the newest first. It tells what was written, read and given,
+-- which ports were asked for, and whether a write failed (`bytes_written_by`, `heard_by`, `given_by`, `dialled_by`,
 -- `has_write_failed`); and why nothing more was read (`HasLoss`; `loss_of`, `Inside.antt`).
 abbrev pub MovesLead : ClientState → List JobMove → ClientState → Type 0
 MovesLead first [] now = now ≡ first
@@ -150,8 +155,8 @@ dialled_by [] = []
 dialled_by (Dials port made ∷ moves) = port ∷ dialled_by moves
 dialled_by (move ∷ moves) = dialled_by moves
 
--- **told at most once (`PortsAreTold`)**: what makes the data connections is told of a frame's port right behind the request for its
--- parameters, and of none again before a data connection was asked for.
+-- **told at most once (`PortsAreTold`)**: what makes the data connections is told of a frame's port right behind the
+-- request for its parameters, and of none again before a data connection was asked for.
 --
 -- the newest move writes bytes that were to go out
 abbrev pub WritesRequest : List JobMove → Type 0

@@ -3,18 +3,19 @@ use Rattle.std.specs.Prelude.{ℕ, ◌≡◌, ◌⊎◌, ◌||◌, if◌then◌e
 use Rattle.frame_join.specs.FrameHistory.{JoinHistory}
 use Rattle.client_replies.specs.ProtocolStates.{is_batch, is_ended, scans, turns}
 use Rattle.net_client.specs.ClientStates.{ClientState, HasEarlyReply}
-use Rattle.net_jobs.specs.JobJournal.{AreGives, GivesFileBytes, HearsPiece, IsPiece, JobMove, MoveLeads, MovesLead, TakesPiece, given_by, has_write_failed}
+use Rattle.net_jobs.specs.JobJournal.{AreGives, GivesFileBytes, HearsPiece, IsPiece, JobMove, MoveLeads, MovesLead}
+use Rattle.net_jobs.specs.JobJournal.{TakesPiece, given_by, has_write_failed}
 use Rattle.net_jobs.specs.Outputs.{texts_of}
 use Rattle.net_jobs.specs.JobJournal.JobMove.{Fails, Hears, Resumes, Takes, Gives}
 
 -- **step (`JobStep`, `StepLeads`, `StepsLead`, `MovesAreSteps`)**: a move of a job, the bytes of its file that go out
--- behind it, and whether the file is a page's that ends so; what a step, or steps one after another, make of a client, with
--- nothing behind a write that failed. Behind a piece of 1 to 4,096 bytes (`IsPiece`), or where what came before its request
--- was written is looked at again, the file goes out until the client gives no bytes (`FileRunsOut`, `FileGoesOn`), or, of a
--- batch, to the last bytes of a page, with which the client turns to its next one (`PageEnds`), and behind no other move; a
--- job that has ended gives none. The files that went out: those of the pages that were turned (`files_by_steps`) and the
--- one under way (`given_by_steps`), and of which pages they are (`StepsGive`); moves that **stop within** the last that
--- came, since an output failed (`MovesStopWithin`); the moves of steps (`moves_of`).
+-- behind it, and whether the file is a page's that ends so; what a step, or steps one after another, make of a client,
+-- with nothing behind a write that failed. Behind a piece of 1 to 4,096 bytes (`IsPiece`), or where what came before
+-- its request was written is looked at again, the file goes out until the client gives no bytes (`FileRunsOut`,
+-- `FileGoesOn`), or, of a batch, to the last bytes of a page, with which the client turns to its next one (`PageEnds`),
+-- and behind no other move; a job that has ended gives none. The files that went out: those of the pages that were
+-- turned (`files_by_steps`) and the one under way (`given_by_steps`), and of which pages they are (`StepsGive`); moves
+-- that **stop within** the last that came, since an output failed (`MovesStopWithin`); the moves of steps (`moves_of`).
 pub record JobStep : Type 0 where
   pub move : JobMove
   pub gives : List JobMove
@@ -106,7 +107,8 @@ has_failed (step ∷ steps) = is_failed_write step.move || has_failed steps
 -- steps one after another, the newest first; nothing is done behind a write that failed
 abbrev pub StepsLead : ClientState → List JobStep → ClientState → Type 0
 StepsLead first [] last = last ≡ first
-StepsLead first (step ∷ steps) last = (mid : ClientState) × StepsLead first steps mid × (has_failed steps ≡ false) × StepLeads mid step last
+StepsLead first (step ∷ steps) last = (mid : ClientState) × StepsLead first steps mid × (has_failed steps ≡ false)
+    × StepLeads mid step last
 
 -- the bytes that went out of the file under way
 abbrev pub given_by_steps : List JobStep → List ℕ
@@ -116,7 +118,9 @@ given_by_steps (step ∷ steps) = if step.turned then [] else given_by_steps ste
 -- the files of the pages that were turned, in their order
 abbrev pub files_by_steps : List JobStep → List (List ℕ)
 files_by_steps [] = []
-files_by_steps (step ∷ steps) = if step.turned then files_by_steps steps ++ (given_by_steps steps ++ given_by step.gives) ∷ [] else files_by_steps steps
+files_by_steps (step ∷ steps) =
+    if step.turned then files_by_steps steps ++ (given_by_steps steps ++ given_by step.gives) ∷ []
+    else files_by_steps steps
 
 -- the files of these pages, and the bytes of the one under way
 pub record StepsGive (steps : List JobStep) (pages : List JoinHistory) (text : List ℕ) : Type 0 where

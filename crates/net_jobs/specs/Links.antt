@@ -25,7 +25,8 @@ pub record LinkViews (L : Type 0) : Type 0 where
   pub contents : L → Option (List ℕ)
   pub ports : L → PortsTold
 
-abbrev pub views_of : {C D : Type 0} → (C → Option (List ℕ)) → (C → Option (List ℕ)) → (D → Option (List ℕ)) → (D → Option (List ℕ)) → LinkViews (JobLinks C D)
+abbrev pub views_of : {C D : Type 0} → (C → Option (List ℕ)) → (C → Option (List ℕ)) → (D → Option (List ℕ))
+    → (D → Option (List ℕ)) → LinkViews (JobLinks C D)
 views_of remaining contents ports prepared = record {
   remaining = λ l. remaining l.control;
   contents = λ l. contents l.control;
@@ -45,17 +46,24 @@ abbrev pub IsTold : Option ℕ → Option (List ℕ) → Option (List ℕ) → T
 IsTold None was now = now ≡ was
 IsTold (Some port) was now = IsPrepared port was now
 
--- What a move makes of the links. (That a read leaves what was written, or a write what is to be read, is in no clause of a
--- stream's traits, so this goes call by call.)
+-- What a move makes of the links. (That a read leaves what was written, or a write what is to be read, is in no clause
+-- of a stream's traits, so this goes call by call.)
 abbrev pub Called : {L : Type 0} → LinkViews L → L → JobMove → L → Type 0
-Called views was (Writes bytes) now = Appends (views.contents was) (views.contents now) bytes × (views.ports now ≡ views.ports was)
-Called views was (Fails bytes) now = Appends (views.contents was) (views.contents now) bytes × (views.ports now ≡ views.ports was)
-Called views was (Hears piece) now = Consumes (views.remaining was) (views.remaining now) piece × (views.ports now ≡ views.ports was)
-Called views was (Loses link reason) now = Consumes (views.remaining was) (views.remaining now) [] × (views.ports now ≡ views.ports was)
+Called views was (Writes bytes) now = Appends (views.contents was) (views.contents now) bytes
+    × (views.ports now ≡ views.ports was)
+Called views was (Fails bytes) now = Appends (views.contents was) (views.contents now) bytes
+    × (views.ports now ≡ views.ports was)
+Called views was (Hears piece) now = Consumes (views.remaining was) (views.remaining now) piece
+    × (views.ports now ≡ views.ports was)
+Called views was (Loses link reason) now = Consumes (views.remaining was) (views.remaining now) []
+    × (views.ports now ≡ views.ports was)
 Called views was (Prepares port) now =
-    (views.remaining now ≡ views.remaining was) × (views.contents now ≡ views.contents was) × ((views.ports now).asked ≡ (views.ports was).asked) × IsPrepared port (views.ports was).prepared (views.ports now).prepared
+    (views.remaining now ≡ views.remaining was) × (views.contents now ≡ views.contents was)
+    × ((views.ports now).asked ≡ (views.ports was).asked)
+    × IsPrepared port (views.ports was).prepared (views.ports now).prepared
 Called views was (Dials port made) now =
-    (views.remaining now ≡ views.remaining was) × (views.contents now ≡ views.contents was) × (views.ports now ≡ record (views.ports was) { asked = with_port port (views.ports was).asked })
+    (views.remaining now ≡ views.remaining was) × (views.contents now ≡ views.contents was)
+    × (views.ports now ≡ record (views.ports was) { asked = with_port port (views.ports was).asked })
 Called views was move now = now ≡ was
 
 -- what a journal makes of them

@@ -22,7 +22,8 @@ use Rattle.scan_job.specs.declared.outcome.Outcome.TheVariants.{Done, Ended}
 use Rattle.scan_job.specs.declared.outcome.Why.TheVariants as whys
 use Rattle.scan_job.specs.declared.report.Reports.{Reports}
 use Rattle.scan_job.specs.declared.stop.Stop.{Stop}
-use Rattle.net_jobs.specs.JobJournal.{JobMove, MovesLead, PortsAreTold, bytes_written_by, heard_by, given_by, dialled_by, has_write_failed, HasLoss}
+use Rattle.net_jobs.specs.JobJournal.{JobMove, MovesLead, PortsAreTold, bytes_written_by, heard_by, given_by}
+use Rattle.net_jobs.specs.JobJournal.{dialled_by, has_write_failed, HasLoss}
 use Rattle.net_jobs.specs.JobSteps.{MovesAreSteps, MovesStopWithin, given_by_steps}
 use Rattle.net_jobs.specs.JobTraces.{JobTrace, BytesMatchTrace, EndWell, ports_named}
 use Rattle.net_jobs.specs.Links.{JobLinks, LinkViews, Calls, HasBrought, BeginWith}
@@ -38,13 +39,15 @@ pub record JobStreams (C D W : Type 0) : Type 0 where
 abbrev pub streams : {C D W : Type 0} → C → D → W → JobStreams C D W
 streams control dial output = record { control = control; dial = dial; output = output }
 
--- What is seen of them: the links call by call, the bytes of the data connections that are to come, and what the output holds.
+-- What is seen of them: the links call by call, the bytes of the data connections that are to come, and what the output
+-- holds.
 pub record SeenStreams (L O : Type 0) : Type 0 where
   pub links : L
   pub coming : Option (List (List ℕ))
   pub output : O
 
-abbrev pub seen : {C D W O : Type 0} → (D → Option (List (List ℕ))) → (W → O) → JobStreams C D W → SeenStreams (JobLinks C D) O
+abbrev pub seen : {C D W O : Type 0} → (D → Option (List (List ℕ))) → (W → O) → JobStreams C D W
+    → SeenStreams (JobLinks C D) O
 seen coming holds s = record {
   links = record { control = s.control; dial = s.dial };
   coming = coming s.dial;
@@ -53,15 +56,16 @@ seen coming holds s = record {
 
 -- ---- what a job did
 
--- **Asked for** (`AreAskedFor`): the ports that were asked for are those that START replies named, in their order, but for
--- the last where the job ended before its frame's connection was asked for.
+-- **Asked for** (`AreAskedFor`): the ports that were asked for are those that START replies named, in their order, but
+-- for the last where the job ended before its frame's connection was asked for.
 abbrev pub AreAskedFor : List ℕ → List ℕ → Type 0
 AreAskedFor asked named = (named ≡ asked) ⊎ ((port : ℕ) × (named ≡ port ∷ asked))
 
--- What a job did over its streams: its moves, from the new client on, by the client's own contracts; the replies that it read
--- by them, and what it wrote for them; the ports that were told beforehand, each right behind the request for the parameters of its
--- frame, and at most once; the ports of its data connections, which are those of its START replies; and these
--- connections, each of which began with a frame's records but for one that was let go within its frame.
+-- What a job did over its streams: its moves, from the new client on, by the client's own contracts; the replies that
+-- it read by them, and what it wrote for them; the ports that were told beforehand, each right behind the request for
+-- the parameters of its frame, and at most once; the ports of its data connections, which are those of its START
+-- replies; and these connections, each of which began with a frame's records but for one that was let go within its
+-- frame.
 pub record RanWithTrace {L O : Type 0} (views : LinkViews L) (job : Job) (was now : SeenStreams L O) : Type 0 where
   pub moves : List JobMove
   pub first : ClientState
@@ -73,7 +77,8 @@ pub record RanWithTrace {L O : Type 0} (views : LinkViews L) (job : Job) (was no
   pub left : List ℕ
   pub trace : JobTrace
   pub calls : Calls views was.links moves now.links
-  pub did : BytesMatchTrace job trace (record { read_ = heard_by moves; wrote = bytes_written_by moves; rest = rest; left = left })
+  pub did : BytesMatchTrace job trace
+      (record { read_ = heard_by moves; wrote = bytes_written_by moves; rest = rest; left = left })
   pub asked : AreAskedFor (dialled_by moves) (ports_named did.events)
   pub wholes : List (List ℕ)
   pub unread : List (List ℕ)
@@ -83,11 +88,12 @@ pub record RanWithTrace {L O : Type 0} (views : LinkViews L) (job : Job) (was no
 
 -- **Ran, done, ended, refused**: what `run_job` promises, as [PROMISES.md](PROMISES.md#net_jobs) has it.
 --
--- The job is done, as the client's rules have it for these replies and frames. All was written, with CLOSE and EXIT, unless a
--- write failed; each data connection began with its frame's records, which ended with EOF; and the output took the file of the
--- picture that the frames show, or nothing, where the job is no scan. Each piece that came was followed by the bytes of the file
--- that it brought.
-pub record RanDone {L : Type 0} (views : LinkViews L) (job : Job) (was now : SeenStreams L (Option (List ℕ))) (reports : Reports) : Type 0 where
+-- The job is done, as the client's rules have it for these replies and frames. All was written, with CLOSE and EXIT,
+-- unless a write failed; each data connection began with its frame's records, which ended with EOF; and the output took
+-- the file of the picture that the frames show, or nothing, where the job is no scan. Each piece that came was followed
+-- by the bytes of the file that it brought.
+pub record RanDone {L : Type 0} (views : LinkViews L) (job : Job) (was now : SeenStreams L (Option (List ℕ)))
+    (reports : Reports) : Type 0 where
   pub single : is_batch job.task ≡ false
   pub ran : RanWithTrace views job was now
   pub told : ran.trace.protocol.outcome ≡ Done reports
@@ -103,28 +109,36 @@ pub record RanDone {L : Type 0} (views : LinkViews L) (job : Job) (was now : See
   pub file : job.task ≡ tasks.Scan → (p : Picture) × ShowsFrames ran.trace.protocol.history.ended p × Denotes text p
   pub none : job.task ≢ tasks.Scan → text ≡ []
 
--- What ends a job that is in that trace, apart from its replies and the ends of its frames: a connection that was lost, want of
--- memory, bytes that begin no reply to what is waited for, or more bytes of a frame than it was to have.
+-- What ends a job that is in that trace, apart from its replies and the ends of its frames: a connection that was lost,
+-- want of memory, bytes that begin no reply to what is waited for, or more bytes of a frame than it was to have.
 pub data EndsBy (moves : List JobMove) (protocol : ProtocolState) (rest : List ℕ) (outcome : Outcome) : Type 0 where
   ByLoss : HasLoss moves → outcome ≡ Ended statuses.IoError whys.Lost → EndsBy moves protocol rest outcome
   ByMemory : outcome ≡ Ended statuses.NoMem whys.Memory → EndsBy moves protocol rest outcome
-  ByGarble : (procedure : Procedure) → awaited_procedure protocol.progress ≡ Some procedure → IsNoStart message_limit (reply procedure) rest → outcome ≡ Ended statuses.IoError whys.Malformed → EndsBy moves protocol rest outcome
-  ByLength : (frame : Frame) (bytes : List ℕ) → protocol.history.under ≡ Some frame → most_bytes frame.params < length frame.payload + length bytes
+  ByGarble : (procedure : Procedure) → awaited_procedure protocol.progress ≡ Some procedure
+      → IsNoStart message_limit (reply procedure) rest → outcome ≡ Ended statuses.IoError whys.Malformed
+      → EndsBy moves protocol rest outcome
+  ByLength : (frame : Frame) (bytes : List ℕ) → protocol.history.under ≡ Some frame
+      → most_bytes frame.params < length frame.payload + length bytes
       → outcome ≡ Ended statuses.IoError whys.Long → EndsBy moves protocol rest outcome
 
--- by a reply or a frame's end, as the client's rules have it, by another cause, or since an output did not take its file
+-- by a reply or a frame's end, as the client's rules have it, by another cause, or since an output did not take its
+-- file
 abbrev pub HasEndingCause : List JobMove → ProtocolState → List ℕ → Outcome → Type 0
-HasEndingCause moves protocol rest outcome = (protocol.outcome ≡ outcome) ⊎ (EndsBy moves protocol rest outcome ⊎ (outcome ≡ Ended statuses.IoError whys.Sink))
+HasEndingCause moves protocol rest outcome = (protocol.outcome ≡ outcome)
+    ⊎ (EndsBy moves protocol rest outcome ⊎ (outcome ≡ Ended statuses.IoError whys.Sink))
 
 -- the client's last outcome is told; or it was done, and there was no memory for what is told; or an output failed
 abbrev pub IsToldAs : Outcome → Outcome → Type 0
 IsToldAs last told =
-    (last ≡ told) ⊎ (((reports : Reports) × (last ≡ Done reports) × (told ≡ Ended statuses.NoMem whys.Memory)) ⊎ (told ≡ Ended statuses.IoError whys.Sink))
+    (last ≡ told)
+    ⊎ (((reports : Reports) × (last ≡ Done reports) × (told ≡ Ended statuses.NoMem whys.Memory))
+    ⊎ (told ≡ Ended statuses.IoError whys.Sink))
 
--- The job has ended otherwise, with a cause. All that was to go out was written, unless a write failed, or the output did. The
--- output took what was given, or where it failed bytes more, and no whole file. Where it is told as the client ended, each piece
--- that came was followed by the bytes of the file that it brought.
-pub record RanEnded {L : Type 0} (views : LinkViews L) (job : Job) (was now : SeenStreams L (Option (List ℕ))) (stop : Stop) : Type 0 where
+-- The job has ended otherwise, with a cause. All that was to go out was written, unless a write failed, or the output
+-- did. The output took what was given, or where it failed bytes more, and no whole file. Where it is told as the client
+-- ended, each piece that came was followed by the bytes of the file that it brought.
+pub record RanEnded {L : Type 0} (views : LinkViews L) (job : Job) (was now : SeenStreams L (Option (List ℕ)))
+    (stop : Stop) : Type 0 where
   pub single : is_batch job.task ≡ false
   pub ran : RanWithTrace views job was now
   pub cause : HasEndingCause ran.moves ran.trace.protocol ran.rest (Ended stop.status stop.why)
@@ -136,8 +150,10 @@ pub record RanEnded {L : Type 0} (views : LinkViews L) (job : Job) (was now : Se
   pub behind : List ℕ
   pub gave : text ≡ given_by ran.moves ++ behind
   pub none_behind : stop.why ≢ whys.Sink → behind ≡ []
-  pub steps : ran.last.outcome ≡ Ended stop.status stop.why → (s : MovesAreSteps ran.first ran.moves ran.last) × (text ≡ given_by_steps s.steps)
-  pub sunk : stop.why ≡ whys.Sink → (ran.last.outcome ≡ Ended stop.status stop.why → ⊥) → MovesStopWithin ran.first ran.moves ran.last
+  pub steps : ran.last.outcome ≡ Ended stop.status stop.why
+      → (s : MovesAreSteps ran.first ran.moves ran.last) × (text ≡ given_by_steps s.steps)
+  pub sunk : stop.why ≡ whys.Sink → (ran.last.outcome ≡ Ended stop.status stop.why → ⊥)
+      → MovesStopWithin ran.first ran.moves ran.last
   pub not_whole : IsWhole text → ⊥
 
 abbrev pub refused_as : JobFault → Outcome
@@ -150,7 +166,8 @@ refused_as BadCount = Ended statuses.Inval whys.Setting
 abbrev pub IsRefused : Job → Outcome → Type 0
 IsRefused job outcome =
     ((is_batch job.task ≡ true) × (outcome ≡ Ended statuses.Inval whys.Setting))
-    ⊎ (((fault : JobFault) × HasJobFault job (Some fault) × (outcome ≡ refused_as fault)) ⊎ (outcome ≡ Ended statuses.NoMem whys.Memory))
+    ⊎ (((fault : JobFault) × HasJobFault job (Some fault) × (outcome ≡ refused_as fault))
+    ⊎ (outcome ≡ Ended statuses.NoMem whys.Memory))
 
 -- a job that is refused touches no stream
 pub record RefusesJob {C D W : Type 0} (job : Job) (outcome : Outcome) (was now : JobStreams C D W) : Type 0 where

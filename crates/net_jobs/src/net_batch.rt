@@ -328,6 +328,9 @@ where
 /// Does a job over a control connection, the data connections that are dialed, and the outputs of its files. An output is
 /// asked for at a file's first byte, and given back after its last or as the job ends; where one is refused the job ends as
 /// `output`, unless it has ended otherwise. The connections are read as `run_job` reads them.
+///
+/// As of `run_job`, that a batch ends for its output only where one failed is promised by `run_batch_with`, which it calls
+/// with a new tally.
 pub fn run_batch<C: Read + Write, D: Dial, S: Shelf>(
     alloc: Global,
     job: Job,

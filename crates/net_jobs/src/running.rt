@@ -621,6 +621,9 @@ where
 /// Does a job over a control connection, the data connections that are dialed, and an output, which is not flushed. A
 /// connection that fails, ends or takes nothing of a write is lost, and so is one after 2^40 reads, among which an
 /// interrupted call counts that is made again. A batch, which has more than one file, is refused.
+///
+/// No clause on a `Write` tells a write that failed from none, and this call keeps its tally to itself: that a job ends for
+/// its output only behind a failed write is promised by `run_job_with`, which it calls with a new tally.
 pub fn run_job<C: Read + Write, D: Dial, W: Write>(
     alloc: Global,
     job: Job,

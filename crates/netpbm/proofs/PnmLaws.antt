@@ -2,7 +2,7 @@
 use Rattle.std.proofs.Common.{◌≡◌, ℕ, ◌<◌, List, [], ◌∷◌, ◌++◌, length, arith, refl, sym, ap, ◌∙◌, append_assoc, subst, length-append}
 use Rattle.std.proofs.lemmas.Option.{some_pair_parts}
 use Rattle.netpbm.specs.declared.format.Header.{Header}
-use Rattle.netpbm.specs.Picture.{Picture, IsPlace, SamePicture}
+use Rattle.netpbm.specs.Picture.{Picture, SamePicture}
 use Rattle.netpbm.specs.Pnm.{Begins, Denotes, IsWhole, Shows, raster_length}
 use Rattle.netpbm.proofs.HeaderLaws.{header_at-begins}
 
@@ -48,32 +48,3 @@ no_prefix front more a b =
     empty : (l : List ℕ) → length l ≡ 0 → l ≡ []
     empty [] e = refl
     empty (x ∷ xs) e = absurd (let h : length (x ∷ xs) ≡ 0 = e in omega arith)
-
--- ---- a text denotes whatever shows the same as a picture that it denotes
-
-pub moved_place : (p q : Picture) (x y k : ℕ) → SamePicture p q → IsPlace q x y k → IsPlace p x y k
-moved_place p q x y k same place = record {
-  column = subst (λ (n : ℕ). x < n) (sym same.width) place.column;
-  row = subst (λ (n : ℕ). y < n) (sym same.height) place.row;
-  channel = subst (λ (n : ℕ). k < n) (sym same.channels) place.channel;
-}
-
-pub denotes_same : (text : List ℕ) (p q : Picture) → SamePicture p q → Denotes text p → Denotes text q
-denotes_same text p q same d = record {
-  header = d.header;
-  raster = d.raster;
-  begins = d.begins;
-  shows = record {
-    size = d.shows.size;
-    width = sym same.width ∙ d.shows.width;
-    height = sym same.height ∙ d.shows.height;
-    channels = sym same.channels ∙ d.shows.channels;
-    greatest = sym same.greatest ∙ d.shows.greatest;
-    samples = λ x y k place. sym (same.samples x y k (moved_place p q x y k same place)) ∙ d.shows.samples x y k (moved_place p q x y k same place);
-    in_range = λ x y k place.
-        let low = d.shows.in_range x y k (moved_place p q x y k same place) in
-        let e = same.samples x y k (moved_place p q x y k same place) in
-        let g = same.greatest in
-        omega arith;
-  };
-}

@@ -1,5 +1,6 @@
 -- The text that the writer gives for a picture.
-use Rattle.std.specs.Prelude.{ℕ, zero, suc, ◌+◌, ◌*◌, ◌/◌, ◌%◌, ◌≡◌, ◌≤◌, nat_lt, if◌then◌else◌, List, [], ◌∷◌, ◌++◌, codes, decimal}
+use Rattle.std.specs.Prelude.{ℕ, zero, suc, ◌+◌, ◌*◌, ◌/◌, ◌%◌, ◌≡◌, ◌≤◌, nat_lt, if◌then◌else◌, List, [], ◌∷◌, ◌++◌}
+use Rattle.std.specs.Prelude.{codes, decimal}
 use Rattle.netpbm.specs.declared.format.PnmFormat.{PnmFormat}
 use Rattle.netpbm.specs.declared.format.PnmFormat.TheVariants.{Pbm, Pgm, Ppm}
 use Rattle.netpbm.specs.declared.format.Header.{Header}
@@ -18,7 +19,10 @@ maxval_text Ppm m = decimal m ++ 10 ∷ []
 
 -- the header, with a comment in its second line
 abbrev pub header_text : Header → List ℕ
-header_text h = magic h.format ++ (10 ∷ codes "# SANE data follows" ++ (10 ∷ decimal h.width ++ (32 ∷ decimal h.height ++ (10 ∷ maxval_text h.format h.maxval))))
+header_text h =
+    magic h.format
+    ++ (10 ∷ codes "# SANE data follows"
+    ++ (10 ∷ decimal h.width ++ (32 ∷ decimal h.height ++ (10 ∷ maxval_text h.format h.maxval))))
 
 -- one byte, or two, the more significant first
 abbrev pub sample_text : ℕ → ℕ → List ℕ
@@ -31,7 +35,8 @@ binary f (suc n) = 2 * binary f n + f n
 
 -- the samples of one row, `at x k` in column x and each of the channels k
 abbrev pub samples_text : ℕ → ℕ → ℕ → (ℕ → ℕ → ℕ) → List ℕ
-samples_text channels maxval width at = concat_up_to (λ x. concat_up_to (λ k. sample_text maxval (at x k)) channels) width
+samples_text channels maxval width at =
+    concat_up_to (λ x. concat_up_to (λ k. sample_text maxval (at x k)) channels) width
 
 -- the byte of the eight bits from column 8 * b on, the leftmost as the most significant, with 0 past the row's end
 abbrev pub bits_byte : ℕ → (ℕ → ℕ) → ℕ → ℕ
@@ -46,8 +51,8 @@ row_text Ppm maxval width at = samples_text 3 maxval width at
 abbrev pub raster_text : Header → (ℕ → ℕ → ℕ → ℕ) → List ℕ
 raster_text h at = concat_up_to (λ y. row_text h.format h.maxval h.width (λ x k. at x y k)) h.height
 
--- **the writer's text (`file_text`)**: of the texts that denote a picture the one that we write: the comment line `# SANE
--- data follows` after the magic, and filling bits 0.
+-- **the writer's text (`file_text`)**: of the texts that denote a picture the one that we write: the comment line `#
+-- SANE data follows` after the magic, and filling bits 0.
 abbrev pub file_text : Header → (ℕ → ℕ → ℕ → ℕ) → List ℕ
 file_text h at = header_text h ++ raster_text h at
 

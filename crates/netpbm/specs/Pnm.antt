@@ -1,14 +1,16 @@
 -- The grammar of a Netpbm file, by cases on its bytes, and the picture that a text denotes.
-use Rattle.std.specs.Prelude.{ℕ, ◌+◌, ◌-◌, ◌*◌, ◌/◌, ◌%◌, ◌^◌, ◌≤◌, ◌≡◌, Bool, true, false, ◌||◌, ◌==◌, nat_lt, if◌then◌else◌, IsTrue, List, [], ◌∷◌, ◌++◌, length, slice_index}
+use Rattle.std.specs.Prelude.{ℕ, ◌+◌, ◌-◌, ◌*◌, ◌/◌, ◌%◌, ◌^◌, ◌≤◌, ◌≡◌, Bool, true, false, ◌||◌, ◌==◌, nat_lt}
+use Rattle.std.specs.Prelude.{if◌then◌else◌, IsTrue, List, [], ◌∷◌, ◌++◌, length, slice_index}
 use Rattle.std.specs.Str.Parse.{digits_value, AllDigits}
 use Rattle.netpbm.specs.Picture.{Picture, IsPlace}
 use Rattle.netpbm.specs.declared.format.PnmFormat.{PnmFormat}
 use Rattle.netpbm.specs.declared.format.PnmFormat.TheVariants.{Pbm, Pgm, Ppm}
 use Rattle.netpbm.specs.declared.format.Header.{Header}
 
--- **white space, comment, gap, number, field**: white space is one of the bytes 20, 09, 0A, 0D, 0B, 0C (hexadecimal; the
--- last two are a leniency of ours). A comment is `#`, bytes other than 0A and 0D, and one of these. A gap is a white space
--- byte, then any number of white space bytes and comments. A number is 1 to 10 digits; a field is a gap and a number.
+-- **white space, comment, gap, number, field**: white space is one of the bytes 20, 09, 0A, 0D, 0B, 0C (hexadecimal;
+-- the last two are a leniency of ours). A comment is `#`, bytes other than 0A and 0D, and one of these. A gap is a
+-- white space byte, then any number of white space bytes and comments. A number is 1 to 10 digits; a field is a gap and
+-- a number.
 --
 -- space, tab, line feed, carriage return, vertical tab, form feed
 abbrev pub is_white : ℕ → Bool
@@ -27,7 +29,8 @@ NoneEnds (b ∷ bytes) = (ends_comment b ≡ false) × NoneEnds bytes
 pub data IsFiller : List ℕ → Type 0 where
   nothing : IsFiller []
   white : (b : ℕ) (more : List ℕ) → is_white b ≡ true → IsFiller more → IsFiller (b ∷ more)
-  comment : (inside : List ℕ) (last : ℕ) (more : List ℕ) → NoneEnds inside → ends_comment last ≡ true → IsFiller more → IsFiller (35 ∷ (inside ++ (last ∷ more)))
+  comment : (inside : List ℕ) (last : ℕ) (more : List ℕ) → NoneEnds inside → ends_comment last ≡ true → IsFiller more
+      → IsFiller (35 ∷ (inside ++ (last ∷ more)))
 
 -- what stands before a number: a white space byte, and then any number of them and of comments
 pub record IsGap (bytes : List ℕ) : Type 0 where
@@ -64,8 +67,8 @@ IsMaxval Pbm bytes m = (bytes ≡ []) × (m ≡ 1)
 IsMaxval Pgm bytes m = IsField bytes m × (1 ≤ m) × (m ≤ 65535)
 IsMaxval Ppm bytes m = IsField bytes m × (1 ≤ m) × (m ≤ 65535)
 
--- **header (`IsHeader`)**: `P4`, `P5` or `P6`, a field for the width, one for the height, but for `P4` one for the greatest
--- value, and one white space byte. Sides are 1 to 65,536, the greatest value 1 to 65,535.
+-- **header (`IsHeader`)**: `P4`, `P5` or `P6`, a field for the width, one for the height, but for `P4` one for the
+-- greatest value, and one white space byte. Sides are 1 to 65,536, the greatest value 1 to 65,535.
 --
 -- the bytes before the raster, up to the one white space byte that ends them
 pub record IsHeader (head : List ℕ) (h : Header) : Type 0 where
@@ -132,15 +135,15 @@ pub record Begins (text : List ℕ) (h : Header) (raster : List ℕ) : Type 0 wh
 
 -- **denotes (`Denotes`)**: the whole text is a header and a raster of exactly the bytes that it tells of, with nothing
 -- after it, that shows the picture: `P4` rows of bits filled to whole bytes, the leftmost the most significant, filling
--- ignored; else one byte a sample below a greatest value of 256, two from there on, the more significant first; no sample
--- above the greatest value.
+-- ignored; else one byte a sample below a greatest value of 256, two from there on, the more significant first; no
+-- sample above the greatest value.
 pub record Denotes (text : List ℕ) (p : Picture) : Type 0 where
   pub header : Header
   pub raster : List ℕ
   pub begins : Begins text header raster
   pub shows : Shows header raster p
 
--- **whole (`IsWhole`)**: a text that denotes some picture. Two laws are proved: a text denotes at most one picture, and no
--- proper prefix of a whole text is whole.
+-- **whole (`IsWhole`)**: a text that denotes some picture. Two laws are proved: a text denotes at most one picture, and
+-- no proper prefix of a whole text is whole.
 abbrev pub IsWhole : List ℕ → Type 0
 IsWhole text = (p : Picture) × Denotes text p

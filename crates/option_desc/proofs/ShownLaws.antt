@@ -115,9 +115,6 @@ pub record ShownBelow (k : Kind) (words : List ℤ) (i : ℕ) (text : List ℕ) 
 pub ShownBelow-none : (k : Kind) (words : List ℤ) → ShownBelow k words 0 []
 ShownBelow-none k words = record { joined = refl; held = All-nil (FitsSigned w32); clean = IsText-none }
 
-join-one : (c : ℕ) (x : List ℕ) → join_with_byte c ([] ++ x ∷ []) ≡ x
-join-one c x = refl
-
 join-more : (c : ℕ) (y : List ℕ) (ys : List (List ℕ)) (x : List ℕ) → join_with_byte c ((y ∷ ys) ++ x ∷ []) ≡ join_with_byte c (y ∷ ys) ++ c ∷ x
 join-more c y [] x = refl
 join-more c y (z ∷ ys) x = ap (λ l. y ++ (c ∷ l)) (join-more c z ys x) ∙ sym (append_assoc y (c ∷ join_with_byte c (z ∷ ys)) (c ∷ x))

@@ -15,13 +15,14 @@ HasRoomFor Free size text = length text + 1 ≤ size
 HasRoomFor (Span _) size text = length text + 1 ≤ size
 HasRoomFor (WordsOf _) size text = length text + 1 ≤ size
 
--- **fits (`Fits`)**: the kind agrees, a vector has as many words as the option's size says, and a text that no list binds
--- has room for its NUL.
+-- **fits (`Fits`)**: the kind agrees, a vector has as many words as the option's size says, and a text that no list
+-- binds has room for its NUL.
 abbrev pub Fits : Descriptor → Value → Type 0
 Fits desc (Flag _) = (desc.kind ≡ kind.Bool) × (desc.size / 4 ≡ 1)
 Fits desc (Int _) = (desc.kind ≡ kind.Int) × (desc.size ≡ 4)
 Fits desc (Fixed _) = (desc.kind ≡ kind.Fixed) × (desc.size ≡ 4)
-Fits desc (Words words) = ((desc.kind ≡ kind.Int) ⊎ (desc.kind ≡ kind.Fixed)) × (4 < desc.size) × (length words ≡ desc.size / 4)
+Fits desc (Words words) = ((desc.kind ≡ kind.Int) ⊎ (desc.kind ≡ kind.Fixed)) × (4 < desc.size)
+    × (length words ≡ desc.size / 4)
 Fits desc (Text text) = (desc.kind ≡ kind.String) × HasRoomFor desc.constraint desc.size text
 
 -- the same as tests

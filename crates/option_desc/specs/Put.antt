@@ -1,5 +1,6 @@
 -- The value that is put where one is asked for: the nearest admitted one.
-use Rattle.std.specs.Prelude.{◌≡◌, ℤ, ℕ, if◌then◌else◌, Option, Some, None, option_map, option_and_then, List, map, slice_get}
+use Rattle.std.specs.Prelude.{◌≡◌, ℤ, ℕ, if◌then◌else◌, Option, Some, None, option_map, option_and_then, List, map}
+use Rattle.std.specs.Prelude.{slice_get}
 use Rattle.constraint.specs.Nearest.{NearestInRange, NearestInList, NearestEntry, PlaceByPlace}
 use Rattle.constraint.specs.NearestComputed.{nearest_in_range, nearest_in_list, nearest_entry}
 use Rattle.option_desc.specs.declared.descriptor.Constraint.{Constraint}
@@ -21,18 +22,21 @@ abbrev pub NearestText : Constraint → List ℕ → List ℕ → Type 0
 NearestText Free asked text = text ≡ asked
 NearestText (Span _) asked text = text ≡ asked
 NearestText (WordsOf _) asked text = text ≡ asked
-NearestText (Strings entries) asked text = (place : ℕ) × NearestEntry entries asked place × (slice_get entries place ≡ Some text)
+NearestText (Strings entries) asked text = (place : ℕ) × NearestEntry entries asked place
+    × (slice_get entries place ≡ Some text)
 
 -- a flag is put as it is, words each to the nearest one, a text to the entry that it is matched with
 abbrev pub NearestValue : Constraint → Value → Value → Type 0
 NearestValue constraint (Flag flag) given = given ≡ Flag flag
 NearestValue constraint (Int asked) given = (word : ℤ) × NearestWord constraint asked word × (given ≡ Int word)
-NearestValue constraint (Fixed asked) given = (word : ℤ) × NearestWord constraint asked.0 word × (given ≡ Fixed (record { 0 = word }))
-NearestValue constraint (Words asked) given = (words : List ℤ) × PlaceByPlace (NearestWord constraint) asked words × (given ≡ Words words)
+NearestValue constraint (Fixed asked) given = (word : ℤ) × NearestWord constraint asked.0 word
+    × (given ≡ Fixed (record { 0 = word }))
+NearestValue constraint (Words asked) given = (words : List ℤ) × PlaceByPlace (NearestWord constraint) asked words
+    × (given ≡ Words words)
 NearestValue constraint (Text asked) given = (text : List ℕ) × NearestText constraint asked text × (given ≡ Text text)
 
--- **puts (`Puts`, `resolve`)**: the value asked for fits, and the value given is the nearest admitted one, a vector place
--- by place; a constraint of another kind than the value binds nothing.
+-- **puts (`Puts`, `resolve`)**: the value asked for fits, and the value given is the nearest admitted one, a vector
+-- place by place; a constraint of another kind than the value binds nothing.
 pub record Puts (desc : Descriptor) (asked given : Value) : Type 0 where
   pub fits : Fits desc asked
   pub nearest : NearestValue desc.constraint asked given

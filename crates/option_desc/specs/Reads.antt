@@ -1,5 +1,6 @@
 -- The texts of an option's values.
-use Rattle.std.specs.Prelude.{◌≡◌, ◌<◌, ◌≤◌, ◌==◌, ◌&&◌, ℕ, ℤ, Bool, true, false, nat_lt, nat_le, if◌then◌else◌, Option, Some, None, option_map, option_and_then, List, [], ◌∷◌, ◌++◌, length, codes}
+use Rattle.std.specs.Prelude.{◌≡◌, ◌<◌, ◌≤◌, ◌==◌, ◌&&◌, ℕ, ℤ, Bool, true, false, nat_lt, nat_le, if◌then◌else◌, Option}
+use Rattle.std.specs.Prelude.{Some, None, option_map, option_and_then, List, [], ◌∷◌, ◌++◌, length, codes}
 use Rattle.std.specs.List.{slice_split, join_with_byte, list_any}
 use Rattle.std.specs.Str.{bytes_eq}
 use Rattle.std.specs.Str.Parse.{AllDigits, digits_value}
@@ -43,8 +44,8 @@ pub record SpellsWords (k : Kind) (text : List ℕ) (words : List ℤ) : Type 0 
   pub some : 1 ≤ length pieces
   pub each : SpellsEach k pieces words
 
--- **reads (`ReadsAsValue`, `read_value`)**: `yes` and `no` for a flag; an optional `-` and 1 to 10 digits for an integer; a
--- decimal text for a fixed number; numbers joined by commas for a vector; any text for a string.
+-- **reads (`ReadsAsValue`, `read_value`)**: `yes` and `no` for a flag; an optional `-` and 1 to 10 digits for an
+-- integer; a decimal text for a fixed number; numbers joined by commas for a vector; any text for a string.
 --
 -- the text reads as that value of the option; how many words there may be is a matter of what fits
 abbrev pub ReadsAsValue : Descriptor → List ℕ → Value → Type 0
@@ -58,12 +59,15 @@ ReadsAsValue desc text (Text own) = (desc.kind ≡ kind.String) × (own ≡ text
 -- The same by computing, for definitions that go on from it; the laws say that both agree.
 
 abbrev pub flag_of : List ℕ → Option Value
-flag_of text = if bytes_eq text (codes "yes") then Some (Flag true) else (if bytes_eq text (codes "no") then Some (Flag false) else None)
+flag_of text =
+    if bytes_eq text (codes "yes") then Some (Flag true)
+    else (if bytes_eq text (codes "no") then Some (Flag false) else None)
 
 -- the digits after a sign, if these are 1 to 10
 unfoldable pub integer_of : List ℕ → Option ℤ
 integer_of text =
-    if (digit_count (sign_at text).1 == length (sign_at text).1) && (nat_le 1 (length (sign_at text).1) && nat_le (length (sign_at text).1) 10)
+    if (digit_count (sign_at text).1 == length (sign_at text).1)
+    && (nat_le 1 (length (sign_at text).1) && nat_le (length (sign_at text).1) 10)
     then word_of (sign_at text).0 (digits_value 10 (sign_at text).1)
     else None
 
@@ -74,7 +78,8 @@ word_in _ text = None
 
 abbrev pub words_in : Kind → List (List ℕ) → Option (List ℤ)
 words_in k [] = Some []
-words_in k (piece ∷ pieces) = option_and_then (λ word. option_map (λ words. word ∷ words) (words_in k pieces)) (word_in k piece)
+words_in k (piece ∷ pieces) =
+    option_and_then (λ word. option_map (λ words. word ∷ words) (words_in k pieces)) (word_in k piece)
 
 -- the texts between the commas
 abbrev pub pieces_of : List ℕ → List (List ℕ)

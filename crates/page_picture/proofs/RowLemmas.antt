@@ -16,7 +16,7 @@ use Rattle.netpbm.specs.Raster.{NoneAbove, SomeAbove, raster_size, sample_count}
 use Rattle.page_picture.specs.declared.sources.open_fault.OpenFault.{OpenFault}
 use Rattle.page_picture.specs.declared.sources.open_fault.OpenFault.TheVariants.{Device}
 use Rattle.page_picture.specs.PageFile.{IsPageFormat}
-use Rattle.page_picture.specs.Inside.{file_row_size, row_count, GivesPartOf, GivesRowOf, HasRows, IsPageHeader, IsRaster, ReadsRaster, ShowsRow, unused_bytes, GivesThirdsOf, third_byte}
+use Rattle.page_picture.specs.Inside.{file_row_size, row_count, GivesPartOf, HasRows, IsPageHeader, IsRaster, ReadsRaster, unused_bytes, GivesThirdsOf, third_byte}
 
 -- what holds wherever the fault is the reader's
 pub of_device : {A : Type 0} (r : Result A OpenFault) (X : Type 0) → X → IfErr r (λ fault. fault ≡ Device → X)
@@ -42,12 +42,6 @@ pub unused_none : (size : ℕ) (room left : List ℕ) → unused_bytes size 0 ro
 unused_none size room left =
     let place : length room - 0 * size ≡ length room = omega arith in
     ap (λ n. drop n room ++ left) place ∙ ap (λ l. l ++ left) (drop_of_length-le room (le_refl (length room)))
-
-pub length-unused : (size held : ℕ) (room left : List ℕ) → held * size ≤ length room → length (unused_bytes size held room left) ≡ held * size + length left
-length-unused size held room left within =
-    let n = held * size in
-    let back : length room - (length room - n) ≡ n = omega arith in
-    length-append (drop (length room - n) room) left ∙ ap (λ k. k + length left) (length-drop (length room - n) room ∙ back)
 
 -- the first of them, and the others
 pub unused_next : (size held next from : ℕ) (room left : List ℕ) → held ≡ next + 1 → held * size ≤ length room → from ≡ length room - held * size → unused_bytes size held room left ≡ slice_range room from (from + size) ++ unused_bytes size next room left
@@ -229,16 +223,6 @@ row_fits h rows left bytes more row e size (i, inside, above) =
     let front : take (file_row_size h) left ≡ bytes = ap (take (file_row_size h)) e ∙ ap (λ n. take n (bytes ++ more)) (sym size) ∙ take-append_seam bytes more in
     let below : number_in h.maxval bytes i ≤ h.maxval = subst (λ l. number_in h.maxval l i ≤ h.maxval) front (row.none_above i inside) in
     omega arith
-
--- the row at the front was used
-pub gives_row : (h : Header) (left bytes more row : List ℕ) → left ≡ bytes ++ more → length bytes ≡ file_row_size h → ShowsRow h bytes row → GivesRowOf h left more row
-gives_row h left bytes more row e size shows =
-    let front : take (file_row_size h) left ≡ bytes = ap (take (file_row_size h)) e ∙ ap (λ n. take n (bytes ++ more)) (sym size) ∙ take-append_seam bytes more in
-    record {
-      size = let both = ap length e ∙ length-append bytes more in omega arith;
-      after_is = sym (ap (drop (file_row_size h)) e ∙ ap (λ n. drop n (bytes ++ more)) (sym size) ∙ drop-append_seam bytes more);
-      shows = subst (λ l. ShowsRow h l row) (sym front) shows;
-    }
 
 -- the same, and these are upper bytes of its samples
 pub gives_part : (h : Header) (at : ℕ) (left bytes more part : List ℕ) → left ≡ bytes ++ more → length bytes ≡ file_row_size h → ((i : ℕ) → i < length part → slice_index part i ≡ number_in h.maxval bytes (at + i) * 65535 / h.maxval / 256) → GivesPartOf h at left more part

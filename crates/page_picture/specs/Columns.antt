@@ -4,8 +4,8 @@ use Rattle.page_picture.specs.Extent.{left_of, across}
 use Rattle.page_picture.specs.declared.scene.Scene.{Scene}
 
 -- **columns (`Columns`, `column_at`, `IsRun`)**: which column of the page each column of a line shows, by the window's
--- first dot and the two resolutions; they are a run where they lie on the page one beside the other, at its own dots per
--- inch.
+-- first dot and the two resolutions; they are a run where they lie on the page one beside the other, at its own dots
+-- per inch.
 pub record Columns : Type 0 where
   pub left : ℕ
   pub dpi : ℕ
@@ -35,7 +35,8 @@ column_at columns x = if nat_lt (column_shown columns x) columns.width then Some
 abbrev pub place_at : Columns → ℕ → ℕ
 place_at columns x = if nat_lt (column_shown columns x) columns.width then column_shown columns x else columns.width
 
--- the columns lie on the page one beside the other: the scene has the page's dots per inch, and its window ends on the page
+-- the columns lie on the page one beside the other: the scene has the page's dots per inch, and its window ends on the
+-- page
 pub record IsRun (columns : Columns) : Type 0 where
   pub same : columns.dpi ≡ columns.resolution
   pub some : 1 ≤ columns.resolution

@@ -1,6 +1,7 @@
 -- The extent of the picture that a scene means on a page: where its window begins, and how many dots it has across
 -- and down.
-use Rattle.std.specs.Prelude.{ℕ, ◌+◌, ◌-◌, ◌*◌, ◌/◌, ◌<◌, ◌≡◌, ℤ, pos, ◌-ℤ◌, Bool, true, not, ◌&&◌, ◌==◌, nat_le, if◌then◌else◌, Option, Some, None}
+use Rattle.std.specs.Prelude.{ℕ, ◌+◌, ◌-◌, ◌*◌, ◌/◌, ◌<◌, ◌≡◌, ℤ, pos, ◌-ℤ◌, Bool, true, not, ◌&&◌, ◌==◌, nat_le}
+use Rattle.std.specs.Prelude.{if◌then◌else◌, Option, Some, None}
 use Rattle.sane_fixed.specs.Length.{px_of}
 use Rattle.page_picture.specs.Page.{PageView}
 use Rattle.page_picture.specs.declared.scene.DeviceKind.{DeviceKind}
@@ -56,13 +57,14 @@ shows_depth Color depth = not (depth == 1)
 -- the width and the height, where both are sides of a picture
 abbrev pub extent_on : ℕ → ℕ → Scene → Option (ℕ × ℕ)
 extent_on height dpi scene =
-    if shows_depth scene.mode scene.depth && (is_side (across scene.kind scene) && is_side (down scene.kind height dpi scene))
+    if shows_depth scene.mode scene.depth
+    && (is_side (across scene.kind scene) && is_side (down scene.kind height dpi scene))
     then Some (across scene.kind scene, down scene.kind height dpi scene)
     else None
 
--- **extent (`extent_of`)**: the window's origin and size in dots. A hand scanner has none: it begins at the corner, is 110
--- mm wide and as high as there are lines on the page. None where a side is below 1 or above 65,536, or for color of one
--- bit.
+-- **extent (`extent_of`)**: the window's origin and size in dots. A hand scanner has none: it begins at the corner, is
+-- 110 mm wide and as high as there are lines on the page. None where a side is below 1 or above 65,536, or for color of
+-- one bit.
 abbrev pub extent_of : PageView → Scene → Option (ℕ × ℕ)
 extent_of page_view scene = extent_on page_view.height page_view.dpi scene
 

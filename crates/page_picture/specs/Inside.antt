@@ -1,5 +1,6 @@
 -- What private functions alone promise.
-use Rattle.std.specs.Prelude.{ℕ, ◌+◌, ◌*◌, ◌≡◌, ◌≤◌, ◌&&◌, nat_le, if◌then◌else◌, Bool, List, ◌∷◌, Option, Some, None, drop, ◌^◌, ◌<◌, true, false, length, ◌/◌, slice_index, ◌-◌, ◌++◌, ◌%◌, nat_lt, take, []}
+use Rattle.std.specs.Prelude.{ℕ, ◌+◌, ◌*◌, ◌≡◌, ◌≤◌, ◌&&◌, nat_le, if◌then◌else◌, Bool, List, ◌∷◌, Option, Some, None}
+use Rattle.std.specs.Prelude.{drop, ◌^◌, ◌<◌, true, false, length, ◌/◌, slice_index, ◌-◌, ◌++◌, ◌%◌, nat_lt, take, []}
 use Rattle.std.specs.Char.{is_ascii_digit, digit_value}
 use Rattle.netpbm.specs.FileText.{concat_up_to}
 use Rattle.netpbm.specs.HeaderReading.{field_at, end_at, format_of, ◌>>=◌}
@@ -12,7 +13,8 @@ use Rattle.page_picture.specs.Page.{PageView}
 use Rattle.page_picture.specs.PageFile.{IsPageFormat, BeginsPage}
 use Rattle.page_picture.specs.PageReading.{source}
 use Rattle.page_picture.specs.declared.page_file.PageFault.{PageFault}
-use Rattle.page_picture.specs.declared.page_file.PageFault.TheVariants.{BadMagic, BadHeader, SampleTooLarge, Short, Trailing, BadDpi, NoMem}
+use Rattle.page_picture.specs.declared.page_file.PageFault.TheVariants.{BadMagic, BadHeader, SampleTooLarge, Short}
+use Rattle.page_picture.specs.declared.page_file.PageFault.TheVariants.{Trailing, BadDpi, NoMem}
 use Rattle.page_picture.specs.declared.scene.Mode.{Mode}
 use Rattle.page_picture.specs.declared.scene.Mode.TheVariants.{Gray, Color}
 use Rattle.page_picture.specs.declared.sources.SampleBytes.{SampleBytes}
@@ -56,7 +58,8 @@ number_end count v rest = if nat_le 1 count && nat_le count 10 then Some (v, res
 -- the number of which so many digits, which stand for v, were read before these bytes, and what follows it
 abbrev pub more_digits : ℕ → ℕ → List ℕ → Option (ℕ × List ℕ)
 more_digits count v [] = number_end count v []
-more_digits count v (b ∷ bytes) = if is_ascii_digit b then more_digits (count + 1) (v * 10 + digit_value b) bytes else number_end count v (b ∷ bytes)
+more_digits count v (b ∷ bytes) =
+    if is_ascii_digit b then more_digits (count + 1) (v * 10 + digit_value b) bytes else number_end count v (b ∷ bytes)
 
 -- the header of that format whose two first bytes were read before these, and what follows it
 unfoldable pub header_from : PnmFormat → List ℕ → Option (Header × List ℕ)
@@ -65,7 +68,9 @@ header_from format bytes = do
   height ← field_at width.1
   maxval ← field_at height.1
   raster ← end_at maxval.1
-  if (nat_le 1 width.0 && nat_le width.0 65536) && ((nat_le 1 height.0 && nat_le height.0 65536) && (nat_le 1 maxval.0 && nat_le maxval.0 65535)) then Some (record { format = format; width = width.0; height = height.0; maxval = maxval.0 }, raster) else None
+  if (nat_le 1 width.0 && nat_le width.0 65536)
+      && ((nat_le 1 height.0 && nat_le height.0 65536) && (nat_le 1 maxval.0 && nat_le maxval.0 65535))
+      then Some (record { format = format; width = width.0; height = height.0; maxval = maxval.0 }, raster) else None
 
 -- the header that was found is the one that stands there, and then comes the rest
 abbrev pub FindsHeader : Option (Header × List ℕ) → Option Header → List ℕ → Type 0
@@ -156,19 +161,21 @@ pub record GivesRowOf (h : Header) (before after row : List ℕ) : Type 0 where
   pub after_is : after ≡ drop (file_row_size h) before
   pub shows : ShowsRow h (take (file_row_size h) before) row
 
--- of the bytes that were not used yet those of one row were, and these are the upper bytes of the samples that its numbers
--- show, from there on
+-- of the bytes that were not used yet those of one row were, and these are the upper bytes of the samples that its
+-- numbers show, from there on
 pub record GivesPartOf (h : Header) (at : ℕ) (before after part : List ℕ) : Type 0 where
   pub size : file_row_size h ≤ length before
   pub after_is : after ≡ drop (file_row_size h) before
-  pub part_is : (i : ℕ) → i < length part → slice_index part i ≡ number_in h.maxval (take (file_row_size h) before) (at + i) * 65535 / h.maxval / 256
+  pub part_is : (i : ℕ) → i < length part
+      → slice_index part i ≡ number_in h.maxval (take (file_row_size h) before) (at + i) * 65535 / h.maxval / 256
 
--- of the bytes that were not used yet those of one row were, and these are those of every third of its numbers, from there
--- on
+-- of the bytes that were not used yet those of one row were, and these are those of every third of its numbers, from
+-- there on
 pub record GivesThirdsOf (h : Header) (at : ℕ) (before after part : List ℕ) : Type 0 where
   pub size : file_row_size h ≤ length before
   pub after_is : after ≡ drop (file_row_size h) before
-  pub part_is : (j : ℕ) → j < length part → slice_index part j ≡ third_byte h.maxval (take (file_row_size h) before) at j
+  pub part_is : (j : ℕ) → j < length part
+      → slice_index part j ≡ third_byte h.maxval (take (file_row_size h) before) at j
 
 -- so many rows stand at the front of these bytes, fewer than 2^40, and no number of the first is above the greatest
 pub record HasRows (h : Header) (rows : ℕ) (bytes : List ℕ) : Type 0 where
@@ -219,6 +226,7 @@ HasOpenFaultAfter Device h raster = Unit {0}
 -- the text begins with no header of a page
 abbrev pub HasHeaderFault : OpenFault → List ℕ → Type 0
 HasHeaderFault (Page BadMagic) text = ¬ IsPageFormat (format_of text)
-HasHeaderFault (Page BadHeader) text = IsPageFormat (format_of text) × ((h : Header) (raster : List ℕ) → BeginsPage text h raster → ⊥)
+HasHeaderFault (Page BadHeader) text = IsPageFormat (format_of text)
+    × ((h : Header) (raster : List ℕ) → BeginsPage text h raster → ⊥)
 HasHeaderFault Device text = Unit {0}
 HasHeaderFault (Page _) text = ⊥

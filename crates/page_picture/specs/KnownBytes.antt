@@ -5,8 +5,8 @@ use Rattle.std.specs.Prelude.{ℕ, ◌+◌, ◌^◌, ◌<◌, ◌≡◌, Bool, t
 abbrev pub CountsFault : {A E : Type 0} → ℕ → Result A E → ℕ → Type 0
 CountsFault old result new = MatchResult result (λ _. new ≡ old) (λ _. new ≡ old + 1)
 
--- **the reader is to blame (`FailsByReader`, `FailsWithin`)**: where the reader keeps its bytes, and these are few enough
--- for 2^40 reads, a call of it failed meanwhile.
+-- **the reader is to blame (`FailsByReader`, `FailsWithin`)**: where the reader keeps its bytes, and these are few
+-- enough for 2^40 reads, a call of it failed meanwhile.
 --
 -- The reader is to blame: where it keeps its bytes and these are fewer than 2^39, so that 2^40 reads go through them
 -- twice, a call of it failed meanwhile.

@@ -12,7 +12,8 @@ use Rattle.page_picture.specs.declared.scene.Scene.{Scene}
 -- the tone of what is seen at column x of row y, in channel k
 unfoldable pub sample_of : PageView → Scene → ℕ → ℕ → ℕ → ℕ
 sample_of page_view scene x y k =
-    in_channel scene.mode scene.depth scene.channel_gamma k (tone scene.depth scene.gamma (brightness scene.mode (seen_at page_view scene x y) k))
+    in_channel scene.mode scene.depth scene.channel_gamma k
+    (tone scene.depth scene.gamma (brightness scene.mode (seen_at page_view scene x y) k))
 
 abbrev pub channels_in : Mode → ℕ
 channels_in Gray = 1
@@ -31,7 +32,7 @@ picture_of page_view scene size = record {
   at = λ x y k. sample_of page_view scene x y k;
 }
 
--- **meaning (`meaning_of`, `sample_of`)**: the picture of the extent whose samples are the tones of what is seen, in their
--- channels; none where there is no extent.
+-- **meaning (`meaning_of`, `sample_of`)**: the picture of the extent whose samples are the tones of what is seen, in
+-- their channels; none where there is no extent.
 abbrev pub meaning_of : PageView → Scene → Option Picture
 meaning_of page_view scene = option_map (picture_of page_view scene) (extent_of page_view scene)

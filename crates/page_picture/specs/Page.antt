@@ -1,8 +1,8 @@
 -- A page as contracts see it: a picture of three channels and 16 bits a sample, and its dots per inch.
 use Rattle.std.specs.Prelude.{ℕ, ◌+◌, ◌*◌, ◌^◌, ◌<◌, ◌≤◌, ◌≡◌, List, length, slice_index}
 
--- **page (`PageView`, `IsPageView`)**: a picture of three channels and greatest value 65535, with sides of 1 to 16,384 and
--- 1 to 1,200 dots per inch.
+-- **page (`PageView`, `IsPageView`)**: a picture of three channels and greatest value 65535, with sides of 1 to 16,384
+-- and 1 to 1,200 dots per inch.
 --
 -- the samples stand row by row from the top, the three of a place side by side
 pub record PageView : Type 0 where

@@ -5,7 +5,8 @@ use Rattle.netpbm.specs.declared.format.PnmFormat.{PnmFormat}
 use Rattle.netpbm.specs.declared.format.PnmFormat.TheVariants.{Pbm, Pgm, Ppm}
 use Rattle.netpbm.specs.declared.format.Header.{Header}
 use Rattle.page_picture.specs.declared.page_file.PageFault.{PageFault}
-use Rattle.page_picture.specs.declared.page_file.PageFault.TheVariants.{BadMagic, BadHeader, SampleTooLarge, Short, Trailing, BadDpi, NoMem}
+use Rattle.page_picture.specs.declared.page_file.PageFault.TheVariants.{BadMagic, BadHeader, SampleTooLarge, Short}
+use Rattle.page_picture.specs.declared.page_file.PageFault.TheVariants.{Trailing, BadDpi, NoMem}
 use Rattle.netpbm.specs.Picture.{Picture}
 use Rattle.page_picture.specs.Page.{PageView, page_sample_at}
 use Rattle.netpbm.specs.Pnm.{Begins, Denotes}
@@ -21,10 +22,11 @@ pub record IsPageOf (p : Picture) (dpi : ℕ) (page_view : PageView) : Type 0 wh
   pub width : page_view.width ≡ p.width
   pub height : page_view.height ≡ p.height
   pub dots : page_view.dpi ≡ dpi
-  pub samples : (x y k : ℕ) → x < p.width → y < p.height → k < 3 → page_sample_at page_view x y k ≡ p.at x y (file_channel p.channels k) * 65535 / p.greatest
+  pub samples : (x y k : ℕ) → x < p.width → y < p.height → k < 3
+      → page_sample_at page_view x y k ≡ p.at x y (file_channel p.channels k) * 65535 / p.greatest
 
--- **page file (`TellsPage`)**: a text of grays or colors that denotes a picture; the page has at each place floor(v * 65535
--- / m) for a sample v of greatest value m, a gray for all three channels.
+-- **page file (`TellsPage`)**: a text of grays or colors that denotes a picture; the page has at each place floor(v *
+-- 65535 / m) for a sample v of greatest value m, a gray for all three channels.
 pub record TellsPage (text : List ℕ) (dpi : ℕ) (page_view : PageView) : Type 0 where
   pub picture : Picture
   pub denotes : Denotes text picture
@@ -65,8 +67,13 @@ pub record IsPageText (text : List ℕ) (dpi : ℕ) : Type 0 where
 abbrev pub HasPageFault : PageFault → List ℕ → ℕ → Type 0
 HasPageFault BadDpi text dpi = ¬ IsDpi dpi
 HasPageFault BadMagic text dpi = IsDpi dpi × (¬ IsPageFormat (format_of text))
-HasPageFault BadHeader text dpi = IsDpi dpi × IsPageFormat (format_of text) × ((h : Header) (raster : List ℕ) → BeginsPage text h raster → ⊥)
-HasPageFault Short text dpi = IsDpi dpi × ((h : Header) × (raster : List ℕ) × BeginsPage text h raster × (length raster < raster_size h))
-HasPageFault Trailing text dpi = IsDpi dpi × ((h : Header) × (raster : List ℕ) × BeginsPage text h raster × (raster_size h < length raster))
-HasPageFault SampleTooLarge text dpi = IsDpi dpi × ((h : Header) × (raster : List ℕ) × BeginsPage text h raster × (length raster ≡ raster_size h) × SomeAbove h.maxval raster (sample_count h))
+HasPageFault BadHeader text dpi = IsDpi dpi × IsPageFormat (format_of text)
+    × ((h : Header) (raster : List ℕ) → BeginsPage text h raster → ⊥)
+HasPageFault Short text dpi = IsDpi dpi
+    × ((h : Header) × (raster : List ℕ) × BeginsPage text h raster × (length raster < raster_size h))
+HasPageFault Trailing text dpi = IsDpi dpi
+    × ((h : Header) × (raster : List ℕ) × BeginsPage text h raster × (raster_size h < length raster))
+HasPageFault SampleTooLarge text dpi = IsDpi dpi
+    × ((h : Header) × (raster : List ℕ) × BeginsPage text h raster × (length raster ≡ raster_size h)
+    × SomeAbove h.maxval raster (sample_count h))
 HasPageFault NoMem text dpi = IsPageText text dpi

@@ -2,8 +2,8 @@
 use Rattle.std.specs.Prelude.{ℕ, ◌≡◌, Bool, true, false, Result, MatchResult}
 use Rattle.page_picture.specs.Source.{SourceState}
 
--- **open page file (`PnmState`, `LosesRows`)**: the source that it shows, whether its rows are lost from a failure to the
--- next rewind, and how many calls of its reader failed.
+-- **open page file (`PnmState`, `LosesRows`)**: the source that it shows, whether its rows are lost from a failure to
+-- the next rewind, and how many calls of its reader failed.
 pub record PnmState : Type 0 where
   pub shown : SourceState
   pub is_lost : Bool

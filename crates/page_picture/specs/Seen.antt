@@ -7,7 +7,8 @@ use Rattle.page_picture.specs.declared.scene.Scene.{Scene}
 -- the page's sample, or white off the page
 abbrev pub dot_at : PageView → ℕ → ℕ → ℕ → ℕ
 dot_at page_view column row k =
-    if nat_lt column page_view.width && nat_lt row page_view.height then page_sample_at page_view column row k else 65535
+    if nat_lt column page_view.width && nat_lt row page_view.height then page_sample_at page_view column row k
+    else 65535
 
 -- the page's column and row that column x and row y of the picture show
 abbrev pub column_seen : Scene → ℕ → ℕ → ℕ

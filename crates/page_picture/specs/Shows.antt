@@ -1,5 +1,6 @@
 -- Which picture a list of frames shows: where each of its samples stands (SANE Standard 1.06, "Scan parameters").
-use Rattle.std.specs.Prelude.{ℕ, ◌+◌, ◌-◌, ◌*◌, ◌/◌, ◌%◌, ◌^◌, ◌≤◌, ◌≡◌, ◌≢◌, ◌==◌, ◌⊎◌, Bool, true, false, if◌then◌else◌, Option, Some, None, List, [], ◌∷◌, length, slice_index}
+use Rattle.std.specs.Prelude.{ℕ, ◌+◌, ◌-◌, ◌*◌, ◌/◌, ◌%◌, ◌^◌, ◌≤◌, ◌≡◌, ◌≢◌, ◌==◌, ◌⊎◌, Bool, true, false}
+use Rattle.std.specs.Prelude.{if◌then◌else◌, Option, Some, None, List, [], ◌∷◌, length, slice_index}
 use Rattle.sane_fixed.specs.declared.frame_format.FrameFormat.{FrameFormat}
 use Rattle.sane_fixed.specs.declared.frame_format.FrameFormat.TheVariants.{Gray, Rgb, Red, Green, Blue}
 use Rattle.sane_fixed.specs.declared.byte_order.ByteOrder.{ByteOrder}
@@ -114,11 +115,11 @@ pub record ShowsColors (a b c : Frame) (p : Picture) : Type 0 where
   pub second_shows : ShowsColor a.order b p second false
   pub third_shows : ShowsColor a.order c p third true
 
--- **frames show a picture (`ShowsFrames`)**: the list of frames is one GRAY or RGB frame, or RED, GREEN and BLUE once each
--- in any order, of equal width, lines, depth and byte order, the last flag on the last alone, each payload with whole
--- lines; and each sample of the picture stands at its place: with B bytes a line and c channels, sample (x, y, k) is the
--- byte y * B + c * x + k at depth 8, the two bytes from y * B + 2 (c * x + k) in the byte order at depth 16, and bit 7 - x
--- mod 8 of byte y * B + floor(x / 8) at depth 1.
+-- **frames show a picture (`ShowsFrames`)**: the list of frames is one GRAY or RGB frame, or RED, GREEN and BLUE once
+-- each in any order, of equal width, lines, depth and byte order, the last flag on the last alone, each payload with
+-- whole lines; and each sample of the picture stands at its place: with B bytes a line and c channels, sample (x, y, k)
+-- is the byte y * B + c * x + k at depth 8, the two bytes from y * B + 2 (c * x + k) in the byte order at depth 16, and
+-- bit 7 - x mod 8 of byte y * B + floor(x / 8) at depth 1.
 abbrev pub ShowsFrames : List Frame → Picture → Type 0
 ShowsFrames [] p = ⊥
 ShowsFrames (a ∷ []) p = ShowsAlone a p

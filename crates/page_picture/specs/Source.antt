@@ -1,5 +1,6 @@
 -- A source of a page's rows, as contracts see it, and what each of its calls does.
-use Rattle.std.specs.Prelude.{ℕ, ◌+◌, ◌-◌, ◌*◌, ◌/◌, ◌%◌, ◌^◌, ◌<◌, ◌≡◌, ◌==◌, ◌⊎◌, if◌then◌else◌, Bool, true, false, List, length, slice_index, Result, Ok, Err}
+use Rattle.std.specs.Prelude.{ℕ, ◌+◌, ◌-◌, ◌*◌, ◌/◌, ◌%◌, ◌^◌, ◌<◌, ◌≡◌, ◌==◌, ◌⊎◌, if◌then◌else◌, Bool, true, false}
+use Rattle.std.specs.Prelude.{List, length, slice_index, Result, Ok, Err}
 use Rattle.page_picture.specs.Page.{PageView, IsRow, page_sample_at}
 use Rattle.page_picture.specs.declared.scene.Mode.{Mode}
 use Rattle.page_picture.specs.declared.scene.Mode.TheVariants.{Gray, Color}
@@ -7,12 +8,13 @@ use Rattle.page_picture.specs.declared.sources.SampleBytes.{SampleBytes}
 use Rattle.page_picture.specs.declared.sources.SampleBytes.TheVariants.{Upper, Both}
 use Rattle.page_picture.specs.declared.sources.SourceFault.{SourceFault}
 
--- **page source (`SourceState`, `SourceAndBytes`, `GivesRow`, `GivesRowBytes`, `ChannelBytes`, `GivesChannel`, `Rewinds`)**: a page, how many of its rows
--- were given since the last rewind, whether the source is steady (it gives the page's rows at each pass), whether it is
--- infallible (it can never fail), and how often it failed. A call of `next_row` gives the next row, which is the page's
--- where the source is steady, or none after the last, or fails; a failure is counted, or the count stands at its greatest.
--- A call of `next_bytes` gives the upper byte of each of the next row's samples, from a place on, or does nothing, or
--- fails; a call of `next_channel` gives the bytes of those of one channel alone.
+-- **page source (`SourceState`, `SourceAndBytes`, `GivesRow`, `GivesRowBytes`, `ChannelBytes`, `GivesChannel`,
+-- `Rewinds`)**: a page, how many of its rows were given since the last rewind, whether the source is steady (it gives
+-- the page's rows at each pass), whether it is infallible (it can never fail), and how often it failed. A call of
+-- `next_row` gives the next row, which is the page's where the source is steady, or none after the last, or fails; a
+-- failure is counted, or the count stands at its greatest. A call of `next_bytes` gives the upper byte of each of the
+-- next row's samples, from a place on, or does nothing, or fails; a call of `next_channel` gives the bytes of those of
+-- one channel alone.
 pub record SourceState : Type 0 where
   pub page : PageView
   pub given : ℕ
@@ -42,7 +44,8 @@ GivesRow old (Ok true) new row = GivesNext old new row
 GivesRow old (Ok false) new row = (old.given ≡ old.page.height) × (new ≡ old)
 GivesRow old (Err _) new row = Fails old new
 
--- where the byte of a place's sample k stands in a row of bytes, which has one for each place in gray and three in color
+-- where the byte of a place's sample k stands in a row of bytes, which has one for each place in gray and three in
+-- color
 abbrev pub byte_place : Mode → ℕ → ℕ → ℕ
 byte_place Gray x k = x
 byte_place Color x k = 3 * x + k

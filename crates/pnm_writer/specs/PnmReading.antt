@@ -8,10 +8,11 @@ use Rattle.netpbm.specs.HeaderReading.{format_of}
 use Rattle.netpbm.specs.Raster.{raster_size, sample_count, SomeAbove}
 use Rattle.pnm_writer.specs.declared.read.Picture.{Picture as HeldPicture}
 use Rattle.pnm_writer.specs.declared.read.PnmFault.{PnmFault}
-use Rattle.pnm_writer.specs.declared.read.PnmFault.TheVariants.{BadMagic, BadHeader, SampleTooLarge, Short, Trailing, NoMem}
+use Rattle.pnm_writer.specs.declared.read.PnmFault.TheVariants.{BadMagic, BadHeader, SampleTooLarge, Short, Trailing}
+use Rattle.pnm_writer.specs.declared.read.PnmFault.TheVariants.{NoMem}
 
--- **picture read (`picture_of_held`, `HasPnmFault`)**: the picture that a text denotes, held in memory; the faults that a
--- text may have, each where it is the first.
+-- **picture read (`picture_of_held`, `HasPnmFault`)**: the picture that a text denotes, held in memory; the faults that
+-- a text may have, each where it is the first.
 --
 -- the picture that is held: its samples row by row from the top, the channels of a place side by side
 abbrev pub picture_of_held : HeldPicture → Picture
@@ -30,5 +31,6 @@ HasPnmFault BadMagic text = format_of text ≡ None
 HasPnmFault BadHeader text = IsSome (format_of text) × ((h : Header) (raster : List ℕ) → Begins text h raster → ⊥)
 HasPnmFault Short text = (h : Header) × (raster : List ℕ) × Begins text h raster × (length raster < raster_size h)
 HasPnmFault Trailing text = (h : Header) × (raster : List ℕ) × Begins text h raster × (raster_size h < length raster)
-HasPnmFault SampleTooLarge text = (h : Header) × (raster : List ℕ) × Begins text h raster × (h.format ≢ Pbm) × (length raster ≡ raster_size h) × SomeAbove h.maxval raster (sample_count h)
+HasPnmFault SampleTooLarge text = (h : Header) × (raster : List ℕ) × Begins text h raster × (h.format ≢ Pbm)
+    × (length raster ≡ raster_size h) × SomeAbove h.maxval raster (sample_count h)
 HasPnmFault NoMem text = IsWhole text

@@ -27,4 +27,5 @@ header_of scene width height = record {
 
 -- **plain file (`IsPlainFile`)**: the writer's text of what a scene means on a page.
 abbrev pub IsPlainFile : PageView → Scene → List ℕ → Type 0
-IsPlainFile page_view scene text = (size : ℕ × ℕ) × (extent_of page_view scene ≡ Some size) × (text ≡ file_text (header_of scene size.0 size.1) (sample_of page_view scene))
+IsPlainFile page_view scene text = (size : ℕ × ℕ) × (extent_of page_view scene ≡ Some size)
+    × (text ≡ file_text (header_of scene size.0 size.1) (sample_of page_view scene))

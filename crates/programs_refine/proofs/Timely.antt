@@ -76,9 +76,6 @@ TimelyIn owner i [] = Unit {0}
 TimelyIn owner i (OfServer action ∷ past) = TimelyIn owner i past
 TimelyIn owner i (OfJob j step ∷ past) = TimelyIn owner i past × (j ≡ i → IsTimelyFor owner i (server_journal past))
 
-timely_server : (owner : Owner) (i : ℕ) (action : LoopAction) (past : Acts) → TimelyIn owner i past → TimelyIn owner i (OfServer action ∷ past)
-timely_server owner i action past t = t
-
 -- no session of its was left
 none_timely : (owner : Owner) (i : ℕ) (acts : Acts) → IsTimelyFor owner i (server_journal acts) → TimelyIn owner i acts
 unfolding server_journal

@@ -28,40 +28,49 @@ pub record AreFit (devices : List DeviceState) (jobs : List Job) (d : Core) : Ty
   pub limits : All HasLimits devices
   pub fit : All IsFitJob jobs
 
--- in a world of those, if there is any job at all (`other`), a job that wants the data connection of a frame has none that flows
+-- in a world of those, if there is any job at all (`other`), a job that wants the data connection of a frame has none
+-- that flows
 abbrev pub WorldsWantBeforeItFlows : Type 0
-WorldsWantBeforeItFlows = (devices : List DeviceState) (jobs : List Job) (other : Job) (d : Core) (w : WorldCore) → AreFit devices jobs d → IsWorldOf d jobs w → AlwaysWantsBeforeItFlows source_state w
+WorldsWantBeforeItFlows = (devices : List DeviceState) (jobs : List Job) (other : Job) (d : Core) (w : WorldCore)
+    → AreFit devices jobs d → IsWorldOf d jobs w → AlwaysWantsBeforeItFlows source_state w
 
 -- nor does any job that runs hear what it did not ask for
 abbrev pub WorldsHearInTurn : Type 0
-WorldsHearInTurn = (devices : List DeviceState) (jobs : List Job) (other : Job) (d : Core) (w : WorldCore) → AreFit devices jobs d → IsWorldOf d jobs w → AlwaysHearsInTurn source_state w
+WorldsHearInTurn = (devices : List DeviceState) (jobs : List Job) (other : Job) (d : Core) (w : WorldCore)
+    → AreFit devices jobs d → IsWorldOf d jobs w → AlwaysHearsInTurn source_state w
 
 -- these devices, users and jobs, and these events
 abbrev pub history_of : List DeviceState → List Job → Core → List Event → History
 history_of devices jobs d events = record { devices = devices; users = d.users; jobs = jobs; events = events }
 
--- **is kept (`LoopIsKept`, `StoppedIsKept`, `AllLoopsAreKept`)**: what a world promises of the outcome, the files and the
--- count of pages of a job, of what its loop came to, by a history of such events that led to a world where it is so; and of
--- a job that was stopped while it ran, that no whole file went out but of pages that were turned, and each of these is kept.
+-- **is kept (`LoopIsKept`, `StoppedIsKept`, `AllLoopsAreKept`)**: what a world promises of the outcome, the files and
+-- the count of pages of a job, of what its loop came to, by a history of such events that led to a world where it is
+-- so; and of a job that was stopped while it ran, that no whole file went out but of pages that were turned, and each
+-- of these is kept.
 --
--- a world's promise on the outcome and the files of a job, said of what its loop came to; memory ran out where it did in the world
-pub record LoopIsKept (h : History) (v : WorldCore) (i : ℕ) (job : Job) (acts : Acts) (last : ClientState) : Type 0 where
+-- a world's promise on the outcome and the files of a job, said of what its loop came to; memory ran out where it did
+-- in the world
+pub record LoopIsKept (h : History) (v : WorldCore) (i : ℕ) (job : Job) (acts : Acts)
+    (last : ClientState) : Type 0 where
   pub ends : EndsAlike v i acts last
   pub outcome : OutcomeIsKept h v i job ends.endpoint.out_of_memory last.outcome
   pub file : FileIsKept h v i job ends.endpoint.out_of_memory last.outcome (Some ends.text)
-  pub pages : (k : ℕ) (bytes : List ℕ) → slice_get ends.finished k ≡ Some bytes → PageIsKept h v i job ends.endpoint.out_of_memory (length ends.finished) (k + 1) (Some bytes)
+  pub pages : (k : ℕ) (bytes : List ℕ) → slice_get ends.finished k ≡ Some bytes
+      → PageIsKept h v i job ends.endpoint.out_of_memory (length ends.finished) (k + 1) (Some bytes)
   pub count : CountIsKept h v i job last.outcome (length ends.finished)
 
--- of a job whose loop was stopped while it ran, as one that is killed: what went out of its file is no whole file, and each
--- page that was turned is kept
+-- of a job whose loop was stopped while it ran, as one that is killed: what went out of its file is no whole file, and
+-- each page that was turned is kept
 pub record StoppedIsKept (h : History) (v : WorldCore) (i : ℕ) (job : Job) (acts : Acts) : Type 0 where
   pub stops : StopsAlike v i acts
   pub not_whole : IsWhole (given_by_steps (job_journal i acts)) → ⊥
   pub pages : (k : ℕ) (bytes : List ℕ) → slice_get (files_by_steps (job_journal i acts)) k ≡ Some bytes
-      → PageIsKept h v i job stops.endpoint.out_of_memory (length (files_by_steps (job_journal i acts))) (k + 1) (Some bytes)
+      → PageIsKept h v i job stops.endpoint.out_of_memory (length (files_by_steps (job_journal i acts))) (k
+      + 1) (Some bytes)
 
 -- of each job that is over, and of each that was stopped, in a world that events of connections led to
-pub record AllLoopsAreKept (devices : List DeviceState) (jobs : List Job) (d : Core) (acts : Acts) (last : ℕ → ClientState) : Type 0 where
+pub record AllLoopsAreKept (devices : List DeviceState) (jobs : List Job) (d : Core) (acts : Acts)
+    (last : ℕ → ClientState) : Type 0 where
   pub events : List Event
   pub are : AreOfConnections events
   pub v : WorldCore

@@ -20,8 +20,8 @@ use Rattle.interleaving.specs.HandingOn.{HandsOn, Owner}
 use Rattle.programs_refine.specs.StepTraffic.{traffic_of}
 use Rattle.programs_refine.specs.Programs.{Acts, HasOpenedNone, LostBringNoMore, OwnersAreJobs, RunOverConnections}
 
--- **led into (`LoopLeads`, `Interleaves`)**: a job's loop came from a new client by these steps to this one; acts in which
--- the journal of a server that has served is one, and such steps of each job are the others.
+-- **led into (`LoopLeads`, `Interleaves`)**: a job's loop came from a new client by these steps to this one; acts in
+-- which the journal of a server that has served is one, and such steps of each job are the others.
 pub record LoopLeads (job : Job) (steps : List JobStep) (last : ClientState) : Type 0 where
   pub first : ClientState
   pub fresh : IsNewClient job first
@@ -34,7 +34,8 @@ abbrev pub DoneLeads : Type 0 → Type 0
 DoneLeads L =
     (views : LinkViews L) (job : Job) (was now : SeenStreams L (Option (List ℕ))) (reports : Reports)
     (r : RanDone views job was now reports)
-    → LoopLeads job r.steps.steps r.ran.last × (r.ran.last.outcome ≡ Done reports) × (r.text ≡ given_by_steps r.steps.steps)
+    → LoopLeads job r.steps.steps r.ran.last × (r.ran.last.outcome ≡ Done reports)
+    × (r.text ≡ given_by_steps r.steps.steps)
 
 -- so that of one that ended, where it is told as the client ended
 abbrev pub EndedLeads : Type 0 → Type 0
@@ -86,7 +87,8 @@ pub record Interleaves (limits : ServeLimits) (was now : DaemonAndListeners) (en
 -- with what is assumed of connections that is a run over them
 abbrev pub LoopsLeadIntoRuns : Type 0
 LoopsLeadIntoRuns =
-    (limits : ServeLimits) (was now : DaemonAndListeners) (end : ServeEnd) (jobs : List Job) (owner : Owner) (acts : Acts)
+    (limits : ServeLimits) (was now : DaemonAndListeners) (end : ServeEnd) (jobs : List Job) (owner : Owner)
+    (acts : Acts)
     (last : ℕ → ClientState) → Interleaves limits was now end jobs acts last → HasOpenedNone was.daemon
     → OwnersAreJobs owner jobs → All (λ (job : Job). HasCount job.task) jobs → HandsOn traffic_of owner acts
     → LostBringNoMore owner acts → RunOverConnections jobs owner was.daemon acts last

@@ -1,5 +1,6 @@
 -- What a server and the loops of jobs do over connections is what some list of events does to a world.
-use Rattle.std.specs.Prelude.{ℕ, ◌≡◌, ◌<◌, ◌⊎◌, ◌++◌, true, false, Option, Some, None, List, [], ◌∷◌, All, length, slice_get}
+use Rattle.std.specs.Prelude.{ℕ, ◌≡◌, ◌<◌, ◌⊎◌, ◌++◌, true, false, Option, Some, None, List, [], ◌∷◌, All, length}
+use Rattle.std.specs.Prelude.{slice_get}
 use Rattle.page_picture.specs.Source.{SourceState}
 use Rattle.page_picture.specs.declared.sources.kinds.Source.{Source}
 use Rattle.scan_job.specs.declared.job.Job.{Job}
@@ -57,7 +58,8 @@ BringsNoMore owner i other journal = Unit {0}
 abbrev pub LostBringNoMore : Owner → Acts → Type 0
 LostBringNoMore owner [] = Unit {0}
 LostBringNoMore owner (OfServer action ∷ past) = LostBringNoMore owner past
-LostBringNoMore owner (OfJob i step ∷ past) = LostBringNoMore owner past × BringsNoMore owner i (traffic_of step) (server_journal past)
+LostBringNoMore owner (OfJob i step ∷ past) = LostBringNoMore owner past
+    × BringsNoMore owner i (traffic_of step) (server_journal past)
 
 -- ---- what they come to
 
@@ -73,7 +75,8 @@ IsDoneBatch task outcome = (is_batch task ≡ true) × (is_done outcome ≡ true
 
 -- they are what went out; of a batch that is done with its last page none is under way any more
 abbrev pub WentOut : Type 0 → List (List ℕ) → List ℕ → List (List ℕ) → List ℕ → Type 0
-WentOut DoneBatch turned last finished text = ((finished ≡ turned) × (text ≡ last)) ⊎ (DoneBatch × (finished ≡ turned ++ last ∷ []) × (text ≡ []))
+WentOut DoneBatch turned last finished text = ((finished ≡ turned) × (text ≡ last))
+    ⊎ (DoneBatch × (finished ≡ turned ++ last ∷ []) × (text ≡ []))
 
 -- a job that is over has that outcome in the world, and its files are what went out
 pub record EndsAlike (v : WorldCore) (i : ℕ) (acts : Acts) (last : ClientState) : Type 0 where
@@ -83,7 +86,9 @@ pub record EndsAlike (v : WorldCore) (i : ℕ) (acts : Acts) (last : ClientState
   pub finished : List (List ℕ)
   pub text : List ℕ
   pub files : HasFilesOf finished text endpoint
-  pub went_out : WentOut (IsDoneBatch endpoint.task last.outcome) (files_by_steps (job_journal i acts)) (given_by_steps (job_journal i acts)) finished text
+  pub went_out
+      : WentOut (IsDoneBatch endpoint.task last.outcome) (files_by_steps (job_journal i acts))
+      (given_by_steps (job_journal i acts)) finished text
 
 -- a job that runs has lost its connection in the world, and its files are what went out
 pub record StopsAlike (v : WorldCore) (i : ℕ) (acts : Acts) : Type 0 where
@@ -92,7 +97,8 @@ pub record StopsAlike (v : WorldCore) (i : ℕ) (acts : Acts) : Type 0 where
   pub lost : endpoint.client.outcome ≡ Ended statuses.IoError whys.Lost
   pub files : HasFilesOf (files_by_steps (job_journal i acts)) (given_by_steps (job_journal i acts)) endpoint
 
--- events of connections lead to a world whose daemon is the server's, but for replies that are on their way to their jobs
+-- events of connections lead to a world whose daemon is the server's, but for replies that are on their way to their
+-- jobs
 pub record HasDaemonOf (source : Source → SourceState) (w : WorldCore) (end : Core) : Type 0 where
   pub events : List Event
   pub v : WorldCore
@@ -100,24 +106,29 @@ pub record HasDaemonOf (source : Source → SourceState) (w : WorldCore) (end : 
   pub on_their_way : ℕ → List ℕ
   pub daemon : DiffersInFlight on_their_way end v.daemon
 
--- from there losses alone lead on to where each job that is over is as its loop has it, so also one that lost what the daemon still has
-pub record AreAWorld (source : Source → SourceState) (jobs : List Job) (w : WorldCore) (acts : Acts) (end : Core) (last : ℕ → ClientState) : Type 0 where
+-- from there losses alone lead on to where each job that is over is as its loop has it, so also one that lost what the
+-- daemon still has
+pub record AreAWorld (source : Source → SourceState) (jobs : List Job) (w : WorldCore) (acts : Acts) (end : Core)
+    (last : ℕ → ClientState) : Type 0 where
   pub serves : HasDaemonOf source w end
   pub losses : List Event
   pub are : AreLosses losses
   pub v : WorldCore
   pub leads_on : Runs source losses serves.v v
-  pub jobs_are : (i : ℕ) (job : Job) → slice_get jobs i ≡ Some job → is_running (last i).outcome ≡ false → EndsAlike v i acts (last i)
+  pub jobs_are : (i : ℕ) (job : Job) → slice_get jobs i ≡ Some job → is_running (last i).outcome ≡ false
+      → EndsAlike v i acts (last i)
   -- and each job that runs, as where it is killed
-  pub stopped_are : (i : ℕ) (job : Job) → slice_get jobs i ≡ Some job → is_running (last i).outcome ≡ true → StopsAlike v i acts
+  pub stopped_are : (i : ℕ) (job : Job) → slice_get jobs i ≡ Some job → is_running (last i).outcome ≡ true
+      → StopsAlike v i acts
 
 -- ---- the law
 
--- **run over connections (`RunOverConnections`)**: a daemon that has opened no session yet, jobs of which a batch has 1 to
--- 16 pages, the loop of each from a new client on, the journal of the server, and connections that hand on what they are
--- given; a data connection of which the daemon was told that it is lost brings no more (`LostBringNoMore`), and each
--- control connection is a job's (`OwnersAreJobs`).
-pub record RunOverConnections (jobs : List Job) (owner : Owner) (d : Core) (acts : Acts) (last : ℕ → ClientState) : Type 0 where
+-- **run over connections (`RunOverConnections`)**: a daemon that has opened no session yet, jobs of which a batch has 1
+-- to 16 pages, the loop of each from a new client on, the journal of the server, and connections that hand on what they
+-- are given; a data connection of which the daemon was told that it is lost brings no more (`LostBringNoMore`), and
+-- each control connection is a job's (`OwnersAreJobs`).
+pub record RunOverConnections (jobs : List Job) (owner : Owner) (d : Core) (acts : Acts)
+    (last : ℕ → ClientState) : Type 0 where
   pub new : HasOpenedNone d
   pub owns : OwnersAreJobs owner jobs
   -- a batch has 1 to 16 pages
@@ -135,13 +146,14 @@ pub record IsWorldOf (d : Core) (jobs : List Job) (w : WorldCore) : Type 0 where
   pub daemon : w.daemon ≡ d
   pub endpoints : AreNew jobs w.endpoints
 
--- **come to a world (`ComeToAWorld`, `AreAWorld`, `EndsAlike`, `StopsAlike`, `HasDaemonOf`)**: from the new world of that daemon and
--- these jobs events of connections lead to a world whose daemon is the server's, but for replies that are on their way;
--- from there losses alone (`AreLosses`) lead to where each job that is over has the outcome that its loop has, and its
--- files are what went out (`WentOut`, `HasFilesOf`): those of the finished pages and the one under way, or, of a batch that
--- is done with its last page (`IsDoneBatch`), all of finished pages; and each job that runs has lost its connection, and
--- its files are what went out.
-pub record ComeToAWorld (source : Source → SourceState) (jobs : List Job) (d : Core) (acts : Acts) (end : Core) (last : ℕ → ClientState) : Type 0 where
+-- **come to a world (`ComeToAWorld`, `AreAWorld`, `EndsAlike`, `StopsAlike`, `HasDaemonOf`)**: from the new world of
+-- that daemon and these jobs events of connections lead to a world whose daemon is the server's, but for replies that
+-- are on their way; from there losses alone (`AreLosses`) lead to where each job that is over has the outcome that its
+-- loop has, and its files are what went out (`WentOut`, `HasFilesOf`): those of the finished pages and the one under
+-- way, or, of a batch that is done with its last page (`IsDoneBatch`), all of finished pages; and each job that runs
+-- has lost its connection, and its files are what went out.
+pub record ComeToAWorld (source : Source → SourceState) (jobs : List Job) (d : Core) (acts : Acts) (end : Core)
+    (last : ℕ → ClientState) : Type 0 where
   pub w : WorldCore
   pub is_of : IsWorldOf d jobs w
   pub leads_on : AreAWorld source jobs w acts end last
@@ -149,5 +161,6 @@ pub record ComeToAWorld (source : Source → SourceState) (jobs : List Job) (d :
 abbrev pub ProgramsAreAWorld : Type 0
 ProgramsAreAWorld =
     (source : Source → SourceState) (jobs : List Job) (owner : Owner) (d : Core) (acts : Acts) (last : ℕ → ClientState)
-    → (run : RunOverConnections jobs owner d acts last) → ((w : WorldCore) → IsWorldOf d jobs w → AlwaysWantsBeforeItFlows source w × AlwaysHearsInTurn source w)
+    → (run : RunOverConnections jobs owner d acts last)
+    → ((w : WorldCore) → IsWorldOf d jobs w → AlwaysWantsBeforeItFlows source w × AlwaysHearsInTurn source w)
     → ComeToAWorld source jobs d acts run.end last

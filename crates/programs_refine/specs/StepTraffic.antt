@@ -4,7 +4,8 @@ use Rattle.net_jobs.specs.JobJournal.{JobMove}
 use Rattle.net_jobs.specs.JobJournal.JobMove.{Writes, Fails, Hears, Resumes, Prepares, Dials, Takes, Gives, Loses}
 use Rattle.net_jobs.specs.JobSteps.{JobStep}
 use Rattle.interleaving.specs.Interleavings.{Traffic}
-use Rattle.interleaving.specs.Interleavings.Traffic.{Writes as WritesBytes, Reads as ReadsBytes, Dials as MakesConnection, Takes as TakesBytes, NoTraffic}
+use Rattle.interleaving.specs.Interleavings.Traffic.{Writes as WritesBytes, Reads as ReadsBytes}
+use Rattle.interleaving.specs.Interleavings.Traffic.{Dials as MakesConnection, Takes as TakesBytes, NoTraffic}
 
 abbrev pub traffic_of_move : JobMove → Traffic
 traffic_of_move (Writes bytes) = WritesBytes bytes

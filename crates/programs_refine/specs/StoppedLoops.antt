@@ -19,9 +19,9 @@ use Rattle.programs_refine.specs.Programs.{Acts, HasOpenedNone, LostBringNoMore,
 use Rattle.programs_refine.specs.WorldHistory.{AreOfConnections}
 use Rattle.programs_refine.specs.Keeping.{AreFit, LoopIsKept, StoppedIsKept, history_of}
 
--- **stops within (`StopsWithin`, `LoopsLeadOrStop`)**: a loop whose last move was that a piece came, behind which it did
--- nothing more for its job but that some bytes of the file went out, or none: its output failed, it was killed, or it had no
--- memory for what it was to tell. Up to that piece it did whole steps.
+-- **stops within (`StopsWithin`, `LoopsLeadOrStop`)**: a loop whose last move was that a piece came, behind which it
+-- did nothing more for its job but that some bytes of the file went out, or none: its output failed, it was killed, or
+-- it had no memory for what it was to tell. Up to that piece it did whole steps.
 pub record StopsWithin (first : ClientState) (steps : List JobStep) (last : ClientState) : Type 0 where
   pub step : JobStep
   pub before : List JobStep

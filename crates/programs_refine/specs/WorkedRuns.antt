@@ -61,20 +61,22 @@ writes bytes = record { move = Writes bytes; gives = []; turned = false }
 abbrev pub lost_client : ClientState → ClientState
 lost_client c = after_client_end statuses.IoError whys.Lost c
 
--- **small runs (`LostAtOnceIsARun`, `StarvedIsARun`, `starved_acts`, `NewIsFit`, `StarvedIsKept`)**: of any one job that its loop takes,
--- beside any new daemon: its connection is lost before it wrote anything; or it writes its first request, the daemon opens
--- its session, is fed the first byte and runs out of memory, and the job finds its connection lost. Both are runs over
--- connections; and of the second, where a world takes devices and job, the loop is kept.
+-- **small runs (`LostAtOnceIsARun`, `StarvedIsARun`, `starved_acts`, `NewIsFit`, `StarvedIsKept`)**: of any one job
+-- that its loop takes, beside any new daemon: its connection is lost before it wrote anything; or it writes its first
+-- request, the daemon opens its session, is fed the first byte and runs out of memory, and the job finds its connection
+-- lost. Both are runs over connections; and of the second, where a world takes devices and job, the loop is kept.
 abbrev pub LostAtOnceIsARun : Type 0
 LostAtOnceIsARun =
     (job : Job) (c : ClientState) (registry : Table) (users : List Entry) (strings : StringSize) (stream : ChaCha)
     → IsNewClient job c → HasCount job.task
-    → RunOverConnections (job ∷ []) owned_by_none (new_core registry users strings stream) (OfJob 0 loses ∷ []) (λ i. lost_client c)
+    → RunOverConnections (job ∷ []) owned_by_none (new_core registry users strings stream) (OfJob 0 loses
+    ∷ []) (λ i. lost_client c)
 
 -- the newest first
 abbrev pub starved_acts : ℕ → ClientState → ℕ → Acts
 starved_acts port c byte =
-    OfJob 0 loses ∷ OfServer (Of 0 (Feed (byte ∷ []) Starved false)) ∷ OfServer (Of 0 (Hears (Moved 1) 4096 (byte ∷ [])))
+    OfJob 0 loses ∷ OfServer (Of 0 (Feed (byte ∷ []) Starved false))
+    ∷ OfServer (Of 0 (Hears (Moved 1) 4096 (byte ∷ [])))
     ∷ OfServer (Of 0 (Take 4096 [])) ∷ OfServer (Of 0 (Opens port)) ∷ OfJob 0 (writes c.out) ∷ []
 
 abbrev pub StarvedIsARun : Type 0
@@ -86,13 +88,17 @@ StarvedIsARun =
 
 abbrev pub NewIsFit : Type 0
 NewIsFit =
-    (devices : List DeviceState) (job : Job) (users : List Entry) (strings : StringSize) (stream : ChaCha) → HaveOwnNames devices
-    → All HasLimits devices → IsFitJob job → AreFit devices (job ∷ []) (new_core (fresh_table devices) users strings stream)
+    (devices : List DeviceState) (job : Job) (users : List Entry) (strings : StringSize) (stream : ChaCha)
+    → HaveOwnNames devices
+    → All HasLimits devices → IsFitJob job
+    → AreFit devices (job ∷ []) (new_core (fresh_table devices) users strings stream)
 
 abbrev pub StarvedIsKept : Type 0
 StarvedIsKept =
-    (devices : List DeviceState) (job : Job) (c : ClientState) (users : List Entry) (strings : StringSize) (stream : ChaCha)
+    (devices : List DeviceState) (job : Job) (c : ClientState) (users : List Entry) (strings : StringSize)
+    (stream : ChaCha)
     (port byte : ℕ) (rest : List ℕ) → HaveOwnNames devices → All HasLimits devices → IsFitJob job → IsNewClient job c
     → c.out ≡ byte ∷ rest
-    → AllLoopsAreKept devices (job ∷ []) (new_core (fresh_table devices) users strings stream) (starved_acts port c byte)
+    → AllLoopsAreKept devices (job
+    ∷ []) (new_core (fresh_table devices) users strings stream) (starved_acts port c byte)
     (λ i. lost_client (record c { out = [] }))

@@ -6,7 +6,9 @@ use Rattle.saned_core.specs.declared.session_slot.SessionId.{SessionId}
 use Rattle.client_replies.specs.ProtocolStates.{is_running, wanted_port}
 use Rattle.net_client.specs.ClientStates.{HasEarlyReply}
 use Rattle.scan_world.specs.declared.event.Event.{Event}
-use Rattle.scan_world.specs.declared.event.Event.TheVariants.{Connect, ToDaemon, ToClient, DataConnect, DataTurn, DataToClient, LoseControl, LoseImage, Cancel, Load, Unplug}
+use Rattle.scan_world.specs.declared.event.Event.TheVariants.{Connect, ToDaemon, ToClient, DataConnect, DataTurn}
+use Rattle.scan_world.specs.declared.event.Event.TheVariants.{DataToClient, LoseControl, LoseImage, Cancel, Load}
+use Rattle.scan_world.specs.declared.event.Event.TheVariants.{Unplug}
 use Rattle.scan_world.specs.declared.endpoint.Endpoint.{Endpoint}
 use Rattle.scan_world.specs.JobEvents.{IsFlowing, frame_state_at}
 use Rattle.scan_world.specs.Worlds.{Runs, WorldCore}
@@ -25,7 +27,8 @@ IsOfConnections (Cancel i) = ⊥
 IsOfConnections (Load name page) = ⊥
 IsOfConnections (Unplug name) = ⊥
 
--- **events of connections (`AreOfConnections`, `LeadsBy`)**: no job is given up, no page laid in and no device taken out.
+-- **events of connections (`AreOfConnections`, `LeadsBy`)**: no job is given up, no page laid in and no device taken
+-- out.
 abbrev pub AreOfConnections : List Event → Type 0
 AreOfConnections [] = Unit {0}
 AreOfConnections (event ∷ events) = IsOfConnections event × AreOfConnections events
@@ -46,22 +49,25 @@ pub record LeadsBy (source : Source → SourceState) (w : WorldCore) (events : L
   pub are : AreOfConnections events
   pub runs : Runs source events w v
 
--- **wants before it flows (`WantsBeforeItFlows`)**: a job that wants the data connection of a frame has none that flows; so
--- it always is from a world on (`AlwaysWantsBeforeItFlows`).
+-- **wants before it flows (`WantsBeforeItFlows`)**: a job that wants the data connection of a frame has none that
+-- flows; so it always is from a world on (`AlwaysWantsBeforeItFlows`).
 abbrev pub WantsBeforeItFlows : WorldCore → Type 0
 WantsBeforeItFlows w =
     (i : ℕ) (endpoint : Endpoint) (id : SessionId) → slice_get w.endpoints i ≡ Some endpoint → endpoint.link ≡ Some id
-    → is_running endpoint.client.outcome ≡ true → IsSome (wanted_port endpoint.client.progress) → IsFlowing (frame_state_at w.daemon id.number) → ⊥
+    → is_running endpoint.client.outcome ≡ true → IsSome (wanted_port endpoint.client.progress)
+    → IsFlowing (frame_state_at w.daemon id.number) → ⊥
 
 -- **hears in turn (`HearsInTurn`, `AlwaysHearsInTurn`)**: no reply comes to a job that runs before the request that it
 -- answers was taken.
 abbrev pub HearsInTurn : WorldCore → Type 0
 HearsInTurn w =
-    (i : ℕ) (endpoint : Endpoint) (id : SessionId) → slice_get w.endpoints i ≡ Some endpoint → endpoint.link ≡ Some id → is_running endpoint.client.outcome ≡ true → HasEarlyReply endpoint.client → ⊥
+    (i : ℕ) (endpoint : Endpoint) (id : SessionId) → slice_get w.endpoints i ≡ Some endpoint → endpoint.link ≡ Some id
+    → is_running endpoint.client.outcome ≡ true → HasEarlyReply endpoint.client → ⊥
 
 -- so it is of each world that connections lead to
 abbrev pub AlwaysWantsBeforeItFlows : (Source → SourceState) → WorldCore → Type 0
-AlwaysWantsBeforeItFlows source w = (events : List Event) (v : WorldCore) → LeadsBy source w events v → WantsBeforeItFlows v
+AlwaysWantsBeforeItFlows source w = (events : List Event) (v : WorldCore) → LeadsBy source w events v
+    → WantsBeforeItFlows v
 
 abbrev pub AlwaysHearsInTurn : (Source → SourceState) → WorldCore → Type 0
 AlwaysHearsInTurn source w = (events : List Event) (v : WorldCore) → LeadsBy source w events v → HearsInTurn v

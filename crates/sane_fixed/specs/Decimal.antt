@@ -1,5 +1,6 @@
 -- The decimal texts of fixed numbers: an optional `-`, 1 to 9 digits, and optionally a point and 1 to 16 digits.
-use Rattle.std.specs.Prelude.{ℕ, ◌+◌, ◌*◌, ◌/◌, ◌^◌, ◌≤◌, ◌≡◌, ℤ, pos, neg_ℤ, Bool, true, false, if◌then◌else◌, nat_le, nat_lt, Option, Some, None, List, [], ◌∷◌, ◌++◌, length}
+use Rattle.std.specs.Prelude.{ℕ, ◌+◌, ◌*◌, ◌/◌, ◌^◌, ◌≤◌, ◌≡◌, ℤ, pos, neg_ℤ, Bool, true, false, if◌then◌else◌, nat_le}
+use Rattle.std.specs.Prelude.{nat_lt, Option, Some, None, List, [], ◌∷◌, ◌++◌, length}
 use Rattle.std.specs.Str.Parse.{digits_value, AllDigits}
 
 -- `-` before a negative number, and nothing before another
@@ -12,9 +13,9 @@ abbrev pub fraction_text : List ℕ → List ℕ
 fraction_text [] = []
 fraction_text (digit ∷ digits) = 46 ∷ digit ∷ digits
 
--- **decimal text (`IsDecimal`, `SpellsFixed`)**: an optional `-`, 1 to 9 digits, and optionally a point and 1 to 16 digits.
--- It spells the word of its magnitude times 65536, rounded to the nearest whole number, halves away from zero, with the
--- sign put; none where that leaves 32 bits.
+-- **decimal text (`IsDecimal`, `SpellsFixed`)**: an optional `-`, 1 to 9 digits, and optionally a point and 1 to 16
+-- digits. It spells the word of its magnitude times 65536, rounded to the nearest whole number, halves away from zero,
+-- with the sign put; none where that leaves 32 bits.
 --
 -- the text is that sign, those digits before the point and those after it
 pub record IsDecimal (text : List ℕ) (negative : Bool) (whole fraction : List ℕ) : Type 0 where
@@ -31,7 +32,9 @@ rounded_quotient n d = (2 * n + d) / (2 * d)
 
 -- what the digits before and after the point stand for, in units of 1/65536
 abbrev pub magnitude_of : List ℕ → List ℕ → ℕ
-magnitude_of whole fraction = rounded_quotient ((digits_value 10 whole * 10 ^ length fraction + digits_value 10 fraction) * 65536) (10 ^ length fraction)
+magnitude_of whole fraction =
+    rounded_quotient ((digits_value 10 whole * 10 ^ length fraction + digits_value 10 fraction)
+    * 65536) (10 ^ length fraction)
 
 -- the word of that sign, if it fits in 32 bits
 abbrev pub word_of : Bool → ℕ → Option ℤ

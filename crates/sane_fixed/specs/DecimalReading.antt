@@ -1,5 +1,6 @@
 -- How the text of a fixed number is read from the left: the word that it spells.
-use Rattle.std.specs.Prelude.{ℕ, ℤ, Bool, true, false, if◌then◌else◌, nat_le, ◌&&◌, ◌==◌, Option, Some, None, option_and_then, List, [], ◌∷◌, length, take, drop}
+use Rattle.std.specs.Prelude.{ℕ, ℤ, Bool, true, false, if◌then◌else◌, nat_le, ◌&&◌, ◌==◌, Option, Some, None}
+use Rattle.std.specs.Prelude.{option_and_then, List, [], ◌∷◌, length, take, drop}
 use Rattle.sane_fixed.specs.Digits.{digit_count}
 use Rattle.sane_fixed.specs.Decimal.{magnitude_of, word_of}
 

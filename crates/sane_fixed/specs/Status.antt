@@ -1,7 +1,8 @@
 -- SANE's statuses: their numbers and names (SANE Standard 1.06, "Status Type").
 use Rattle.std.specs.Prelude.{ℕ, List, codes}
 use Rattle.sane_fixed.specs.declared.status.Status.{Status}
-use Rattle.sane_fixed.specs.declared.status.Status.TheVariants.{Good, Unsupported, Cancelled, DeviceBusy, Inval, Eof, Jammed, NoDocs, CoverOpen, IoError, NoMem, AccessDenied}
+use Rattle.sane_fixed.specs.declared.status.Status.TheVariants.{Good, Unsupported, Cancelled, DeviceBusy, Inval, Eof}
+use Rattle.sane_fixed.specs.declared.status.Status.TheVariants.{Jammed, NoDocs, CoverOpen, IoError, NoMem, AccessDenied}
 
 -- **status**: SANE's twelve statuses, their numbers and names ("Status Type").
 abbrev pub status_code : Status → ℕ

@@ -3,20 +3,21 @@
 
 ghost use Rattle.std.specs.Prelude.{◌≡◌, ◌≢◌, IfErr, OnOk, map, string_bytes};
 ghost use Rattle.std.specs.Process.{exit_status as code_of};
-ghost use Rattle.device_api.specs.State.{DeviceState};
 ghost use Rattle.saned_core.specs.DaemonStates.{core};
-ghost use Rattle.saned_cli.specs.DaemonEndings.{daemon_exit_status};
-ghost use Rattle.saned_cli.specs.WholeDaemon.{HasServedFor, IsDaemonFailure, IsServedBy};
+ghost use Rattle.config_pages.specs.InputTexts.{input_texts};
+ghost use Rattle.config_pages.specs.ScannerStates.{scanner_state};
+ghost use Rattle.saned_cli.specs.DaemonEndings.{IsDaemonFailure, daemon_exit_status};
+ghost use Rattle.saned_cli.specs.WholeDaemon.{HasServedFor, IsServedBy};
 ghost use Rattle.saned_cli.specs.declared.daemon_ending.DaemonEnding.{DaemonEnding as AnEnding};
 
 mod daemon_command_line;
 
-use crate::daemon_command_line::{config_lines, users, words};
-use config_pages::{feeder, flatbed, hand_scanner, three_pass};
-use device_api::Device;
+use crate::daemon_command_line::words;
+use config_pages::{HostInputs, Inputs, Scanner, scanners};
 use dispatch::Registry;
-use page_picture::DeviceKind;
-use saned_cli::{DaemonEnding, DaemonPlan, LocalNet, ServeEnd, plan_of, serve};
+use saned_cli::{
+    DaemonEnding, DaemonPlan, LocalNet, ServeEnd, config_lines, plan_of, serve, users_of,
+};
 use saned_core::Daemon;
 use std::fs::File;
 use std::io::{ErrorKind, Write};
@@ -26,8 +27,12 @@ use std::process::ExitCode;
 const ROOT: &str = "/";
 
 /// Listens, says where, and serves.
-fn serve_at(rt: &HostRuntime, plan: &DaemonPlan, daemon: &mut Daemon) -> Result<(), DaemonEnding>
-    ensures served { OnOk result (IsServedBy plan.now (core state daemon.old)) }
+fn serve_at(
+    rt: &HostRuntime,
+    plan: &DaemonPlan,
+    daemon: &mut Daemon<Scanner>,
+) -> Result<(), DaemonEnding>
+    ensures served { OnOk result (IsServedBy plan.now (core scanner_state daemon.old)) }
     ensures failed { IfErr result IsDaemonFailure }
 {
     let options = &plan.options;
@@ -54,55 +59,21 @@ fn serve_at(rt: &HostRuntime, plan: &DaemonPlan, daemon: &mut Daemon) -> Result<
 }
 
 /// Reads the config and the users, makes the devices, and serves as the words say.
-fn run(rt: &HostRuntime, words: &[String]) -> Result<(), DaemonEnding>
-    ensures done { OnOk result (HasServedFor (map string_bytes words.now)) }
+fn run<I: Inputs>(rt: &HostRuntime, inputs: &I, words: &[String]) -> Result<(), DaemonEnding>
+    ensures done { OnOk result (HasServedFor
+        (input_texts (I.standard_text inputs.now) (I.file_text inputs.now))
+        (map string_bytes words.now)) }
     ensures failed { IfErr result IsDaemonFailure }
 {
-    let plan = plan_of(rt.alloc(), words)?;
-    let lines = config_lines(rt, &plan.options)?;
-    let order = plan.options.byte_order;
-    let mut devices: Vec<Box<dyn Device>> = Vec::with_capacity(rt.alloc(), lines.len()).map_err(
-        |_| DaemonEnding::NoMemory,
-    )?;
-    // Boxes of devices are made here, since a function that hands them out would hide what it made.
-    for line in &lines {
-        match line.kind {
-            DeviceKind::Flatbed => {
-                let device = flatbed(rt, line, order).map_err(|e| DaemonEnding::of_device(
-                    line.line, e,
-                ))?;
-                let Ok(()) = devices.push(device) else {
-                    return Err(DaemonEnding::NoMemory);
-                };
-            }
-            DeviceKind::Hand => {
-                let device = hand_scanner(rt, line, order).map_err(|e| DaemonEnding::of_device(
-                    line.line, e,
-                ))?;
-                let Ok(()) = devices.push(device) else {
-                    return Err(DaemonEnding::NoMemory);
-                };
-            }
-            DeviceKind::ThreePass => {
-                let device = three_pass(rt, line, order).map_err(|e| DaemonEnding::of_device(
-                    line.line, e,
-                ))?;
-                let Ok(()) = devices.push(device) else {
-                    return Err(DaemonEnding::NoMemory);
-                };
-            }
-            DeviceKind::Feeder => {
-                let device = feeder(rt, line, order).map_err(|e| DaemonEnding::of_device(
-                    line.line, e,
-                ))?;
-                let Ok(()) = devices.push(device) else {
-                    return Err(DaemonEnding::NoMemory);
-                };
-            }
-        }
-    }
-    let users = users(rt, &plan.options)?;
-    let Ok(registry) = Registry::new(rt.alloc(), devices) else {
+    let alloc = rt.alloc();
+    let plan = plan_of(alloc, words)?;
+    let lines = config_lines(alloc, inputs, &plan.options)?;
+    let devices = match scanners(rt, lines.as_slice(), plan.options.byte_order) {
+        Ok(devices) => devices,
+        Err(why) => return Err(DaemonEnding::of_device(why.line, why.fault)),
+    };
+    let users = users_of(alloc, inputs, &plan.options)?;
+    let Ok(registry) = Registry::new(alloc, devices) else {
         return Err(DaemonEnding::NoMemory);
     };
     let mut daemon = Daemon::with_strings(registry, users, plan.options.strings, plan.seed);
@@ -118,17 +89,25 @@ fn told<E: Write>(err: &mut E, ending: &DaemonEnding) -> ExitCode
 }
 
 /// Serves as the words of the command line say, and gives the exit status.
-fn exit_code<E: Write>(rt: &HostRuntime, words: &[String], err: &mut E) -> ExitCode
-    /// Where the exit status is 0, a daemon of some devices and users, with the seed and the size of strings that the words say,
-    /// has served as `serve` says, with their limits of sessions and idle turns.
+fn exit_code<I: Inputs, E: Write>(
+    rt: &HostRuntime,
+    inputs: &I,
+    words: &[String],
+    err: &mut E,
+) -> ExitCode
+    /// Where the exit status is 0, a daemon of the scanners of the config's lines, with the users of the file that the words name,
+    /// their seed and size of strings, has served as `serve` says, with their limits of sessions and idle turns; of both files
+    /// where the inputs tell their texts.
     /// Carried by: `well` of the private `exit_code`, `done` of the private `run`: `HasServedFor`
-    ensures well { code_of result ≡ 0 → HasServedFor (map string_bytes words.now) }
+    ensures well { code_of result ≡ 0 → HasServedFor
+        (input_texts (I.standard_text inputs.now) (I.file_text inputs.now))
+        (map string_bytes words.now) }
     /// Any other exit status is that of the ending that is told.
     ensures otherwise { code_of result ≢ 0
         → (ending : AnEnding)
         × (code_of result ≡ daemon_exit_status ending) × IsDaemonFailure ending }
 {
-    match run(rt, words) {
+    match run(rt, inputs, words) {
         Ok(()) => ExitCode::from(0),
         Err(ending) => told(err, &ending),
     }
@@ -143,7 +122,7 @@ fn main(rt: HostRuntime) -> ExitCode {
     ];
     let mut err = rt.stderr();
     match words(&rt) {
-        Ok(words) => exit_code(&rt, words.as_slice(), &mut err),
+        Ok(words) => exit_code(&rt, &HostInputs { rt: &rt }, words.as_slice(), &mut err),
         Err(ending) => told(&mut err, &ending),
     }
 }

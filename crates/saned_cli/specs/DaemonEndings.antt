@@ -1,9 +1,10 @@
 -- The exit statuses of saned.
-use Rattle.std.specs.Prelude.{ℕ}
+use Rattle.std.specs.Prelude.{ℕ, ◌≢◌}
 use Rattle.config_pages.specs.declared.devices.DeviceFault.{DeviceFault}
 use Rattle.config_pages.specs.declared.devices.DeviceFault.TheVariants.{NoPage, NoMem}
 use Rattle.saned_cli.specs.declared.daemon_ending.DaemonEnding.{DaemonEnding}
-use Rattle.saned_cli.specs.declared.daemon_ending.DaemonEnding.TheVariants.{BadCommandLine, BadSeed, CannotRead, Config, Page, Users, CannotListen, NoMemory}
+use Rattle.saned_cli.specs.declared.daemon_ending.DaemonEnding.TheVariants.{BadCommandLine, BadSeed, CannotRead, Config}
+use Rattle.saned_cli.specs.declared.daemon_ending.DaemonEnding.TheVariants.{Page, Users, CannotListen, NoMemory}
 
 -- 64 for the command line, 65 for what it names, 9 for a port that cannot be had, and 10 for lack of memory
 abbrev pub daemon_exit_status : DaemonEnding → ℕ
@@ -15,6 +16,10 @@ daemon_exit_status (Page line why) = 65
 daemon_exit_status (Users fault) = 65
 daemon_exit_status CannotListen = 9
 daemon_exit_status NoMemory = 10
+
+-- an ending whose exit status is not 0
+abbrev pub IsDaemonFailure : DaemonEnding → Type 0
+IsDaemonFailure ending = daemon_exit_status ending ≢ 0
 
 -- a line of the config has no scanner: its page is not there, or there is no memory
 abbrev pub daemon_ended_by_device : ℕ → DeviceFault → DaemonEnding

@@ -3,7 +3,8 @@ use Rattle.std.specs.Prelude.{ℕ, ◌≡◌, ◌⊎◌, Option, Some, None, Ok,
 use Rattle.hex.specs.Hex.{decode_sized}
 use Rattle.saned_cli.specs.OptionsOfDaemon.{AreDaemonOptions}
 use Rattle.saned_cli.specs.declared.daemon_ending.DaemonEnding.{DaemonEnding}
-use Rattle.saned_cli.specs.declared.daemon_ending.DaemonEnding.TheVariants.{BadCommandLine, BadSeed, CannotRead, Config, Page, Users, CannotListen, NoMemory}
+use Rattle.saned_cli.specs.declared.daemon_ending.DaemonEnding.TheVariants.{BadCommandLine, BadSeed, CannotRead, Config}
+use Rattle.saned_cli.specs.declared.daemon_ending.DaemonEnding.TheVariants.{Page, Users, CannotListen, NoMemory}
 use Rattle.saned_cli.specs.declared.daemon_options.DaemonOptions.{DaemonOptions}
 use Rattle.saned_cli.specs.declared.daemon_plan.DaemonPlan.{DaemonPlan}
 
@@ -17,7 +18,8 @@ abbrev pub HasBadSeed : Option (List ℕ) → Type 0
 HasBadSeed None = ⊥
 HasBadSeed (Some text) = IsErr (decode_sized text 32)
 
--- **the plan of saned's command line (`IsDaemonPlanOf`)**: the options of the words, and the seed that they say, or 32 bytes 0.
+-- **the plan of saned's command line (`IsDaemonPlanOf`)**: the options of the words, and the seed that they say, or 32
+-- bytes 0.
 pub record IsDaemonPlanOf (words : List (List ℕ)) (plan : DaemonPlan) : Type 0 where
   pub options : AreDaemonOptions words plan.options
   pub seed : IsSeedOf (option_map string_bytes plan.options.seed) plan.seed
@@ -25,7 +27,8 @@ pub record IsDaemonPlanOf (words : List (List ℕ)) (plan : DaemonPlan) : Type 0
 -- why there is no plan: the command line is refused, or what stands for its seed is none, or there is no memory
 abbrev pub IsDaemonPlanRefusal : List (List ℕ) → DaemonEnding → Type 0
 IsDaemonPlanRefusal words BadCommandLine = ⊤
-IsDaemonPlanRefusal words BadSeed = (options : DaemonOptions) × AreDaemonOptions words options × HasBadSeed (option_map string_bytes options.seed)
+IsDaemonPlanRefusal words BadSeed = (options : DaemonOptions) × AreDaemonOptions words options
+    × HasBadSeed (option_map string_bytes options.seed)
 IsDaemonPlanRefusal words (CannotRead path) = ⊥
 IsDaemonPlanRefusal words (Config fault) = ⊥
 IsDaemonPlanRefusal words (Page line why) = ⊥

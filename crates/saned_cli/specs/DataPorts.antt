@@ -2,8 +2,8 @@
 use Rattle.std.specs.Prelude.{ℕ, ◌≡◌, ◌≤◌, Option, Some, None, List, ◌∷◌, ◌++◌, decimal}
 use Rattle.saned_cli.specs.declared.data_ports.PortRange.{PortRange}
 
--- a text names ports as `FROM-TO`: two numbers of 1 to 65535 in decimal digits, without a sign or a leading zero, of which the
--- first is at most the second
+-- a text names ports as `FROM-TO`: two numbers of 1 to 65535 in decimal digits, without a sign or a leading zero, of
+-- which the first is at most the second
 pub record IsPortRange (text : List ℕ) (ports : PortRange) : Type 0 where
   pub spelled : text ≡ decimal ports.first ++ (45 ∷ decimal ports.last)
   pub least : 1 ≤ ports.first

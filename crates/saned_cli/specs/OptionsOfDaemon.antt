@@ -1,5 +1,6 @@
 -- What the words of saned's command line make of its options.
-use Rattle.std.specs.Prelude.{ℕ, ◌≡◌, ◌≤◌, ◌||◌, Bool, true, false, IsSome, List, [], ◌∷◌, Option, Some, None, codes, decimal, drop, option_map, string_bytes}
+use Rattle.std.specs.Prelude.{ℕ, ◌≡◌, ◌≤◌, ◌||◌, Bool, true, false, IsSome, List, [], ◌∷◌, Option, Some, None, codes}
+use Rattle.std.specs.Prelude.{decimal, drop, option_map, string_bytes}
 use Rattle.sane_fixed.specs.declared.byte_order.ByteOrder.{ByteOrder}
 use Rattle.sane_fixed.specs.declared.byte_order.ByteOrder.TheVariants.{Little, Big}
 use Rattle.saned_requests.specs.declared.session.StringSize.{StringSize}
@@ -8,8 +9,8 @@ use Rattle.saned_cli.specs.OptionWords.{words_joined, option_value_of, is_pad_st
 use Rattle.saned_cli.specs.DataPorts.{ArePortsOf}
 use Rattle.saned_cli.specs.declared.daemon_options.DaemonOptions.{DaemonOptions}
 
--- the number of an option between two others: the one that its text writes in decimal digits, without a sign or a leading
--- zero, and where there is no text the default
+-- the number of an option between two others: the one that its text writes in decimal digits, without a sign or a
+-- leading zero, and where there is no text the default
 abbrev pub IsNumberOf : ℕ → ℕ → ℕ → Option (List ℕ) → ℕ → Type 0
 IsNumberOf least most default None n = n ≡ default
 IsNumberOf least most default (Some text) n = (text ≡ decimal n) × (least ≤ n) × (n ≤ most)
@@ -30,8 +31,9 @@ abbrev pub string_size_by : Bool → StringSize
 string_size_by true = OfOption
 string_size_by false = OfText
 
--- The options `--NAME=VALUE` give each its value, and the numbers are within their bounds: a port of 6566, no end by sessions,
--- one behind 10,000,000 idle turns, and data ports of any number where nothing is said; where there are users there is a seed.
+-- The options `--NAME=VALUE` give each its value, and the numbers are within their bounds: a port of 6566, no end by
+-- sessions, one behind 10,000,000 idle turns, and data ports of any number where nothing is said; where there are users
+-- there is a seed.
 pub record AreNamed (named : List (List ℕ)) (options : DaemonOptions) : Type 0 where
   pub config : option_value_of (codes "--config=") named ≡ Some (string_bytes options.config)
   pub users : option_value_of (codes "--users=") named ≡ option_map string_bytes options.users
@@ -44,11 +46,13 @@ pub record AreNamed (named : List (List ℕ)) (options : DaemonOptions) : Type 0
   pub strings : options.strings ≡ string_size_by (has_pad_strings named)
   pub seeded : IsSome options.users → IsSome options.seed
 
--- **saned's options and endings (`AreDaemonOptions`, `AreNamed`, `IsNumberOf`, `daemon_exit_status`)**: each option has the
--- value that stands behind its name among the options that the words are joined to; a number is the one that its text
--- writes, or the default where there is none; sessions at most 1,000,000,000, idle turns 1 to that, and a seed where there
--- are users; 64 for the command line, 65 for what it names, 9 for a port that cannot be had, 10 for lack of memory.
+-- **saned's options and endings (`AreDaemonOptions`, `AreNamed`, `IsNumberOf`, `daemon_exit_status`)**: each option has
+-- the value that stands behind its name among the options that the words are joined to; a number is the one that its
+-- text writes, or the default where there is none; sessions at most 1,000,000,000, idle turns 1 to that, and a seed
+-- where there are users; 64 for the command line, 65 for what it names, 9 for a port that cannot be had, 10 for lack of
+-- memory.
 --
 -- so the words behind the program's name do
 abbrev pub AreDaemonOptions : List (List ℕ) → DaemonOptions → Type 0
-AreDaemonOptions words options = (named : List (List ℕ)) × (words_joined (drop 1 words) ≡ Some named) × AreNamed named options
+AreDaemonOptions words options = (named : List (List ℕ)) × (words_joined (drop 1 words) ≡ Some named)
+    × AreNamed named options

@@ -1,7 +1,8 @@
--- The system's table of sockets, as Linux tells it in /proc/net/tcp: a line of headings, and a line for each socket, whose
--- fields stand between blanks. Counted from 0, field 1 is the socket's own end, field 2 its peer's, field 7 the user who owns
--- it, and field 9 the number of its inode, which is 0 where no process has the socket any more.
-use Rattle.std.specs.Prelude.{ℕ, ◌≡◌, ◌≢◌, ◌/◌, ◌%◌, ◌&&◌, ◌||◌, Bool, true, false, Option, Some, None, List, [], ◌∷◌, ◌++◌, codes, decimal, filter, not, slice_index}
+-- The system's table of sockets, as Linux tells it in /proc/net/tcp: a line of headings, and a line for each socket,
+-- whose fields stand between blanks. Counted from 0, field 1 is the socket's own end, field 2 its peer's, field 7 the
+-- user who owns it, and field 9 the number of its inode, which is 0 where no process has the socket any more.
+use Rattle.std.specs.Prelude.{ℕ, ◌≡◌, ◌≢◌, ◌/◌, ◌%◌, ◌&&◌, ◌||◌, Bool, true, false, Option, Some, None, List, [], ◌∷◌}
+use Rattle.std.specs.Prelude.{◌++◌, codes, decimal, filter, not, slice_index}
 use Rattle.std.specs.List.{slice_get}
 use Rattle.std.specs.Str.{bytes_eq}
 use Rattle.std.specs.declared.net.socket_addr.SocketAddrV4.{SocketAddrV4}
@@ -11,8 +12,8 @@ use Rattle.hex.specs.Hex.{encode_upper}
 use Rattle.text_lines.specs.Lines.{lines_of}
 use Rattle.dispatch.specs.ConfigLines.{fields_of}
 
--- one end of a connection: the four bytes of its address, the last of them first, a colon, and the two bytes of its port, in
--- hexadecimal digits, in capitals
+-- one end of a connection: the four bytes of its address, the last of them first, a colon, and the two bytes of its
+-- port, in hexadecimal digits, in capitals
 abbrev pub end_text : SocketAddrV4 → List ℕ
 end_text end = let octets : List ℕ = ipv4_octets (v4_ip end) in
     encode_upper (slice_index octets 3 ∷ slice_index octets 2 ∷ slice_index octets 1 ∷ slice_index octets 0 ∷ [])

@@ -1,25 +1,23 @@
 -- What the program saned does, from the words of its command line to the calls of its daemon.
-use Rattle.std.specs.Prelude.{ℕ, ◌≡◌, ◌≢◌, None, Option, List, [], ◌∷◌}
+use Rattle.std.specs.Prelude.{ℕ, ◌≡◌, None, Option, List, [], ◌∷◌}
 use Rattle.device_api.specs.State.{DeviceState}
 use Rattle.dispatch.specs.Table.{fresh_table}
+use Rattle.dispatch.specs.declared.config_line.ConfigLine.{ConfigLine}
+use Rattle.config_pages.specs.Devices.{AreDevicesOf}
+use Rattle.config_pages.specs.InputTexts.{InputTexts, TellsLines}
 use Rattle.md5_auth.specs.Challenges.{HasGiven}
-use Rattle.md5_auth.specs.UserLines.{TellsUsers}
 use Rattle.md5_auth.specs.declared.users.Entry.{Entry}
 use Rattle.saned_core.specs.DaemonStates.{Core}
 use Rattle.saned_serve.specs.ListenerTraces.{ListenerTrace}
 use Rattle.saned_serve.specs.Serving.{HasServed}
 use Rattle.saned_serve.specs.declared.serving.ServeEnd.{ServeEnd}
-use Rattle.saned_cli.specs.DaemonEndings.{daemon_exit_status}
+use Rattle.saned_cli.specs.DaemonInputs.{AreUsersIn, config_text}
 use Rattle.saned_cli.specs.DaemonPlans.{IsDaemonPlanOf}
-use Rattle.saned_cli.specs.declared.daemon_ending.DaemonEnding.{DaemonEnding}
 use Rattle.saned_cli.specs.declared.daemon_plan.DaemonPlan.{DaemonPlan}
 
--- an ending whose exit status is not 0
-abbrev pub IsDaemonFailure : DaemonEnding → Type 0
-IsDaemonFailure ending = daemon_exit_status ending ≢ 0
-
 -- a daemon before its first session: of these devices and users, with the plan's seed and size of strings
-pub record IsDaemonOf (plan : DaemonPlan) (devices : List DeviceState) (users : List Entry) (daemon : Core) : Type 0 where
+pub record IsDaemonOf (plan : DaemonPlan) (devices : List DeviceState) (users : List Entry)
+    (daemon : Core) : Type 0 where
   pub registry : daemon.registry ≡ fresh_table devices
   pub users_are : daemon.users ≡ users
   pub strings : daemon.strings ≡ plan.options.strings
@@ -32,17 +30,22 @@ pub record IsServedBy (plan : DaemonPlan) (daemon : Core) : Type 0 where
   pub began : Option ListenerTrace
   pub listened : Option ListenerTrace
   pub end : ServeEnd
-  pub served : HasServed (record { sessions = plan.options.sessions; idle_turns = plan.options.idle_turns }) (record { daemon = daemon; listeners = began }) (record { daemon = last; listeners = listened }) end
+  pub served
+      : HasServed (record { sessions = plan.options.sessions; idle_turns = plan.options.idle_turns })
+      (record { daemon = daemon; listeners = began }) (record { daemon = last; listeners = listened }) end
 
--- **has served for its words (`HasServedFor`, `IsDaemonOf`, `IsServedBy`)**: the words have a plan, and the daemon of it, of some
--- devices and users, has served to the plan's end of sessions or idle turns; where the plan names no users, they are those of an
--- empty text.
-pub record HasServedFor (words : List (List ℕ)) : Type 0 where
+-- **has served for its words (`HasServedFor`, `IsDaemonOf`, `IsServedBy`)**: the words have a plan, and the daemon of
+-- it, of the scanners of the config's lines and of the users in the file that is named, has served to the plan's end of
+-- sessions or idle turns.
+pub record HasServedFor (texts : InputTexts) (words : List (List ℕ)) : Type 0 where
   pub plan : DaemonPlan
   pub is_plan : IsDaemonPlanOf words plan
+  pub lines : List ConfigLine
+  pub config : TellsLines (config_text texts plan.options) lines
   pub devices : List DeviceState
+  pub of_lines : AreDevicesOf plan.options.byte_order lines devices
   pub users : List Entry
-  pub no_users : plan.options.users ≡ None → TellsUsers [] users
+  pub users_named : AreUsersIn texts plan.options users
   pub first : Core
   pub serves : IsServedBy plan first
   pub begun : IsDaemonOf plan devices users first

@@ -1,11 +1,12 @@
-ghost use Rattle.std.specs.Prelude.{◌≡◌, IfErr, IfOk, IfSome, IsOk, OnOk, string_bytes, take};
-ghost use Rattle.dispatch.specs.ConfigLines.{TellsConfig};
-ghost use Rattle.md5_auth.specs.UserLines.{TellsUsers};
+ghost use Rattle.std.specs.Prelude.{◌≡◌, IfErr, IfOk, IsOk, OnOk, string_bytes};
 ghost use Rattle.config_pages.specs.ConfigReading.{remaining_of};
-ghost use Rattle.saned_cli.specs.DaemonInputs.{IsUnreadFile, RefusesDaemonConfig, RefusesUsers};
+ghost use Rattle.config_pages.specs.InputTexts.{TellsLines, input_texts};
+ghost use Rattle.saned_cli.specs.DaemonEndings.{IsDaemonFailure};
+ghost use Rattle.saned_cli.specs.DaemonInputs.{AreUsersIn, IsUnreadFile, RefusesDaemonConfig, RefusesUsers, TellsUsersIn, config_text};
 
 use crate::daemon_ending::DaemonEnding;
-use config_pages::{ConfigFailure, read_config, text_of};
+use crate::daemon_options::DaemonOptions;
+use config_pages::{ConfigFailure, Inputs, read_config, text_of};
 use dispatch::ConfigLine;
 use md5_auth::Users;
 use std::alloc::Global;
@@ -46,8 +47,8 @@ pub fn config_from<R: Read + Drop>(
     /// by its name.
     /// Carried by: `opened`, `lines`, `refused` of `config_from`
     ensures opened { OnOk result (IsOk opened) }
-    ensures lines { IfOk result (λ lines. IfSome (remaining_of R.remaining opened)
-        (λ all. TellsConfig (take 4194433 all) lines.items)) }
+    ensures lines { IfOk result
+        (λ lines. TellsLines (remaining_of R.remaining opened) lines.items) }
     ensures refused { IfErr result
         (RefusesDaemonConfig name.now (remaining_of R.remaining opened)) }
 {
@@ -70,8 +71,7 @@ pub fn users_from<R: Read + Drop>(
     /// for its first bad line, or since it cannot be read, by its name.
     /// Carried by: `opened`, `users`, `refused` of `users_from`
     ensures opened { OnOk result (IsOk opened) }
-    ensures users { IfOk result (λ users. IfSome (remaining_of R.remaining opened)
-        (λ all. TellsUsers (take 66049 all) users)) }
+    ensures users { IfOk result (TellsUsersIn (remaining_of R.remaining opened)) }
     ensures refused { IfErr result (RefusesUsers name.now (remaining_of R.remaining opened)) }
 {
     let reader = match opened {
@@ -85,5 +85,54 @@ pub fn users_from<R: Read + Drop>(
     match Users::parse(alloc, text.as_slice()) {
         Ok(users) => Ok(users),
         Err(fault) => Err(DaemonEnding::Users(fault)),
+    }
+}
+
+/// The lines of the config that the options name, which `-` says is standard input.
+pub fn config_lines<I: Inputs>(
+    alloc: Global,
+    inputs: &I,
+    options: &DaemonOptions,
+) -> Result<Vec<ConfigLine>, DaemonEnding>
+    /// The lines of the config are those of the text on standard input, or in the file that the options name, where the inputs
+    /// tell it.
+    /// Carried by: `lines` of `config_lines`: `config_text`
+    ensures lines { IfOk result (λ lines. TellsLines (config_text
+        (input_texts (I.standard_text inputs.now) (I.file_text inputs.now))
+        options.now) lines.items) }
+    /// Where a config or a users file is not there, no ending has the exit status 0.
+    /// Carried by: `failed` of `config_lines`, of `users_of`
+    ensures failed { IfErr result IsDaemonFailure }
+{
+    let path = options.config.as_str();
+    if path == "-" {
+        config_from(alloc, path, Ok(inputs.standard()))
+    } else {
+        config_from(alloc, path, inputs.file(path.as_bytes()))
+    }
+}
+
+/// The users in the file that the options name; none where they name none.
+pub fn users_of<I: Inputs>(
+    alloc: Global,
+    inputs: &I,
+    options: &DaemonOptions,
+) -> Result<Users, DaemonEnding>
+    /// The users are those of the text in the file that the options name, where the inputs tell it, and those of an empty text
+    /// where they name none.
+    /// Carried by: `users` of `users_of`: `AreUsersIn`
+    ensures users { IfOk result (AreUsersIn
+        (input_texts (I.standard_text inputs.now) (I.file_text inputs.now)) options.now) }
+    ensures failed { IfErr result IsDaemonFailure }
+{
+    match &options.users {
+        None => match Users::parse(alloc, b"") {
+            Ok(users) => Ok(users),
+            Err(fault) => Err(DaemonEnding::Users(fault)),
+        },
+        Some(path) => {
+            let path = path.as_str();
+            users_from(alloc, path, inputs.file(path.as_bytes()))
+        }
     }
 }

@@ -17,7 +17,7 @@ mod socket_table;
 mod table_fields;
 
 pub use daemon_ending::DaemonEnding;
-pub use daemon_inputs::{config_from, users_from};
+pub use daemon_inputs::{config_from, config_lines, users_from, users_of};
 pub use daemon_options::{DaemonOptions, DaemonOptionsFault, read_options};
 pub use daemon_plan::{DaemonPlan, plan_of};
 pub use data_ports::{PortRange, port_range};

@@ -1,5 +1,6 @@
 -- What a daemon is to its callers: the table of devices, and the sessions that stand.
-use Rattle.std.specs.Prelude.{ℕ, ◌+◌, ◌||◌, ◌==◌, Bool, true, false, if◌then◌else◌, Option, Some, None, option_map, option_and_then, List, [], ◌∷◌, map, drop}
+use Rattle.std.specs.Prelude.{ℕ, ◌+◌, ◌||◌, ◌==◌, Bool, true, false, if◌then◌else◌, Option, Some, None, option_map}
+use Rattle.std.specs.Prelude.{option_and_then, List, [], ◌∷◌, map, drop}
 use Rattle.rand_chacha.specs.ChaCha.{ChaCha}
 use Rattle.device_api.specs.State.{DeviceState}
 use Rattle.md5_auth.specs.declared.users.Entry.{Entry}
@@ -33,13 +34,23 @@ pub record DaemonState (S : Type 0) : Type 0 where
 -- ---- with each device seen as its state
 
 abbrev pub seen_session_slot : {D S : Type 0} → (D → S) → SessionSlot D → SessionSlot S
-seen_session_slot f s = record { number = s.number; input = s.input; replies = s.replies; session = option_map (seen_session f) s.session }
+seen_session_slot f s =
+    record { number = s.number; input = s.input; replies = s.replies; session = option_map (seen_session f) s.session }
 
 abbrev pub seen_session_slots : {D S : Type 0} → (D → S) → List (Option (SessionSlot D)) → List (Option (SessionSlot S))
 seen_session_slots f slots = map (option_map (seen_session_slot f)) slots
 
 abbrev pub core : {D S : Type 0} → (D → S) → DaemonState D → DaemonState S
-core f d = record { slots = seen_session_slots f d.slots; registry = table f d.registry; users = d.users; strings = d.strings; stream = d.stream; opened = d.opened }
+core f d =
+    record {
+      slots = seen_session_slots f d.slots;
+      registry = table f d.registry;
+      users = d.users;
+      strings =
+          d.strings;
+      stream = d.stream;
+      opened = d.opened;
+    }
 
 abbrev pub Core : Type 0
 Core = DaemonState DeviceState
@@ -50,9 +61,9 @@ abbrev pub is_slot_number : {S : Type 0} → ℕ → Option (SessionSlot S) → 
 is_slot_number n None = false
 is_slot_number n (Some slot) = slot.number == n
 
--- **slot (`SessionSlot`, `session_slot_of`, `on_session_slot`)**: a session's number, what came and was not answered, the
--- bytes of replies that wait, and the session while it goes on. A slot stands as long as its session goes on or replies
--- wait.
+-- **slot (`SessionSlot`, `session_slot_of`, `on_session_slot`)**: a session's number, what came and was not answered,
+-- the bytes of replies that wait, and the session while it goes on. A slot stands as long as its session goes on or
+-- replies wait.
 unfoldable pub session_slot_of : {S : Type 0} → List (Option (SessionSlot S)) → ℕ → Option (SessionSlot S)
 session_slot_of [] n = None
 session_slot_of (slot ∷ slots) n = if is_slot_number n slot then slot else session_slot_of slots n
@@ -66,9 +77,11 @@ abbrev pub session_of : {S : Type 0} → DaemonState S → ℕ → Option (Sessi
 session_of d n = session_in (session_slot_of d.slots n)
 
 -- something else, or nothing, in place of the slot of that number
-unfoldable pub on_session_slot : {S : Type 0} → (SessionSlot S → Option (SessionSlot S)) → ℕ → List (Option (SessionSlot S)) → List (Option (SessionSlot S))
+unfoldable pub on_session_slot : {S : Type 0} → (SessionSlot S → Option (SessionSlot S)) → ℕ
+    → List (Option (SessionSlot S)) → List (Option (SessionSlot S))
 on_session_slot f n [] = []
-on_session_slot f n (slot ∷ slots) = if is_slot_number n slot then option_and_then f slot ∷ slots else slot ∷ on_session_slot f n slots
+on_session_slot f n (slot ∷ slots) =
+    if is_slot_number n slot then option_and_then f slot ∷ slots else slot ∷ on_session_slot f n slots
 
 -- a session in the first place that is free
 abbrev pub all_slots_taken : {S : Type 0} → List (Option (SessionSlot S)) → Bool
@@ -76,7 +89,8 @@ all_slots_taken [] = true
 all_slots_taken (None ∷ slots) = false
 all_slots_taken (Some slot ∷ slots) = all_slots_taken slots
 
-unfoldable pub with_session_slot : {S : Type 0} → List (Option (SessionSlot S)) → SessionSlot S → List (Option (SessionSlot S))
+unfoldable pub with_session_slot : {S : Type 0} → List (Option (SessionSlot S)) → SessionSlot S
+    → List (Option (SessionSlot S))
 with_session_slot [] new = []
 with_session_slot (None ∷ slots) new = Some new ∷ slots
 with_session_slot (Some slot ∷ slots) new = Some slot ∷ with_session_slot slots new
@@ -111,7 +125,14 @@ abbrev pub after_taken : {S : Type 0} → ℕ → SessionSlot S → Option (Sess
 after_taken count slot = kept_if_open (after_reply_bytes count slot)
 
 abbrev pub new_session_slot : StringSize → ℕ → ℕ → SessionSlot DeviceState
-new_session_slot strings number port = record { number = number; input = record { rest = []; fault = None }; replies = []; session = Some (fresh_session strings port) }
+new_session_slot strings number port =
+    record {
+      number = number;
+      input = record { rest = []; fault = None };
+      replies = [];
+      session =
+          Some (fresh_session strings port);
+    }
 
 abbrev pub session_let_go : Table → Option (Session DeviceState) → Table
 session_let_go t None = t
@@ -123,14 +144,16 @@ is_closed d = (d.opened == 18446744073709551615) || all_slots_taken d.slots
 
 -- another session stands
 abbrev pub after_open_session : Core → ℕ → Core
-after_open_session d port = record d { slots = with_session_slot d.slots (new_session_slot d.strings d.opened port); opened = d.opened + 1 }
+after_open_session d port =
+    record d { slots = with_session_slot d.slots (new_session_slot d.strings d.opened port); opened = d.opened + 1 }
 
 -- a session that ends: nothing of it stands, and its leases are given back
 abbrev pub no_more : {S : Type 0} → SessionSlot S → Option (SessionSlot S)
 no_more slot = None
 
 abbrev pub after_end_session : Core → ℕ → Core
-after_end_session d n = record d { slots = on_session_slot no_more n d.slots; registry = session_let_go d.registry (session_of d n) }
+after_end_session d n =
+    record d { slots = on_session_slot no_more n d.slots; registry = session_let_go d.registry (session_of d n) }
 
 -- ---- frames
 

@@ -1,5 +1,6 @@
 -- What a piece of bytes does to a session.
-use Rattle.std.specs.Prelude.{ℕ, ◌≡◌, ◌≢◌, ◌≤◌, ◌⊎◌, Bool, true, false, Option, Some, None, List, [], ◌∷◌, ◌++◌, map, length}
+use Rattle.std.specs.Prelude.{ℕ, ◌≡◌, ◌≢◌, ◌≤◌, ◌⊎◌, Bool, true, false, Option, Some, None, List, [], ◌∷◌, ◌++◌, map}
+use Rattle.std.specs.Prelude.{length}
 use Rattle.md5_auth.specs.declared.users.Entry.{Entry}
 use Rattle.device_api.specs.State.{DeviceState}
 use Rattle.dispatch.specs.Table.{Table}
@@ -29,11 +30,13 @@ Says reply text = (write_reply.text reply ≡ Some text) × (length text ≤ mes
 
 abbrev pub SaysAll : List Reply → List ℕ → Type 0
 SaysAll [] text = text ≡ []
-SaysAll (reply ∷ replies) text = (front : List ℕ) × (back : List ℕ) × (text ≡ front ++ back) × Says reply front × SaysAll replies back
+SaysAll (reply ∷ replies) text = (front : List ℕ) × (back : List ℕ) × (text ≡ front ++ back) × Says reply front
+    × SaysAll replies back
 
 -- **unsaid (`IsUnsaid`)**: a reply that passes a limit of the wire, or that nothing spells.
 abbrev pub IsUnsaid : Reply → Type 0
-IsUnsaid reply = PassesLimit (reply_passes reply) (write_reply.text reply) ⊎ ((text : List ℕ) → (reply_format (replied_procedure reply)).spells text reply → ⊥)
+IsUnsaid reply = PassesLimit (reply_passes reply) (write_reply.text reply)
+    ⊎ ((text : List ℕ) → (reply_format (replied_procedure reply)).spells text reply → ⊥)
 
 -- ---- requests one after another
 
@@ -54,12 +57,15 @@ replies_to (Last reply) = optional_reply_list reply
 -- what is said ends the session: it is the last, or a reply of it is not said
 pub data EndsWith (said : RequestAnswer) (told : List Reply) : Type 0 where
   Done : session_goes_on said ≡ false → told ≡ replies_to said → EndsWith said told
-  Cut : (before after : List Reply) (reply : Reply) → replies_to said ≡ before ++ reply ∷ after → IsUnsaid reply → told ≡ before → EndsWith said told
+  Cut : (before after : List Reply) (reply : Reply) → replies_to said ≡ before ++ reply ∷ after → IsUnsaid reply
+      → told ≡ before → EndsWith said told
 
 -- these requests are answered, and the session goes on behind each of them
 abbrev pub AnswersAll : List Entry → RequestContext → List Request → List Reply → RequestContext → Type 0
 AnswersAll users d [] told new = (told ≡ []) × (new ≡ d)
-AnswersAll users d (q ∷ qs) told new = (said : RequestAnswer) × (mid : RequestContext) × (more : List Reply) × Answers users d q said mid × (session_goes_on said ≡ true) × AnswersAll users mid qs more new × (told ≡ replies_to said ++ more)
+AnswersAll users d (q ∷ qs) told new = (said : RequestAnswer) × (mid : RequestContext) × (more : List Reply)
+    × Answers users d q said mid × (session_goes_on said ≡ true) × AnswersAll users mid qs more new
+    × (told ≡ replies_to said ++ more)
 
 -- the requests that are whole with this piece, behind what had come, and what is left behind them
 pub record DecodesRequests (old piece : List ℕ) (requests : List Request) (rest : List ℕ) : Type 0 where
@@ -68,11 +74,15 @@ pub record DecodesRequests (old piece : List ℕ) (requests : List Request) (res
   pub spelled : AreSpelled (map (λ q. TakenRequest q) requests) text
 
 -- why a session is over: no spelling stands in the rest, or the request in front of it ended it
-pub data FeedEndsSession (users : List Entry) (d : RequestContext) (rest : List ℕ) (told : List Reply) (new : RequestContext) : Type 0 where
+pub data FeedEndsSession (users : List Entry) (d : RequestContext) (rest : List ℕ) (told : List Reply)
+    (new : RequestContext) : Type 0 where
   Garbled : IsNoStart message_limit request_format rest → told ≡ [] → new ≡ d → FeedEndsSession users d rest told new
-  Ended : (left : List ℕ) (q : Request) (said : RequestAnswer) → SpellsFront (limited_format message_limit request_format) rest left q → Answers users d q said new → EndsWith said told → FeedEndsSession users d rest told new
+  Ended : (left : List ℕ) (q : Request) (said : RequestAnswer)
+      → SpellsFront (limited_format message_limit request_format) rest left q → Answers users d q said new
+      → EndsWith said told → FeedEndsSession users d rest told new
 
--- a piece that comes to a session: the users, the session with what it shares, what had come before of a request, and the piece
+-- a piece that comes to a session: the users, the session with what it shares, what had come before of a request, and
+-- the piece
 pub record FedPiece : Type 0 where
   pub users : List Entry
   pub context : RequestContext
@@ -111,7 +121,8 @@ pub record FeedsOver (was : FedPiece) (new : RequestContext) (text : List ℕ) :
   pub text_is : text ≡ front ++ back
 
 -- the request in front of the rest is under way
-pub record OutOfMemoryNext (users : List Entry) (d : RequestContext) (rest : List ℕ) (new : RequestContext) : Type 0 where
+pub record OutOfMemoryNext (users : List Entry) (d : RequestContext) (rest : List ℕ)
+    (new : RequestContext) : Type 0 where
   pub left : List ℕ
   pub request : Request
   pub takes : SpellsFront (limited_format message_limit request_format) rest left request
@@ -151,11 +162,18 @@ table_let_go d = given_back d.registry d.session.held
 
 -- a piece for the session of a number
 abbrev pub fed_piece : Core → ℕ → Session DeviceState → List ℕ → FedPiece
-fed_piece d n session piece = record { users = d.users; context = core_context d session; before = input_of d n; piece = piece }
+fed_piece d n session piece =
+    record { users = d.users; context = core_context d session; before = input_of d n; piece = piece }
 
 -- the slot of a session that goes on, with these replies behind those that wait
 abbrev pub answered_slot : FeedProgress → SessionSlot DeviceState → Option (SessionSlot DeviceState)
-answered_slot now slot = Some (record slot { input = record { rest = now.rest; fault = None }; replies = slot.replies ++ now.text; session = Some now.context.session })
+answered_slot now slot =
+    Some (record slot {
+      input = record { rest = now.rest; fault = None };
+      replies = slot.replies ++ now.text;
+      session =
+          Some now.context.session;
+    })
 
 -- of one that is over: it stands as long as replies wait
 abbrev pub ended_slot : List ℕ → SessionSlot DeviceState → Option (SessionSlot DeviceState)
@@ -198,12 +216,12 @@ pub record KeepsOtherSessions (n : ℕ) (d e : Core) : Type 0 where
   pub rest : e ≡ record d { slots = e.slots; registry = e.registry; stream = e.stream }
 
 -- **feeds (`Feeds`)**: what a call of `feed` promises, in five facts. Where no session of that number goes on
--- (`HasNoSession`) it is `Over`, and the daemon as it was. Else some requests, whose spellings are the bytes that came and
--- then a rest, were answered one after another (`AnsweredSoFar`), and their replies' spellings stand behind those that
--- wait: more is wanted of the rest, and the session stands (`AnswersWhole`); or it is over, since no spelling begins so, or
--- one more request ends it, and its leases are given back (`EndsWithin`); or memory ran out, perhaps in the midst of one
--- more request, its leases are given back, and the replies are dropped (`FailsOutOfMemory`). Each other session's slot is
--- as it was, and all else of the daemon (`KeepsOtherSessions`).
+-- (`HasNoSession`) it is `Over`, and the daemon as it was. Else some requests, whose spellings are the bytes that came
+-- and then a rest, were answered one after another (`AnsweredSoFar`), and their replies' spellings stand behind those
+-- that wait: more is wanted of the rest, and the session stands (`AnswersWhole`); or it is over, since no spelling
+-- begins so, or one more request ends it, and its leases are given back (`EndsWithin`); or memory ran out, perhaps in
+-- the midst of one more request, its leases are given back, and the replies are dropped (`FailsOutOfMemory`). Each
+-- other session's slot is as it was, and all else of the daemon (`KeepsOtherSessions`).
 pub record Feeds (n : ℕ) (d : Core) (piece : List ℕ) (fed : Fed) (e : Core) : Type 0 where
   pub idle : HasNoSession d n → (fed ≡ Over) × (e ≡ d)
   pub standing : fed ≡ Standing → AnswersWhole n d piece e

@@ -1,8 +1,10 @@
--- What private functions promise: of a piece of bytes, case by case of what becomes of its session; of places, leases and
--- reads of a device.
-use Rattle.std.specs.Prelude.{◌<◌, ◌≡◌, Bool, true, false, Option, Some, None, List, length, slice_index_or, Result, option_and_then, ℕ, option_map, [], ◌++◌}
+-- What private functions promise: of a piece of bytes, case by case of what becomes of its session; of places, leases
+-- and reads of a device.
+use Rattle.std.specs.Prelude.{◌<◌, ◌≡◌, Bool, true, false, Option, Some, None, List, length, slice_index_or, Result}
+use Rattle.std.specs.Prelude.{option_and_then, ℕ, option_map, [], ◌++◌}
 use Rattle.saned_core.specs.declared.session_slot.SessionSlot.{SessionSlot}
-use Rattle.saned_core.specs.DaemonStates.{is_slot_number, session_in, with_session, seen_session_slot, session_slot_of, on_session_slot, kept_if_open}
+use Rattle.saned_core.specs.DaemonStates.{is_slot_number, session_in, with_session, seen_session_slot, session_slot_of}
+use Rattle.saned_core.specs.DaemonStates.{on_session_slot, kept_if_open}
 use Rattle.sane_fixed.specs.declared.status.Status.{Status}
 use Rattle.device_api.specs.State.{DeviceState, Reads}
 use Rattle.dispatch.specs.declared.table.place.Lease.{Lease}
@@ -20,7 +22,9 @@ use Rattle.saned_requests.specs.declared.request_answer.RequestAnswer.{RequestAn
 use Rattle.saned_core.specs.declared.session_slot.Fed.{Fed}
 use Rattle.saned_core.specs.declared.session_slot.Fed.TheVariants.{Standing, Over, Starved}
 use Rattle.saned_requests.specs.RequestAnswers.{RequestContext}
-use Rattle.saned_core.specs.Feeding.{Says, SaysAll, EndsWith, session_goes_on, replies_to, FedPiece, FeedProgress, AnsweredSoFar, FeedsOn, FeedsOver, FeedOutOfMemory, input_in, no_input, table_let_go}
+use Rattle.saned_core.specs.Feeding.{Says, SaysAll, EndsWith, session_goes_on, replies_to, FedPiece, FeedProgress}
+use Rattle.saned_core.specs.Feeding.{AnsweredSoFar, FeedsOn, FeedsOver, FeedOutOfMemory, input_in, no_input}
+use Rattle.saned_core.specs.Feeding.{table_let_go}
 
 -- its bytes stand behind those that wait
 pub record IsSaid (reply : Reply) (before after : List ℕ) : Type 0 where
@@ -69,11 +73,14 @@ pub record FeedsReplies (fed : Fed) (was : FedPiece) (before : List ℕ) (now : 
 
 -- the slot of a session that was fed: one that is over keeps its replies, and none where memory ran out
 abbrev pub slot_after_feed : {S : Type 0} → Fed → Session S → List ℕ → List ℕ → SessionSlot S → SessionSlot S
-slot_after_feed Standing session rest text slot = record slot { input = record { rest = rest; fault = None }; replies = slot.replies ++ text; session = Some session }
-slot_after_feed Over session rest text slot = record slot { input = no_input; replies = slot.replies ++ text; session = None }
+slot_after_feed Standing session rest text slot =
+    record slot { input = record { rest = rest; fault = None }; replies = slot.replies ++ text; session = Some session }
+slot_after_feed Over session rest text slot =
+    record slot { input = no_input; replies = slot.replies ++ text; session = None }
 slot_after_feed Starved session rest text slot = record slot { input = no_input; replies = []; session = None }
 
-abbrev pub slot_or_none_after_feed : Fed → RequestContext → List ℕ → List ℕ → SessionSlot DeviceState → Option (SessionSlot DeviceState)
+abbrev pub slot_or_none_after_feed : Fed → RequestContext → List ℕ → List ℕ → SessionSlot DeviceState
+    → Option (SessionSlot DeviceState)
 slot_or_none_after_feed fed d rest text slot = kept_if_open (slot_after_feed fed d.session rest text slot)
 
 abbrev pub registry_after : Fed → RequestContext → Table
@@ -87,33 +94,56 @@ pub record PlaceState : Type 0 where
   pub registry : Table
   pub stream : ChaCha
 
-abbrev pub place_state : {D : Type 0} → (D → DeviceState) → Option (SessionSlot D) → List (Place D) → ChaCha → PlaceState
-place_state f slot registry stream = record { slot = option_map (seen_session_slot f) slot; registry = table f registry; stream = stream }
+abbrev pub place_state : {D : Type 0} → (D → DeviceState) → Option (SessionSlot D) → List (Place D) → ChaCha
+    → PlaceState
+place_state f slot registry stream =
+    record { slot = option_map (seen_session_slot f) slot; registry = table f registry; stream = stream }
 
 -- what a piece does to the session of a place, and to what it shares with others
-pub record FeedsPlace (users : List Entry) (was : PlaceState) (piece : List ℕ) (fed : Fed) (now : PlaceState) : Type 0 where
+pub record FeedsPlace (users : List Entry) (was : PlaceState) (piece : List ℕ) (fed : Fed)
+    (now : PlaceState) : Type 0 where
   pub session : Session DeviceState
   pub stood : session_in was.slot ≡ Some session
   pub context : RequestContext
   pub rest : List ℕ
   pub text : List ℕ
-  pub feeds : FeedsContext fed (record { users = users; context = record { session = session; registry = was.registry; stream = was.stream }; before = input_in was.slot; piece = piece }) (record { context = context; rest = rest; text = text })
+  pub feeds
+      : FeedsContext fed
+      (record {
+        users = users;
+        context =
+            record { session = session; registry = was.registry; stream = was.stream };
+        before = input_in was.slot;
+        piece =
+            piece;
+      }) (record { context = context; rest = rest; text = text })
   pub slot : now.slot ≡ option_map (slot_after_feed fed context.session rest text) was.slot
   pub registry : now.registry ≡ registry_after fed context
   pub stream : now.stream ≡ context.stream
 
 -- the session of a number that goes on: what becomes of its slot, and nothing of any other
-pub record FeedsIn (s : Session DeviceState) (users : List Entry) (n : ℕ) (input : List ℕ) (slots : List (Option (SessionSlot DeviceState))) (registry : Table) (stream : ChaCha) (piece : List ℕ) (fed : Fed) (seats_new : List (Option (SessionSlot DeviceState))) (registry_new : Table) (stream_new : ChaCha) : Type 0 where
+pub record FeedsIn (s : Session DeviceState) (users : List Entry) (n : ℕ) (input : List ℕ)
+    (slots : List (Option (SessionSlot DeviceState))) (registry : Table) (stream : ChaCha) (piece : List ℕ) (fed : Fed)
+    (seats_new : List (Option (SessionSlot DeviceState))) (registry_new : Table) (stream_new : ChaCha) : Type 0 where
   pub context : RequestContext
   pub rest : List ℕ
   pub text : List ℕ
-  pub feeds : FeedsContext fed (record { users = users; context = record { session = s; registry = registry; stream = stream }; before = input; piece = piece }) (record { context = context; rest = rest; text = text })
+  pub feeds
+      : FeedsContext fed
+      (record {
+        users = users;
+        context = record { session = s; registry = registry; stream = stream };
+        before =
+            input;
+        piece = piece;
+      }) (record { context = context; rest = rest; text = text })
   pub slots_is : seats_new ≡ on_session_slot (slot_or_none_after_feed fed context rest text) n slots
   pub registry_is : registry_new ≡ registry_after fed context
   pub stream_is : stream_new ≡ context.stream
 
 -- one that is over, or was never opened, does nothing
-abbrev pub FeedsIf : Option (Session DeviceState) → List Entry → ℕ → List ℕ → List (Option (SessionSlot DeviceState)) → Table → ChaCha → List ℕ → Fed → List (Option (SessionSlot DeviceState)) → Table → ChaCha → Type 0
+abbrev pub FeedsIf : Option (Session DeviceState) → List Entry → ℕ → List ℕ → List (Option (SessionSlot DeviceState))
+    → Table → ChaCha → List ℕ → Fed → List (Option (SessionSlot DeviceState)) → Table → ChaCha → Type 0
 FeedsIf None users n input slots registry stream piece fed seats_new registry_new stream_new =
     (fed ≡ Over) × (seats_new ≡ slots) × (registry_new ≡ registry) × (stream_new ≡ stream)
 FeedsIf (Some s) users n input slots registry stream piece fed seats_new registry_new stream_new =
@@ -128,7 +158,8 @@ pub record SlotsState : Type 0 where
 
 abbrev pub FeedsAmong : ℕ → SlotsState → List ℕ → Fed → SlotsState → Type 0
 FeedsAmong n was piece fed now =
-    FeedsIf (session_in (session_slot_of was.slots n)) was.users n (input_in (session_slot_of was.slots n)) was.slots was.registry was.stream piece fed now.slots now.registry now.stream
+    FeedsIf (session_in (session_slot_of was.slots n)) was.users n (input_in (session_slot_of was.slots n)) was.slots
+    was.registry was.stream piece fed now.slots now.registry now.stream
 
 -- ---- of a place among the slots
 
@@ -139,7 +170,8 @@ pub record IsFirstSlot {S : Type 0} (n : ℕ) (slots : List (Option (SessionSlot
   pub before : (j : ℕ) (d : Option (SessionSlot S)) → j < k → is_slot_number n (slice_index_or slots j d) ≡ false
 
 abbrev pub IsMissing : {S : Type 0} → ℕ → List (Option (SessionSlot S)) → Type 0
-IsMissing {S = S} n slots = (k : ℕ) (d : Option (SessionSlot S)) → k < length slots → is_slot_number n (slice_index_or slots k d) ≡ false
+IsMissing {S = S} n slots = (k : ℕ) (d : Option (SessionSlot S)) → k < length slots
+    → is_slot_number n (slice_index_or slots k d) ≡ false
 
 -- no session has the place
 abbrev pub is_vacant : {S : Type 0} → Option (SessionSlot S) → Bool
@@ -160,27 +192,32 @@ IsNoneOf {A = A} p xs = (k : ℕ) (d : A) → k < length xs → p (slice_index_o
 -- ---- of a read of a device, and of a slot's turn
 
 -- one read of a device, where there is one
-pub record ReadsDevice (lease : Lease DeviceState) (told : Option (Result ℕ Status)) (new : Option (Lease DeviceState)) (window : List ℕ) : Type 0 where
+pub record ReadsDevice (lease : Lease DeviceState) (told : Option (Result ℕ Status)) (new : Option (Lease DeviceState))
+    (window : List ℕ) : Type 0 where
   pub answer : Result ℕ Status
   pub after : DeviceState
   pub told_is : told ≡ Some answer
   pub reads : Reads lease.device answer after window
   pub new_is : new ≡ with_device lease after
 
-abbrev pub ReadsLease : Option (Lease DeviceState) → Option (Result ℕ Status) → Option (Lease DeviceState) → List ℕ → Type 0
+abbrev pub ReadsLease : Option (Lease DeviceState) → Option (Result ℕ Status) → Option (Lease DeviceState) → List ℕ
+    → Type 0
 ReadsLease None told new window = (told ≡ None) × (new ≡ None)
 ReadsLease (Some lease) told new window = ReadsDevice lease told new window
 
 -- one read of the device that a word stands for
-pub record ReadsWord (held : List (Option (Lease DeviceState))) (word : ℕ) (told : Option (Result ℕ Status)) (new : List (Option (Lease DeviceState))) (window : List ℕ) : Type 0 where
+pub record ReadsWord (held : List (Option (Lease DeviceState))) (word : ℕ) (told : Option (Result ℕ Status))
+    (new : List (Option (Lease DeviceState))) (window : List ℕ) : Type 0 where
   pub lease : Option (Lease DeviceState)
   pub reads : ReadsLease (held_by held word) told lease window
   pub new_is : new ≡ on_word (λ _. lease) held word
 
 -- a turn of a slot's data connection; one whose session is over does nothing
-abbrev pub TurnsSession : Option (Session DeviceState) → Option (SessionSlot DeviceState) → DataStep → Option (SessionSlot DeviceState) → List ℕ → Type 0
+abbrev pub TurnsSession : Option (Session DeviceState) → Option (SessionSlot DeviceState) → DataStep
+    → Option (SessionSlot DeviceState) → List ℕ → Type 0
 TurnsSession None old step new buf = (step ≡ Idle) × (new ≡ old)
-TurnsSession (Some s) old step new buf = (t : Session DeviceState) × TurnsStream s step t buf × (new ≡ option_and_then (with_session t) old)
+TurnsSession (Some s) old step new buf = (t : Session DeviceState) × TurnsStream s step t buf
+    × (new ≡ option_and_then (with_session t) old)
 
 abbrev pub TurnsSlot : Option (SessionSlot DeviceState) → DataStep → Option (SessionSlot DeviceState) → List ℕ → Type 0
 TurnsSlot old step new buf = TurnsSession (session_in old) old step new buf

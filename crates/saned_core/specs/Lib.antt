@@ -5,3 +5,4 @@ pub mod Inside
 pub mod Loading
 pub mod DaemonLimits
 pub mod StringSizes
+pub mod Laws

@@ -70,10 +70,13 @@ abbrev pub slot_with_page : List ℕ → SourceState → Option (SessionSlot Dev
 slot_with_page name source None = None
 slot_with_page name source (Some slot) = Some (record slot { session = session_with name source slot.session })
 
--- **load (`daemon_load_answer`, `core_after_load`)**: where a session holds the device of that name, its first such lease
--- takes the page; else the table answers.
+-- **load (`daemon_load_answer`, `core_after_load`)**: where a session holds the device of that name, its first such
+-- lease takes the page; else the table answers.
 abbrev pub daemon_load_answer : Core → List ℕ → Result Unit Status
 daemon_load_answer d name = first_answer_of (holds name) (slot_load_answer name) d.slots (load_answer d.registry name)
 
 abbrev pub core_after_load : Core → List ℕ → SourceState → Core
-core_after_load d name source = if list_any (holds name) d.slots then record d { slots = on_first (holds name) (slot_with_page name source) d.slots } else record d { registry = table_after_load d.registry name source }
+core_after_load d name source =
+    if list_any (holds name) d.slots
+    then record d { slots = on_first (holds name) (slot_with_page name source) d.slots }
+    else record d { registry = table_after_load d.registry name source }

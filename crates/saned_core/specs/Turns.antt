@@ -30,16 +30,20 @@ data_phase_after c (Ok n) = c
 data_phase_after c (Err status) = Quiet
 
 -- one read, into all of the buffer behind the record's head but at most 65,536 bytes, and its record
-pub record StreamsOn (lease : Lease DeviceState) (word : ℕ) (old : Session DeviceState) (step : DataStep) (new : Session DeviceState) (buf : List ℕ) : Type 0 where
+pub record StreamsOn (lease : Lease DeviceState) (word : ℕ) (old : Session DeviceState) (step : DataStep)
+    (new : Session DeviceState) (buf : List ℕ) : Type 0 where
   pub answer : Result ℕ Status
   pub after : DeviceState
   pub window : List ℕ
   pub whole : 4 + length window ≡ min (length buf) 65540
   pub reads : Reads lease.device answer after window
   pub written : Records answer window step buf
-  pub new_is : new ≡ record old { held = on_word (λ _. with_device lease after) old.held word; transfer = data_phase_after old.transfer answer }
+  pub new_is : new
+      ≡ record old
+      { held = on_word (λ _. with_device lease after) old.held word; transfer = data_phase_after old.transfer answer }
 
-abbrev pub StreamsFrom : Option (Lease DeviceState) → ℕ → Session DeviceState → DataStep → Session DeviceState → List ℕ → Type 0
+abbrev pub StreamsFrom : Option (Lease DeviceState) → ℕ → Session DeviceState → DataStep → Session DeviceState → List ℕ
+    → Type 0
 StreamsFrom None word old step new buf = (step ≡ Idle) × (new ≡ old)
 StreamsFrom (Some lease) word old step new buf = StreamsOn lease word old step new buf
 
@@ -53,15 +57,18 @@ abbrev pub TurnsStream : Session DeviceState → DataStep → Session DeviceStat
 TurnsStream old step new buf = StreamsIn old.transfer old step new buf
 
 -- the same of one among those that stand
-abbrev pub TurnsSessions : Option (Session DeviceState) → ℕ → List (Option (SessionSlot DeviceState)) → DataStep → List (Option (SessionSlot DeviceState)) → List ℕ → Type 0
+abbrev pub TurnsSessions : Option (Session DeviceState) → ℕ → List (Option (SessionSlot DeviceState)) → DataStep
+    → List (Option (SessionSlot DeviceState)) → List ℕ → Type 0
 TurnsSessions None n old step new buf = (step ≡ Idle) × (new ≡ old)
-TurnsSessions (Some s) n old step new buf = (t : Session DeviceState) × TurnsStream s step t buf × (new ≡ on_session_slot (with_session t) n old)
+TurnsSessions (Some s) n old step new buf = (t : Session DeviceState) × TurnsStream s step t buf
+    × (new ≡ on_session_slot (with_session t) n old)
 
-abbrev pub TurnsSlots : ℕ → List (Option (SessionSlot DeviceState)) → DataStep → List (Option (SessionSlot DeviceState)) → List ℕ → Type 0
+abbrev pub TurnsSlots : ℕ → List (Option (SessionSlot DeviceState)) → DataStep → List (Option (SessionSlot DeviceState))
+    → List ℕ → Type 0
 TurnsSlots n old step new buf = TurnsSessions (session_in (session_slot_of old n)) n old step new buf
 
--- **turns (`Turns`)**: one record of what one read gave, at most as much as the buffer has room for behind four bytes, and
--- 65,536; or the end record with the status that the read answered, or CANCELLED; or nothing.
+-- **turns (`Turns`)**: one record of what one read gave, at most as much as the buffer has room for behind four bytes,
+-- and 65,536; or the end record with the status that the read answered, or CANCELLED; or nothing.
 --
 -- and of a daemon, of which nothing else changes
 pub record Turns (n : ℕ) (old : Core) (step : DataStep) (new : Core) (buf : List ℕ) : Type 0 where

@@ -20,6 +20,7 @@ ghost use Rattle.saned_core.specs.declared.session_slot.Fed.{Fed as AFed};
 ghost use Rattle.saned_core.specs.declared.session_slot.DataStep.{DataStep as ADataStep};
 ghost use Rattle.page_picture.specs.Source.{SourceState};
 ghost use Rattle.dispatch.specs.Table.{after_unplug};
+ghost use Rattle.saned_core.specs.Laws.{OneMoreIsAnswered, SessionsAreIndependent};
 
 /// A piece is answered request by request: before the first nothing is, and each one more is answered on the request context that
 /// those before it left.
@@ -29,15 +30,7 @@ pub fn requests_are_answered_in_order()
       rest = fed.before ++ fed.piece;
       text = [];
     }) }
-    ensures more { (fed : FedPiece) (now : FeedProgress) (new : RequestContext)
-        (left more : List ℕ) (q : AnyRequest) (said : AnySaid) → AnsweredSoFar fed now
-        → SpellsFront (limited_format message_limit request_format) now.rest left q
-        → Answers fed.users now.context q said new → session_goes_on said ≡ true
-        → SaysAll (replies_to said) more → AnsweredSoFar fed (record {
-          context = new;
-          rest = left;
-          text = now.text ++ more;
-        }) }
+    ensures more { OneMoreIsAnswered }
 {}
 
 /// A request uses bytes: so many requests of a piece end.
@@ -49,10 +42,7 @@ pub fn a_request_uses_bytes()
 
 /// What is done to one session changes no other one.
 pub fn sessions_are_independent()
-    ensures { (slots : List (Option (ASeat DeviceState))) (f : ASeat DeviceState
-        → Option (ASeat DeviceState)) (n m : ℕ)
-        → ((slot new : ASeat DeviceState) → f slot ≡ Some new → new.number ≡ slot.number)
-        → n ≢ m → session_slot_of (on_session_slot f n slots) m ≡ session_slot_of slots m }
+    ensures { SessionsAreIndependent }
 {}
 
 /// A new daemon has its limits, eight places and a number for each session that no other has, and every call of it, as its

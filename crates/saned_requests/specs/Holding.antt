@@ -1,5 +1,6 @@
 -- What a session holds: its device words, and what becomes of the leases that they stand for.
-use Rattle.std.specs.Prelude.{ℕ, zero, suc, Bool, true, false, Option, Some, None, option_map, List, [], ◌∷◌, map, position}
+use Rattle.std.specs.Prelude.{ℕ, zero, suc, Bool, true, false, Option, Some, None, option_map, List, [], ◌∷◌, map}
+use Rattle.std.specs.Prelude.{position}
 use Rattle.device_api.specs.State.{DeviceState, after_cancel}
 use Rattle.dispatch.specs.declared.table.place.Lease.{Lease}
 use Rattle.dispatch.specs.Table.{Table, seen_lease, after_give_back}
@@ -12,10 +13,19 @@ abbrev pub seen_held : {D S : Type 0} → (D → S) → List (Option (Lease D)) 
 seen_held f held = map (option_map (seen_lease f)) held
 
 abbrev pub seen_session : {D S : Type 0} → (D → S) → Session D → Session S
-seen_session f s = record { port = s.port; strings = s.strings; greeted = s.greeted; held = seen_held f s.held; awaited = s.awaited; transfer = s.transfer }
+seen_session f s =
+    record {
+      port = s.port;
+      strings = s.strings;
+      greeted = s.greeted;
+      held = seen_held f s.held;
+      awaited =
+          s.awaited;
+      transfer = s.transfer;
+    }
 
--- **what a session holds (`held_by`, `on_word`, `free_word`, `given_back`)**: what a word stands for, something else in its
--- place, the least free word, and the table once all leases are back.
+-- **what a session holds (`held_by`, `on_word`, `free_word`, `given_back`)**: what a word stands for, something else in
+-- its place, the least free word, and the table once all leases are back.
 unfoldable pub held_by : {S : Type 0} → List (Option (Lease S)) → ℕ → Option (Lease S)
 held_by [] word = None
 held_by (h ∷ held) zero = h
@@ -37,7 +47,8 @@ abbrev pub with_device : Lease DeviceState → DeviceState → Option (Lease Dev
 with_device lease s = Some (record lease { device = s })
 
 -- something else in place of what a word stands for
-unfoldable pub on_word : {S : Type 0} → (Option (Lease S) → Option (Lease S)) → List (Option (Lease S)) → ℕ → List (Option (Lease S))
+unfoldable pub on_word : {S : Type 0} → (Option (Lease S) → Option (Lease S)) → List (Option (Lease S)) → ℕ
+    → List (Option (Lease S))
 on_word f [] word = []
 on_word f (h ∷ held) zero = f h ∷ held
 on_word f (h ∷ held) (suc word) = h ∷ on_word f held word
@@ -61,4 +72,13 @@ given_back t (lease ∷ held) = given_back (with_lease_back t lease) held
 
 -- a session that was just opened
 abbrev pub fresh_session : StringSize → ℕ → Session DeviceState
-fresh_session strings port = record { port = port; strings = strings; greeted = false; held = None ∷ None ∷ None ∷ None ∷ []; awaited = None; transfer = Quiet }
+fresh_session strings port =
+    record {
+      port = port;
+      strings = strings;
+      greeted = false;
+      held = None ∷ None ∷ None ∷ None ∷ [];
+      awaited =
+          None;
+      transfer = Quiet;
+    }

@@ -2,3 +2,4 @@ pub mod Holding
 pub mod OptionValues
 pub mod RequestAnswers
 pub mod LeaseLaws
+pub mod Laws

@@ -1,5 +1,6 @@
 -- Values of options, as the daemon sends them and as they are asked for.
-use Rattle.std.specs.Prelude.{ℕ, ◌*◌, ◌-◌, ◌==◌, true, false, if◌then◌else◌, Option, Some, None, option_map, List, [], ◌∷◌, ◌++◌, map, length, replicate}
+use Rattle.std.specs.Prelude.{ℕ, ◌*◌, ◌-◌, ◌==◌, true, false, if◌then◌else◌, Option, Some, None, option_map, List, []}
+use Rattle.std.specs.Prelude.{◌∷◌, ◌++◌, map, length, replicate}
 use Rattle.std.specs.Int.{w32, cast_signed}
 use Rattle.sane_fixed.specs.Kind.{kind_code}
 use Rattle.sane_fixed.specs.declared.kind.Kind.{Kind}
@@ -69,8 +70,8 @@ abbrev pub asked_of : Descriptor → WireValue → Option Value
 asked_of desc (wire.Words words) = if length words * 4 == desc.size then words_asked desc.kind words else None
 asked_of desc (wire.Bytes bytes) = bytes_asked desc.kind bytes
 
--- **value asked for (`value_asked`), value in a reply (`sent_as`)**: the value of an option's type that words or bytes ask
--- for: as many words as it has, 0 or 1 for a flag, a text up to its first NUL; and a value as a reply has it, as its text
--- or filled up to its option's size.
+-- **value asked for (`value_asked`), value in a reply (`sent_as`)**: the value of an option's type that words or bytes
+-- ask for: as many words as it has, 0 or 1 for a flag, a text up to its first NUL; and a value as a reply has it, as
+-- its text or filled up to its option's size.
 abbrev pub value_asked : Descriptor → Kind → WireValue → Option Value
 value_asked desc kind value = if kind_code kind == kind_code desc.kind then asked_of desc value else None

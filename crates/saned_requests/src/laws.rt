@@ -10,6 +10,7 @@ ghost use Rattle.saned_requests.specs.declared.request_answer.RequestAnswer.{Req
 ghost use Rattle.saned_requests.specs.Holding.{held_by, given_back};
 ghost use Rattle.saned_requests.specs.LeaseLaws.{HoldsWell, IsElsewhere, IsIn, KeepsLeases};
 ghost use Rattle.saned_requests.specs.RequestAnswers.{RequestContext, Answers, OutOfMemoryAt};
+ghost use Rattle.saned_requests.specs.Laws.{EndGivesBack};
 
 /// A request drops no lease: each stays with its device word, or its device is in its place of the table again, cancelled.
 /// What the words stand for are leases of the table with places of their own, and so are the leases of other sessions,
@@ -26,9 +27,7 @@ pub fn a_request_keeps_leases()
 /// leases of the table.
 pub fn an_end_gives_all_back()
     /// The end of a session gives all its devices back, and leaves leases of others alone.
-    ensures back { (t : Table) (held : List (Option (ALease DeviceState)))
-        (w : ℕ) (l : ALease DeviceState) → HoldsWell t held
-        → held_by held w ≡ Some l → IsIn (after_cancel l.device) l.place (given_back t held) }
+    ensures back { EndGivesBack }
     ensures others { (t : Table)
         (held : List (Option (ALease DeviceState))) (m : ALease DeviceState)
         → HoldsWell t held → IsElsewhere m t held → IsLeaseOf m (given_back t held) }

@@ -1,12 +1,13 @@
 -- What a connection tells of its calls.
-use Rattle.std.specs.Prelude.{◌≡◌, ◌≤◌, ℕ, Bool, true, false, ◌||◌, Option, None, Some, List, [], ◌∷◌, ◌++◌, length, take}
+use Rattle.std.specs.Prelude.{◌≡◌, ◌≤◌, ℕ, Bool, true, false, ◌||◌, Option, None, Some, List, [], ◌∷◌, ◌++◌, length}
+use Rattle.std.specs.Prelude.{take}
 use Rattle.saned_serve.specs.declared.sockets.Got.{Got}
 use Rattle.saned_serve.specs.declared.sockets.Got.TheVariants.{Moved, Nothing, Lost}
 
 -- **connection trace (`ConnectionCall`, `ConnectionTrace`, `after_read`, `after_write`, `IsTrace`)**: all calls of a
 -- connection, the newest first, each with what it came to: a read with the size of its buffer and the bytes that it
--- brought, a write with the bytes that it was given. So one sees all that was read and taken, and whether a call found the
--- connection lost.
+-- brought, a write with the bytes that it was given. So one sees all that was read and taken, and whether a call found
+-- the connection lost.
 pub data ConnectionCall : Type 0 where
   -- a read into a buffer of so many bytes, and the bytes that it brought
   Read : (got : Got) (room : ℕ) (bytes : List ℕ) → ConnectionCall

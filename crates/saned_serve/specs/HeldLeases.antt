@@ -23,12 +23,13 @@ leases_at [] k = []
 leases_at (slot ∷ slots) zero = held_in slot
 leases_at (slot ∷ slots) (suc k) = leases_at slots k
 
--- **held apart (`AreHeldApart`, `HoldsApart`)**: what the device words of a daemon's sessions stand for are leases of its
--- table, each of a device of its own.
+-- **held apart (`AreHeldApart`, `HoldsApart`)**: what the device words of a daemon's sessions stand for are leases of
+-- its table, each of a device of its own.
 pub record AreHeldApart (t : Table) (slots : List (Option (SessionSlot DeviceState))) : Type 0 where
   pub sound : TableInvariant t
   pub own : (k : ℕ) → HoldsWell t (leases_at slots k)
-  pub apart : (j k w : ℕ) (l : Lease DeviceState) → j ≢ k → held_by (leases_at slots j) w ≡ Some l → IsElsewhere l t (leases_at slots k)
+  pub apart : (j k w : ℕ) (l : Lease DeviceState) → j ≢ k → held_by (leases_at slots j) w ≡ Some l
+      → IsElsewhere l t (leases_at slots k)
 
 -- no two words of a daemon's sessions stand for one device
 abbrev pub HoldsApart : Core → Type 0

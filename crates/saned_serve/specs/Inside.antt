@@ -1,12 +1,16 @@
 -- What private functions promise: how a session's turn, and all turns, go on with a journal.
-use Rattle.std.specs.Prelude.{◌≡◌, ℕ, ◌+◌, Bool, ◌||◌, List, ◌++◌, ◌≢◌, true, false, ◌⊎◌, ◌-◌, Option, None, Some, is_some, [], drop, ◌≤◌, ◌<◌, zero, suc, IsSome, ◌∷◌}
+use Rattle.std.specs.Prelude.{◌≡◌, ℕ, ◌+◌, Bool, ◌||◌, List, ◌++◌, ◌≢◌, true, false, ◌⊎◌, ◌-◌, Option, None, Some}
+use Rattle.std.specs.Prelude.{is_some, [], drop, ◌≤◌, ◌<◌, zero, suc, IsSome, ◌∷◌}
 use Rattle.saned_core.specs.declared.session_slot.Fed.{Fed}
 use Rattle.saned_core.specs.DaemonStates.{Core}
 use Rattle.saned_core.specs.declared.session_slot.SessionId.{SessionId}
-use Rattle.saned_serve.specs.Journal.{LoopAction, Tally, SessionProjection, projection_of, Closing, JournalLeads, tally_of, has_stopped, has_asked, open_sessions, MayBeLeft, empty_projection, MayAsk, most_sessions}
+use Rattle.saned_serve.specs.Journal.{LoopAction, Tally, SessionProjection, projection_of, Closing, JournalLeads}
+use Rattle.saned_serve.specs.Journal.{tally_of, has_stopped, has_asked, open_sessions, MayBeLeft, empty_projection}
+use Rattle.saned_serve.specs.Journal.{MayAsk, most_sessions}
 use Rattle.saned_serve.specs.declared.sockets.Got.{Got}
 use Rattle.saned_serve.specs.declared.sockets.Got.TheVariants.{Nothing}
-use Rattle.saned_serve.specs.ConnectionTraces.{ConnectionTrace, trace_bytes_read, trace_bytes_written, lost_in, IsTrace, after_write, bytes_moved}
+use Rattle.saned_serve.specs.ConnectionTraces.{ConnectionTrace, trace_bytes_read, trace_bytes_written, lost_in, IsTrace}
+use Rattle.saned_serve.specs.ConnectionTraces.{after_write, bytes_moved}
 use Rattle.saned_serve.specs.ListenerTraces.{ListenerTrace, with_notice, IsForgotten}
 use Rattle.saned_serve.specs.ListenerTraces.Notice.{Back}
 use Rattle.saned_serve.specs.SessionActions.{ActsOn, ends_session}
@@ -15,6 +19,7 @@ use Rattle.saned_serve.specs.declared.link.SessionLink.{SessionLink}
 use Rattle.saned_serve.specs.Journal.LoopAction.{Turned}
 use Rattle.saned_serve.specs.declared.link_slots.LinkSlot.{LinkSlot}
 use Rattle.saned_serve.specs.declared.serving.ServeEnd.{ServeEnd}
+use Rattle.saned_serve.specs.declared.link_slots.Visit.{Visit}
 use Rattle.saned_serve.specs.declared.serving.TurnResult.{TurnResult}
 use Rattle.saned_serve.specs.Serving.{DaemonAndListeners, LoopEndsBy, NothingIsOpen, ServeLimits}
 
@@ -28,10 +33,10 @@ Extends past journal = (since : List LoopAction) × (journal ≡ since ++ past)
 
 -- ---- a turn of one session's connections
 
--- **goes, parts (`TurnPhase`, `SessionTurn`, `LinkMatches`, `JournalGoesOn`, `Attends`, `SendsRecords`, `LeavesSession`,
--- `hung_up`)**: a session's connections tell its projection, by how far its turn is; a step of one session, from what its
--- turn finds to what it leaves (daemon, listeners, connections), keeps that, whatever came before, and touches no other
--- session; its end hands back its data connection, where it has one, and leaves it.
+-- **goes, parts (`TurnPhase`, `SessionTurn`, `LinkMatches`, `JournalGoesOn`, `Attends`, `SendsRecords`,
+-- `LeavesSession`, `hung_up`)**: a session's connections tell its projection, by how far its turn is; a step of one
+-- session, from what its turn finds to what it leaves (daemon, listeners, connections), keeps that, whatever came
+-- before, and touches no other session; its end hands back its data connection, where it has one, and leaves it.
 pub data TurnPhase : Type 0 where
   -- it is over, or did not begin
   Fresh : TurnPhase
@@ -90,7 +95,8 @@ IsAt Loaded projection l =
 IsAt Shown projection l = IsSpoken projection l × (projection.tended ≡ true)
 
 -- a data connection was shown what its records had, but for those that wait, and is not lost
-pub record ImageTraceMatches (trace : Option ConnectionTrace) (is_last : Bool) (records : List ℕ) (projection : SessionProjection) : Type 0 where
+pub record ImageTraceMatches (trace : Option ConnectionTrace) (is_last : Bool) (records : List ℕ)
+    (projection : SessionProjection) : Type 0 where
   pub imaging : projection.imaging ≡ true
   pub told : IsTrace trace projection.image
   pub shown : trace_bytes_written projection.image ++ records ≡ projection.shown
@@ -98,12 +104,15 @@ pub record ImageTraceMatches (trace : Option ConnectionTrace) (is_last : Bool) (
   pub more : is_last ≡ true → records ≢ []
   pub held : lost_in projection.image ≡ false
 
-abbrev pub ImageTraceMatchesIn : {C : Type 0} → (C → Option ConnectionTrace) → Option C → Bool → List ℕ → SessionProjection → Type 0
+abbrev pub ImageTraceMatchesIn : {C : Type 0} → (C → Option ConnectionTrace) → Option C → Bool → List ℕ
+    → SessionProjection → Type 0
 ImageTraceMatchesIn history None is_last records projection = projection.imaging ≡ false
-ImageTraceMatchesIn history (Some conn) is_last records projection = ImageTraceMatches (history conn) is_last records projection
+ImageTraceMatchesIn history (Some conn) is_last records projection =
+    ImageTraceMatches (history conn) is_last records projection
 
 -- the connections of a session that stands tell its projection
-pub record LinkMatches {C : Type 0} (history : C → Option ConnectionTrace) (phase : TurnPhase) (projection : SessionProjection) (l : SessionLink C) : Type 0 where
+pub record LinkMatches {C : Type 0} (history : C → Option ConnectionTrace) (phase : TurnPhase)
+    (projection : SessionProjection) (l : SessionLink C) : Type 0 where
   pub is_open : projection.is_open ≡ true
   pub port : l.port ≡ projection.port
   pub over : l.is_over ≡ projection.over
@@ -117,7 +126,9 @@ pub record LinkMatches {C : Type 0} (history : C → Option ConnectionTrace) (ph
   pub at : IsAt phase projection l
 
 -- the journal went on, by actions of this session alone, and something moved or not
-pub record HasGoneOn {C : Type 0} (history : C → Option ConnectionTrace) (phase : TurnPhase) (d0 : Core) (n0 : Option ListenerTrace) (past : List LoopAction) (id : ℕ) (stir : Bool) (e : Core) (m : Option ListenerTrace) (l : SessionLink C) : Type 0 where
+pub record HasGoneOn {C : Type 0} (history : C → Option ConnectionTrace) (phase : TurnPhase) (d0 : Core)
+    (n0 : Option ListenerTrace) (past : List LoopAction) (id : ℕ) (stir : Bool) (e : Core) (m : Option ListenerTrace)
+    (l : SessionLink C) : Type 0 where
   pub journal : List LoopAction
   pub more : Extends past journal
   pub leads : JournalLeads d0 n0 journal e m
@@ -139,9 +150,12 @@ abbrev pub session_turn : {C : Type 0} → TurnPhase → Core → Option Listene
 session_turn phase daemon listeners link = record { phase = phase; daemon = daemon; listeners = listeners; link = link }
 
 -- whatever came before, the journal goes on from the one daemon, listener trace and link to the others
-pub record JournalGoesOn {C : Type 0} (history : C → Option ConnectionTrace) (was : SessionTurn C) (stir : Bool) (now : SessionTurn C) : Type 0 where
+pub record JournalGoesOn {C : Type 0} (history : C → Option ConnectionTrace) (was : SessionTurn C) (stir : Bool)
+    (now : SessionTurn C) : Type 0 where
   pub same : now.link.id ≡ was.link.id
-  pub goes : (d0 : Core) (n0 : Option ListenerTrace) (past : List LoopAction) → JournalLeads d0 n0 past was.daemon was.listeners → LinkMatches history was.phase (projection_of was.link.id.number past) was.link
+  pub goes : (d0 : Core) (n0 : Option ListenerTrace) (past : List LoopAction)
+      → JournalLeads d0 n0 past was.daemon was.listeners
+      → LinkMatches history was.phase (projection_of was.link.id.number past) was.link
       → HasGoneOn history now.phase d0 n0 past was.link.id.number stir now.daemon now.listeners now.link
 
 -- what feeding a session may change: the daemon, the listeners, and whether the session is over
@@ -149,6 +163,10 @@ pub record SessionFeed : Type 0 where
   pub daemon : Core
   pub listeners : Option ListenerTrace
   pub is_over : Bool
+
+-- what the loop is lent, with whether the session is over
+abbrev pub fed_to : DaemonAndListeners → Bool → SessionFeed
+fed_to here is_over = record { daemon = here.daemon; listeners = here.listeners; is_over = is_over }
 
 -- a session was fed, it is over now or not, and where a frame began with that, and only there, the
 -- listeners were asked to forget what had ended at its port
@@ -164,23 +182,27 @@ pub record Attends (id port : ℕ) (piece : List ℕ) (was now : SessionFeed) : 
 abbrev pub SendsTo : {C : Type 0} → (C → Option ConnectionTrace) → Got → C → List ℕ → Option C → List ℕ → Type 0
 SendsTo {C} history got conn records image rest =
     ((records ≡ []) × (got ≡ Nothing) × (image ≡ Some conn) × (rest ≡ records))
-    ⊎ ((records ≢ []) × (c : C) × (image ≡ Some c) × (history c ≡ after_write got records (history conn)) × (rest ≡ drop (bytes_moved got) records))
+    ⊎ ((records ≢ []) × (c : C) × (image ≡ Some c) × (history c ≡ after_write got records (history conn))
+    × (rest ≡ drop (bytes_moved got) records))
 
 abbrev pub SendsIn : {C : Type 0} → (C → Option ConnectionTrace) → Got → Option C → List ℕ → Option C → List ℕ → Type 0
 SendsIn history got None records image rest = (got ≡ Nothing) × (image ≡ None) × (rest ≡ records)
 SendsIn history got (Some conn) records image rest = SendsTo history got conn records image rest
 
-pub record SendsRecords {C : Type 0} (history : C → Option ConnectionTrace) (got : Got) (l k : SessionLink C) : Type 0 where
+pub record SendsRecords {C : Type 0} (history : C → Option ConnectionTrace) (got : Got)
+    (l k : SessionLink C) : Type 0 where
   pub link : k ≡ record l { image = k.image; records = k.records }
   pub sends : SendsIn history got l.image l.records k.image k.records
 
 -- what the listeners keep once a data connection, where there is one, is handed back
-abbrev pub hung_up : {C : Type 0} → (C → Option ConnectionTrace) → Option C → Option ListenerTrace → Option ListenerTrace
+abbrev pub hung_up : {C : Type 0} → (C → Option ConnectionTrace) → Option C → Option ListenerTrace
+    → Option ListenerTrace
 hung_up history None n = n
 hung_up history (Some conn) n = with_notice (Back (history conn)) n
 
 -- the journal went on to the end of this session's connections
-pub record SessionHasEnded (d0 : Core) (n0 : Option ListenerTrace) (past : List LoopAction) (id : ℕ) (stir : Bool) (e : Core) (m : Option ListenerTrace) : Type 0 where
+pub record SessionHasEnded (d0 : Core) (n0 : Option ListenerTrace) (past : List LoopAction) (id : ℕ) (stir : Bool)
+    (e : Core) (m : Option ListenerTrace) : Type 0 where
   pub journal : List LoopAction
   pub more : Extends past journal
   pub leads : JournalLeads d0 n0 journal e m
@@ -194,8 +216,10 @@ pub record SessionHasEnded (d0 : Core) (n0 : Option ListenerTrace) (past : List 
 
 -- whatever came before, where the session may be left or all turns are over, all connections of
 -- the link are handed back, and that alone is done
-pub record LeavesSession {C : Type 0} (history : C → Option ConnectionTrace) (was : DaemonAndListeners) (l : SessionLink C) (now : DaemonAndListeners) : Type 0 where
-  pub goes : (phase : TurnPhase) (d0 : Core) (n0 : Option ListenerTrace) (past : List LoopAction) → JournalLeads d0 n0 past was.daemon was.listeners → LinkMatches history phase (projection_of l.id.number past) l
+pub record LeavesSession {C : Type 0} (history : C → Option ConnectionTrace) (was : DaemonAndListeners)
+    (l : SessionLink C) (now : DaemonAndListeners) : Type 0 where
+  pub goes : (phase : TurnPhase) (d0 : Core) (n0 : Option ListenerTrace) (past : List LoopAction)
+      → JournalLeads d0 n0 past was.daemon was.listeners → LinkMatches history phase (projection_of l.id.number past) l
       → MayBeLeft (projection_of l.id.number past) ⊎ (has_stopped past ≡ true)
       → (ended : SessionHasEnded d0 n0 past l.id.number false now.daemon now.listeners) × Closing past ended.journal
 
@@ -230,10 +254,11 @@ HadTurn journal l =
     × ((projection_of l.id.number journal).over ≡ true → (projection_of l.id.number journal).drained ≡ false)
     × ((projection_of l.id.number journal).tended ≡ true)
 
--- **stands, went on (`ServingState`, `LoopInvariant`, `WentOn`, `TookTurn`, `HasTakenTurns`)**: behind a journal, of the
--- daemon, the listeners and the slots: each slot has one session at most, each session one slot, its connections tell its
--- projection, those of the first slots had their turn, and as many slots are taken as sessions stand; the journal goes on
--- (`Extends`), and so many sessions left; or it goes on by ends alone (`Shuts`; `Closing`, `Journal.antt`).
+-- **stands, went on (`ServingState`, `LoopInvariant`, `WentOn`, `TookTurn`, `HasTakenTurns`)**: behind a journal, of
+-- the daemon, the listeners and the slots: each slot has one session at most, each session one slot, its connections
+-- tell its projection, those of the first slots had their turn, and as many slots are taken as sessions stand; the
+-- journal goes on (`Extends`), and so many sessions left; or it goes on by ends alone (`Shuts`; `Closing`,
+-- `Journal.antt`).
 pub record ServingState (C : Type 0) : Type 0 where
   pub daemon : Core
   pub listeners : Option ListenerTrace
@@ -243,54 +268,96 @@ pub record ServingState (C : Type 0) : Type 0 where
 abbrev pub serving_state : {C : Type 0} → Core → Option ListenerTrace → ℕ → List (LinkSlot C) → ServingState C
 serving_state daemon listeners had slots = record { daemon = daemon; listeners = listeners; had = had; slots = slots }
 
+-- what a visit of one slot adds to a turn, and what an accept does
+abbrev pub of_visit : Visit → TurnResult
+of_visit visit = record { has_moved = visit.has_moved; left = one_if visit.has_left }
+
+abbrev pub none_left : Bool → TurnResult
+none_left has_moved = record { has_moved = has_moved; left = 0 }
+
+-- what the loop is lent, with the first slots that had their turn
+abbrev pub serving : {C : Type 0} → DaemonAndListeners → ℕ → List (LinkSlot C) → ServingState C
+serving here had slots = serving_state here.daemon here.listeners had slots
+
 -- at most one session a slot, each session in one, each one's connections tell its projection, and those
 -- of the first slots had their turn, and the others not
-pub record LoopInvariant {C : Type 0} (history : C → Option ConnectionTrace) (start : DaemonAndListeners) (journal : List LoopAction) (now : ServingState C) : Type 0 where
+pub record LoopInvariant {C : Type 0} (history : C → Option ConnectionTrace) (start : DaemonAndListeners)
+    (journal : List LoopAction) (now : ServingState C) : Type 0 where
   pub leads : JournalLeads start.daemon start.listeners journal now.daemon now.listeners
   pub place : ℕ → ℕ
-  pub each : (i : ℕ) (l : SessionLink C) → link_at now.slots i ≡ Some l → (place l.id.number ≡ i) × LinkMatches history Fresh (projection_of l.id.number journal) l
-  pub all : (id : ℕ) → (projection_of id journal).is_open ≡ true → (l : SessionLink C) × (link_at now.slots (place id) ≡ Some l) × (l.id.number ≡ id)
+  pub each : (i : ℕ) (l : SessionLink C) → link_at now.slots i ≡ Some l
+      → (place l.id.number ≡ i) × LinkMatches history Fresh (projection_of l.id.number journal) l
+  pub all : (id : ℕ) → (projection_of id journal).is_open ≡ true
+      → (l : SessionLink C) × (link_at now.slots (place id) ≡ Some l) × (l.id.number ≡ id)
   pub dark : (id : ℕ) → (projection_of id journal).is_open ≡ false → (projection_of id journal).imaging ≡ false
   pub turned : (i : ℕ) (l : SessionLink C) → link_at now.slots i ≡ Some l → i < now.had → HadTurn journal l
-  pub due : (i : ℕ) (l : SessionLink C) → link_at now.slots i ≡ Some l → now.had ≤ i → IsDue (projection_of l.id.number journal)
+  pub due : (i : ℕ) (l : SessionLink C) → link_at now.slots i ≡ Some l → now.had ≤ i
+      → IsDue (projection_of l.id.number journal)
   pub inside : (i : ℕ) (l : SessionLink C) → link_at now.slots i ≡ Some l → i < most_sessions
   pub count : open_sessions journal ≡ links_below most_sessions now.slots
 
 -- the journal went on in a turn in which a control connection was asked for, or eight sessions
 -- stood; so many left, and something moved or not
-pub record WentOn {C : Type 0} (history : C → Option ConnectionTrace) (start : DaemonAndListeners) (past : List LoopAction) (turn : TurnResult) (now : ServingState C) : Type 0 where
+pub record WentOn {C : Type 0} (history : C → Option ConnectionTrace) (start : DaemonAndListeners)
+    (past : List LoopAction) (turn : TurnResult) (now : ServingState C) : Type 0 where
   pub journal : List LoopAction
   pub more : Extends past journal
   pub stands : LoopInvariant history start journal now
   pub tally : tally_of journal ≡ tally_with turn.left turn.has_moved (tally_of past)
   pub asked : has_asked journal ≡ true
 
+-- whatever journal led there, in a turn in which a connection was asked for yet or not, it goes on
+abbrev pub LeadsOn : {C : Type 0} → (C → Option ConnectionTrace) → Bool → ServingState C → TurnResult → ServingState C
+    → Type 0
+LeadsOn history asked was turn now =
+    (start : DaemonAndListeners) (past : List LoopAction) → has_asked past ≡ asked
+    → LoopInvariant history start past was
+    → WentOn history start past turn now
+
 -- the journal went on by a whole turn
-pub record TookTurn {C : Type 0} (history : C → Option ConnectionTrace) (start : DaemonAndListeners) (past : List LoopAction) (turn : TurnResult) (now : ServingState C) : Type 0 where
+pub record TookTurn {C : Type 0} (history : C → Option ConnectionTrace) (start : DaemonAndListeners)
+    (past : List LoopAction) (turn : TurnResult) (now : ServingState C) : Type 0 where
   pub journal : List LoopAction
   pub more : Extends past journal
   pub stands : LoopInvariant history start (Turned ∷ journal) now
   pub tally : tally_of journal ≡ tally_with turn.left turn.has_moved (tally_of past)
 
+-- whatever journal led there, it goes on by a whole turn
+abbrev pub GoesRound : {C : Type 0} → (C → Option ConnectionTrace) → ServingState C → TurnResult → ServingState C
+    → Type 0
+GoesRound history was turn now =
+    (start : DaemonAndListeners) (past : List LoopAction) → has_asked past ≡ false
+    → LoopInvariant history start past was
+    → TookTurn history start past turn now
+
 -- so many turns were taken, nothing moved in so many at last, and so many sessions left
-pub record HasTakenTurns {C : Type 0} (history : C → Option ConnectionTrace) (d0 : Core) (n0 : Option ListenerTrace) (left turns idle : ℕ) (e : Core) (m : Option ListenerTrace) (slots : List (LinkSlot C)) : Type 0 where
+pub record HasTakenTurns {C : Type 0} (history : C → Option ConnectionTrace) (d0 : Core) (n0 : Option ListenerTrace)
+    (left turns idle : ℕ) (e : Core) (m : Option ListenerTrace) (slots : List (LinkSlot C)) : Type 0 where
   pub journal : List LoopAction
   pub stands : LoopInvariant history (record { daemon = d0; listeners = n0 }) journal (serving_state e m 0 slots)
   pub tally : tally_of journal ≡ record { left = left; turns = turns; idle = idle; stir = false }
   pub anew : has_asked journal ≡ false
 
 -- the journal went on by ends alone, and these slots are left
-pub record Shuts {C : Type 0} (history : C → Option ConnectionTrace) (d0 : Core) (n0 : Option ListenerTrace) (past : List LoopAction) (e : Core) (m : Option ListenerTrace) (slots : List (LinkSlot C)) : Type 0 where
+pub record Shuts {C : Type 0} (history : C → Option ConnectionTrace) (d0 : Core) (n0 : Option ListenerTrace)
+    (past : List LoopAction) (e : Core) (m : Option ListenerTrace) (slots : List (LinkSlot C)) : Type 0 where
   pub journal : List LoopAction
   pub closing : Closing past journal
   pub stands : LoopInvariant history (record { daemon = d0; listeners = n0 }) journal (serving_state e m 0 slots)
   pub stopped : has_stopped journal ≡ true
 
 -- turns were taken, and so many of them
-pub record HasTakenAllTurns {C : Type 0} (history : C → Option ConnectionTrace) (start : DaemonAndListeners) (limits : ServeLimits) (end : ServeEnd) (now : ServingState C) : Type 0 where
+pub record HasTakenAllTurns {C : Type 0} (history : C → Option ConnectionTrace) (start : DaemonAndListeners)
+    (limits : ServeLimits) (end : ServeEnd) (now : ServingState C) : Type 0 where
   pub journal : List LoopAction
   pub stands : LoopInvariant history start journal now
   pub ends : LoopEndsBy end limits.sessions limits.idle_turns journal
+
+-- wherever it began, all turns were taken
+abbrev pub TakesAllTurns : {C : Type 0} → (C → Option ConnectionTrace) → ServeLimits → ServingState C → ServeEnd
+    → ServingState C → Type 0
+TakesAllTurns history limits was end now =
+    (start : DaemonAndListeners) → LoopInvariant history start [] was → HasTakenAllTurns history start limits end now
 
 -- a slot's session, where it has one, with the daemon and the listeners
 pub record SlotVisit (C : Type 0) : Type 0 where
@@ -298,18 +365,26 @@ pub record SlotVisit (C : Type 0) : Type 0 where
   pub listeners : Option ListenerTrace
   pub link : Option (SessionLink C)
 
+-- what the loop is lent, with the session of a slot
+abbrev pub visited : {C : Type 0} → DaemonAndListeners → Option (SessionLink C) → SlotVisit C
+visited here link = record { daemon = here.daemon; listeners = here.listeners; link = link }
+
 -- a slot's session goes on, or the slot is empty and nothing is done
-abbrev pub KeepsLink : {C : Type 0} → (C → Option ConnectionTrace) → Core → Option ListenerTrace → Option (SessionLink C) → Bool → Core → Option ListenerTrace → Option (SessionLink C) → Type 0
+abbrev pub KeepsLink : {C : Type 0} → (C → Option ConnectionTrace) → Core → Option ListenerTrace
+    → Option (SessionLink C) → Bool → Core → Option ListenerTrace → Option (SessionLink C) → Type 0
 KeepsLink history d n None stir e m None = (e ≡ d) × (m ≡ n) × (stir ≡ false)
 KeepsLink history d n None stir e m (Some k) = ⊥
 KeepsLink history d n (Some l) stir e m None = ⊥
-KeepsLink history d n (Some l) stir e m (Some k) = JournalGoesOn history (session_turn Due d n l) stir (session_turn Shown e m k)
+KeepsLink history d n (Some l) stir e m (Some k) =
+    JournalGoesOn history (session_turn Due d n l) stir (session_turn Shown e m k)
 
 abbrev pub KeepsSession : {C : Type 0} → (C → Option ConnectionTrace) → SlotVisit C → Bool → SlotVisit C → Type 0
-KeepsSession history was stir now = KeepsLink history was.daemon was.listeners was.link stir now.daemon now.listeners now.link
+KeepsSession history was stir now =
+    KeepsLink history was.daemon was.listeners was.link stir now.daemon now.listeners now.link
 
 -- a slot is empty afterwards
-abbrev pub Empties : {C : Type 0} → (C → Option ConnectionTrace) → DaemonAndListeners → Option (SessionLink C) → DaemonAndListeners → Type 0
+abbrev pub Empties : {C : Type 0} → (C → Option ConnectionTrace) → DaemonAndListeners → Option (SessionLink C)
+    → DaemonAndListeners → Type 0
 Empties history was None now = (now.daemon ≡ was.daemon) × (now.listeners ≡ was.listeners)
 Empties history was (Some l) now = LeavesSession history was l now
 
@@ -330,7 +405,8 @@ IsNewLink conn id port (Some l) =
     × (l.is_over ≡ false)
     × (l.is_done ≡ false)
 
-abbrev pub IsLinkOf : {C : Type 0} → (C → Option ConnectionTrace) → List LoopAction → List LoopAction → ℕ → Option (SessionLink C) → Type 0
+abbrev pub IsLinkOf : {C : Type 0} → (C → Option ConnectionTrace) → List LoopAction → List LoopAction → ℕ
+    → Option (SessionLink C) → Type 0
 IsLinkOf history past journal id None = projection_of id journal ≡ projection_of id past
 IsLinkOf history past journal id (Some l) =
     (l.id.number ≡ id)
@@ -339,7 +415,9 @@ IsLinkOf history past journal id (Some l) =
     × IsDue (projection_of id journal)
 
 -- a new session's link, or none: a connection may have been refused
-pub record HasGreeted {C : Type 0} (history : C → Option ConnectionTrace) (d0 : Core) (n0 : Option ListenerTrace) (past : List LoopAction) (stir : Bool) (e : Core) (m : Option ListenerTrace) (id : ℕ) (link : Option (SessionLink C)) : Type 0 where
+pub record HasGreeted {C : Type 0} (history : C → Option ConnectionTrace) (d0 : Core) (n0 : Option ListenerTrace)
+    (past : List LoopAction) (stir : Bool) (e : Core) (m : Option ListenerTrace) (id : ℕ)
+    (link : Option (SessionLink C)) : Type 0 where
   pub journal : List LoopAction
   pub more : Extends past journal
   pub leads : JournalLeads d0 n0 journal e m
@@ -349,8 +427,11 @@ pub record HasGreeted {C : Type 0} (history : C → Option ConnectionTrace) (d0 
   pub asked : has_asked journal ≡ true
   pub crowd : open_sessions journal ≡ open_sessions past + one_link link
 
-pub record Greets {C : Type 0} (history : C → Option ConnectionTrace) (was : DaemonAndListeners) (stir : Bool) (now : DaemonAndListeners) (link : Option (SessionLink C)) : Type 0 where
-  pub greets : (d0 : Core) (n0 : Option ListenerTrace) (past : List LoopAction) → JournalLeads d0 n0 past was.daemon was.listeners → MayAsk past → HasGreeted history d0 n0 past stir now.daemon now.listeners was.daemon.opened link
+pub record Greets {C : Type 0} (history : C → Option ConnectionTrace) (was : DaemonAndListeners) (stir : Bool)
+    (now : DaemonAndListeners) (link : Option (SessionLink C)) : Type 0 where
+  pub greets : (d0 : Core) (n0 : Option ListenerTrace) (past : List LoopAction)
+      → JournalLeads d0 n0 past was.daemon was.listeners → MayAsk past
+      → HasGreeted history d0 n0 past stir now.daemon now.listeners was.daemon.opened link
 
 -- what still stood was ended, and nothing else was done
 pub record ClosesAll (start : DaemonAndListeners) (past : List LoopAction) (now : DaemonAndListeners) : Type 0 where
@@ -358,3 +439,10 @@ pub record ClosesAll (start : DaemonAndListeners) (past : List LoopAction) (now 
   pub closing : Closing past journal
   pub leads : JournalLeads start.daemon start.listeners journal now.daemon now.listeners
   pub over : NothingIsOpen journal
+
+-- whatever journal led to a stop, all is closed
+abbrev pub ClosesBehind : {C : Type 0} → (C → Option ConnectionTrace) → ServingState C → DaemonAndListeners → Type 0
+ClosesBehind history was now =
+    (start : DaemonAndListeners) (past : List LoopAction) → has_stopped past ≡ true
+    → LoopInvariant history start past was
+    → ClosesAll start past now

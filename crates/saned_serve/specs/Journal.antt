@@ -1,26 +1,30 @@
 -- What a server does, as one list: each call of the daemon, of a connection and of the listeners,
 -- in order.
-use Rattle.std.specs.Prelude.{◌≡◌, ◌≢◌, ℕ, ◌+◌, ◌-◌, ◌≤◌, ◌<◌, Bool, true, false, not, ◌||◌, cond, eqb, Option, None, Some, List, [], ◌∷◌, ◌++◌, length, ◌⊎◌}
+use Rattle.std.specs.Prelude.{◌≡◌, ◌≢◌, ℕ, ◌+◌, ◌-◌, ◌≤◌, ◌<◌, Bool, true, false, not, ◌||◌, cond, eqb, Option, None}
+use Rattle.std.specs.Prelude.{Some, List, [], ◌∷◌, ◌++◌, length, ◌⊎◌}
 use Rattle.saned_core.specs.DaemonStates.{Core, is_closed, is_waiting}
 use Rattle.saned_serve.specs.ConnectionTraces.{ConnectionTrace, trace_bytes_read, trace_bytes_written, lost_in, IsTrace}
 use Rattle.saned_serve.specs.ConnectionTraces.ConnectionCall.{Read, Write}
 use Rattle.saned_serve.specs.ListenerTraces.{ListenerTrace, with_notice}
 use Rattle.saned_serve.specs.ListenerTraces.Notice.{Asked, Port, Forgot, Dialed, Shut, Back}
-use Rattle.saned_serve.specs.SessionActions.{SessionAction, ActsOn, makes_progress, leaves, opens_session, is_end_record, is_idle, ends_session}
-use Rattle.saned_serve.specs.SessionActions.SessionAction.{Opens, Hears, Feed, Forgets, Take, Says, Looks, Misses, Connect, Turn, Shows, Lose, HangsUp, Leaves}
+use Rattle.saned_serve.specs.SessionActions.{SessionAction, ActsOn, makes_progress, leaves, opens_session}
+use Rattle.saned_serve.specs.SessionActions.{is_end_record, is_idle, ends_session}
+use Rattle.saned_serve.specs.SessionActions.SessionAction.{Opens, Hears, Feed, Forgets, Take, Says, Looks, Misses}
+use Rattle.saned_serve.specs.SessionActions.SessionAction.{Connect, Turn, Shows, Lose, HangsUp, Leaves}
 
--- **journal (`LoopAction`, `MayDo`, `IsEnabledAfter`, `IsJournal`)**: one list, newest first: acts, each with its session's
--- number; that eight sessions stand; an accept to which nobody came; a connection that is refused; the end of a turn, and
--- of all turns. Each action has its place. An accept is asked for once a turn, and only while fewer than eight sessions
--- stand (`MayAsk`, `open_sessions`). In a turn a control connection is read at most once, before it is written, and written
--- at most once; behind that one data connection at most is awaited, and one record at most offered (`IsDataDue`). A control
--- connection is read only where all replies taken are written and the daemon had no more; what it brought, 1 to 4,096
--- bytes, is fed at once; only where a frame begins with that are the listeners asked to forget what has ended at its port,
--- before a reply is taken. Replies and records are taken only where what was taken before is written, each write offers all
--- that waits, and no record is taken behind the end record. A data connection is awaited where a frame waits, at the
--- session's own port. It is handed back only where its end record is written, or the daemon was told its loss, or its
--- session may be left; a session is left, its port closed and its control connection handed back, only where that was found
--- lost, or it is over, the daemon has no more replies and all are written; both also once all turns are over.
+-- **journal (`LoopAction`, `MayDo`, `IsEnabledAfter`, `IsJournal`)**: one list, newest first: acts, each with its
+-- session's number; that eight sessions stand; an accept to which nobody came; a connection that is refused; the end of
+-- a turn, and of all turns. Each action has its place. An accept is asked for once a turn, and only while fewer than
+-- eight sessions stand (`MayAsk`, `open_sessions`). In a turn a control connection is read at most once, before it is
+-- written, and written at most once; behind that one data connection at most is awaited, and one record at most offered
+-- (`IsDataDue`). A control connection is read only where all replies taken are written and the daemon had no more; what
+-- it brought, 1 to 4,096 bytes, is fed at once; only where a frame begins with that are the listeners asked to forget
+-- what has ended at its port, before a reply is taken. Replies and records are taken only where what was taken before
+-- is written, each write offers all that waits, and no record is taken behind the end record. A data connection is
+-- awaited where a frame waits, at the session's own port. It is handed back only where its end record is written, or
+-- the daemon was told its loss, or its session may be left; a session is left, its port closed and its control
+-- connection handed back, only where that was found lost, or it is over, the daemon has no more replies and all are
+-- written; both also once all turns are over.
 pub data LoopAction : Type 0 where
   -- an act for the session of that number
   Of : (number : ℕ) (act : SessionAction) → LoopAction
@@ -152,14 +156,15 @@ projection_after_action (Refuses port trace) projection = projection
 projection_after_action Turned projection = record projection { visited = false; spoken = false; tended = false }
 projection_after_action Stops projection = projection
 
--- **projection (`projection_of`)**: of a session in a journal: its port, whether its connections are still held, whether it
--- is over, all that it was fed, all replies taken, all records of its last data connection, and all calls of both
--- connections.
+-- **projection (`projection_of`)**: of a session in a journal: its port, whether its connections are still held,
+-- whether it is over, all that it was fed, all replies taken, all records of its last data connection, and all calls of
+-- both connections.
 --
 -- the projection of a session in a journal, which has its newest action first
 unfoldable pub projection_of : ℕ → List LoopAction → SessionProjection
 projection_of id [] = empty_projection
-projection_of id (action ∷ past) = cond (concerns action id) (projection_after_action action (projection_of id past)) (projection_of id past)
+projection_of id (action ∷ past) =
+    cond (concerns action id) (projection_after_action action (projection_of id past)) (projection_of id past)
 
 -- ---- what may be done
 
@@ -168,7 +173,8 @@ projection_of id (action ∷ past) = cond (concerns action id) (projection_after
 abbrev pub MayBeLeft : SessionProjection → Type 0
 MayBeLeft projection =
     (lost_in projection.control ≡ true)
-    ⊎ ((projection.over ≡ true) × (projection.drained ≡ true) × (trace_bytes_written projection.control ≡ projection.said))
+    ⊎ ((projection.over ≡ true) × (projection.drained ≡ true)
+    × (trace_bytes_written projection.control ≡ projection.said))
 
 -- why a data connection may be handed back: its end record is written, the daemon was told that it
 -- is lost, or the session may be left
@@ -231,7 +237,8 @@ MayDo (Says got bytes) projection stopped =
     × (bytes ≢ [])
     × (trace_bytes_written projection.control ++ bytes ≡ projection.said)
     × (projection.spoken ≡ false)
-MayDo (Looks frame) projection stopped = (projection.is_open ≡ true) × (projection.imaging ≡ false) × IsDataDue projection
+MayDo (Looks frame) projection stopped = (projection.is_open ≡ true) × (projection.imaging ≡ false)
+    × IsDataDue projection
 MayDo (Misses port) projection stopped =
     (projection.is_open ≡ true)
     × (projection.imaging ≡ false)
@@ -275,16 +282,19 @@ MayDo (Leaves port trace) projection stopped =
     × (MayBeLeft projection ⊎ (stopped ≡ true))
 
 -- **settled (`IsBehindItsTurn`)**: what the end of a turn asks of each session that stands: its connection was read or
--- written in this turn and is not known to be lost; where it is over the daemon gave replies when it was last asked; behind
--- what it was fed its data had their part (`tended`): of a data connection a record was offered or there was none, else no
--- frame waited or nobody came to its port; its data connection is not known to be lost, and the end record not wholly
--- written. A turn ends only where besides an accept was asked for in it, or eight sessions stood (`has_asked`).
+-- written in this turn and is not known to be lost; where it is over the daemon gave replies when it was last asked;
+-- behind what it was fed its data had their part (`tended`): of a data connection a record was offered or there was
+-- none, else no frame waited or nobody came to its port; its data connection is not known to be lost, and the end
+-- record not wholly written. A turn ends only where besides an accept was asked for in it, or eight sessions stood
+-- (`has_asked`).
 pub record IsBehindItsTurn (projection : SessionProjection) : Type 0 where
   pub visited : projection.visited ≡ true
   pub held : lost_in projection.control ≡ false
   pub replies : projection.over ≡ true → projection.drained ≡ false
   pub tended : projection.tended ≡ true
-  pub shows : projection.imaging ≡ true → (lost_in projection.image ≡ false) × (projection.last ≡ true → trace_bytes_written projection.image ≢ projection.shown)
+  pub shows : projection.imaging ≡ true
+      → (lost_in projection.image ≡ false)
+      × (projection.last ≡ true → trace_bytes_written projection.image ≢ projection.shown)
 
 -- all turns are over
 abbrev pub has_stopped : List LoopAction → Bool
@@ -311,10 +321,12 @@ has_asked (Turned ∷ past) = false
 has_asked (Stops ∷ past) = has_asked past
 
 -- **open sessions (`open_sessions`, `AreOpenSessions`)**: how many sessions stand, as a journal counts them: those that
--- were opened, less those that were left; and numbers, as many as that, among which each session that stands has its own.
+-- were opened, less those that were left; and numbers, as many as that, among which each session that stands has its
+-- own.
 abbrev pub open_sessions : List LoopAction → ℕ
 open_sessions [] = 0
-open_sessions (Of number act ∷ past) = cond (opens_session act) (open_sessions past + 1) (open_sessions past) - leaves act
+open_sessions (Of number act ∷ past) =
+    cond (opens_session act) (open_sessions past + 1) (open_sessions past) - leaves act
 open_sessions (Full ∷ past) = open_sessions past
 open_sessions (Waits ∷ past) = open_sessions past
 open_sessions (Refuses port trace ∷ past) = open_sessions past
@@ -386,7 +398,8 @@ abbrev pub listener_trace_step : LoopAction → Option ListenerTrace → Option 
 listener_trace_step (Of number act) listeners = listener_trace_act act listeners
 listener_trace_step Full listeners = listeners
 listener_trace_step Waits listeners = with_notice (Asked false) listeners
-listener_trace_step (Refuses port trace) listeners = with_notice (Back trace) (listener_trace_port port (with_notice (Asked true) listeners))
+listener_trace_step (Refuses port trace) listeners =
+    with_notice (Back trace) (listener_trace_port port (with_notice (Asked true) listeners))
 listener_trace_step Turned listeners = listeners
 listener_trace_step Stops listeners = listeners
 
@@ -394,10 +407,11 @@ abbrev pub listener_trace_after : List LoopAction → Option ListenerTrace → O
 listener_trace_after [] listeners = listeners
 listener_trace_after (action ∷ past) listeners = listener_trace_step action (listener_trace_after past listeners)
 
--- **leads (`JournalLeads`, `DaemonRuns`, `listener_trace_step`)**: a journal leads from one daemon and listener trace to
--- others: the daemon behind it is what its actions make of the one before, and the listener trace shows each action that
--- asks the listeners.
-pub record JournalLeads (d : Core) (before : Option ListenerTrace) (journal : List LoopAction) (e : Core) (after : Option ListenerTrace) : Type 0 where
+-- **leads (`JournalLeads`, `DaemonRuns`, `listener_trace_step`)**: a journal leads from one daemon and listener trace
+-- to others: the daemon behind it is what its actions make of the one before, and the listener trace shows each action
+-- that asks the listeners.
+pub record JournalLeads (d : Core) (before : Option ListenerTrace) (journal : List LoopAction) (e : Core)
+    (after : Option ListenerTrace) : Type 0 where
   pub is_journal : IsJournal journal
   pub run : DaemonRuns d journal e
   pub net : after ≡ listener_trace_after journal before
@@ -428,8 +442,8 @@ after_tally Turned t = record {
 }
 after_tally Stops t = t
 
--- **tally (`tally_of`)**: how many sessions left in a journal, how many turns it has, and in how many of them, in a row to
--- the last, nothing moved: no connection came, no byte moved and none was found lost.
+-- **tally (`tally_of`)**: how many sessions left in a journal, how many turns it has, and in how many of them, in a row
+-- to the last, nothing moved: no connection came, no byte moved and none was found lost.
 abbrev pub tally_of : List LoopAction → Tally
 tally_of [] = record { left = 0; turns = 0; idle = 0; stir = false }
 tally_of (action ∷ past) = after_tally action (tally_of past)

@@ -5,8 +5,8 @@ use Rattle.saned_serve.specs.SessionActions.SessionAction.{Leaves}
 use Rattle.saned_serve.specs.Journal.{LoopAction, open_sessions, projection_of}
 use Rattle.saned_serve.specs.Journal.LoopAction.{Of}
 
--- **was left (`IsInJournal`, `WasLeft`)**: a session was left in a journal, and its control connection, as it was handed
--- back, had told just the calls that the journal has of it.
+-- **was left (`IsInJournal`, `WasLeft`)**: a session was left in a journal, and its control connection, as it was
+-- handed back, had told just the calls that the journal has of it.
 --
 -- an action is in the journal
 abbrev pub IsInJournal : LoopAction → List LoopAction → Type 0

@@ -6,3 +6,4 @@ pub mod Serving
 pub mod JournalSummary
 pub mod HeldLeases
 pub mod Inside
+pub mod Laws

@@ -1,6 +1,7 @@
 -- What a whole run of a server did.
 use Rattle.std.specs.Prelude.{◌≡◌, ℕ, ◌+◌, ◌≤◌, ◌<◌, false, Option, List, [], ◌∷◌}
-use Rattle.saned_core.specs.DaemonStates.{Core}
+use Rattle.device_api.specs.State.{DeviceState}
+use Rattle.saned_core.specs.DaemonStates.{Core, DaemonState, core}
 use Rattle.saned_serve.specs.ListenerTraces.{ListenerTrace}
 use Rattle.saned_serve.specs.Journal.{LoopAction, projection_of, Closing, JournalLeads, tally_of, most_sessions}
 use Rattle.saned_serve.specs.Journal.LoopAction.{Stops}
@@ -37,16 +38,22 @@ pub record DaemonAndListeners : Type 0 where
   pub daemon : Core
   pub listeners : Option ListenerTrace
 
+-- the daemon and the listeners that the loop is lent, as it is known what its devices are and what the listeners were
+-- asked
+abbrev pub lent : {D L : Type 0} → (D → DeviceState) → (L → Option ListenerTrace) → DaemonState D → L
+    → DaemonAndListeners
+lent state trace daemon net = record { daemon = core state daemon; listeners = trace net }
+
 -- when a server is to end: after so many sessions (0: no such end), or after so many turns in a row in which
 -- nothing moved
 pub record ServeLimits : Type 0 where
   pub sessions : ℕ
   pub idle_turns : ℕ
 
--- **served (`HasServed`, `NothingIsOpen`, `LoopEndsBy`)**: what a whole run did: the journal of its turns, and behind it
--- nothing but data connections handed back and sessions left, until none stands. The journal of the turns tells why they
--- ended: as many sessions left as were to be served, fewer than eight more; or not yet so many, and nothing moved in so
--- many turns in a row at last; or neither, and 2^40 turns were taken.
+-- **served (`HasServed`, `NothingIsOpen`, `LoopEndsBy`)**: what a whole run did: the journal of its turns, and behind
+-- it nothing but data connections handed back and sessions left, until none stands. The journal of the turns tells why
+-- they ended: as many sessions left as were to be served, fewer than eight more; or not yet so many, and nothing moved
+-- in so many turns in a row at last; or neither, and 2^40 turns were taken.
 pub record HasServed (limits : ServeLimits) (was now : DaemonAndListeners) (end : ServeEnd) : Type 0 where
   pub turns : List LoopAction
   pub journal : List LoopAction

@@ -5,17 +5,19 @@ use Rattle.saned_core.specs.declared.session_slot.Fed.TheVariants.{Standing, Ove
 use Rattle.saned_core.specs.declared.session_slot.DataStep.{DataStep}
 use Rattle.saned_core.specs.declared.session_slot.FrameState.{FrameState}
 use Rattle.saned_core.specs.declared.session_slot.DataStep.TheVariants.{Idle, Bytes, Last}
-use Rattle.saned_core.specs.DaemonStates.{Core, after_open_session, is_closed, after_end_session, session_of, replies_of, after_taken, on_session_slot, on_session, frame_in, is_waiting, after_connected, after_lost}
+use Rattle.saned_core.specs.DaemonStates.{Core, after_open_session, is_closed, after_end_session, session_of}
+use Rattle.saned_core.specs.DaemonStates.{replies_of, after_taken, on_session_slot, on_session, frame_in, is_waiting}
+use Rattle.saned_core.specs.DaemonStates.{after_connected, after_lost}
 use Rattle.saned_core.specs.Feeding.{Feeds}
 use Rattle.saned_core.specs.Turns.{Turns}
 use Rattle.saned_serve.specs.declared.sockets.Got.{Got}
 use Rattle.saned_serve.specs.ConnectionTraces.{ConnectionTrace, stirs}
 
 -- **session action (`SessionAction`, `ActsOn`)**: what is done for one session: it is opened, its connection is read, a
--- piece is fed (and a frame that waits began with it or not), the listeners are asked to forget the connections at its port
--- that have ended, and tell so or do not, replies are taken, they are written, its frame is looked up, a data connection
--- does not come or comes, a record is taken, it is written, its loss is told, the data connection is handed back, the
--- session is left. Each does to the daemon just what its method's contract says, or nothing.
+-- piece is fed (and a frame that waits began with it or not), the listeners are asked to forget the connections at its
+-- port that have ended, and tell so or do not, replies are taken, they are written, its frame is looked up, a data
+-- connection does not come or comes, a record is taken, it is written, its loss is told, the data connection is handed
+-- back, the session is left. Each does to the daemon just what its method's contract says, or nothing.
 pub data SessionAction : Type 0 where
   -- a connection came, a data port was opened for it, and a session with that port
   Opens : (port : ℕ) → SessionAction
@@ -86,7 +88,8 @@ pub record AreRepliesTaken (d : Core) (number room : ℕ) (bytes : List ℕ) (e 
 
 -- a frame of a session waits for its connection, and none did before
 abbrev pub frame_begins : Core → ℕ → Core → Bool
-frame_begins d number e = not (is_waiting (frame_in (session_of d number))) && is_waiting (frame_in (session_of e number))
+frame_begins d number e =
+    not (is_waiting (frame_in (session_of d number))) && is_waiting (frame_in (session_of e number))
 
 -- a frame waited for its connection
 pub record IsConnected (d : Core) (number : ℕ) (e : Core) : Type 0 where

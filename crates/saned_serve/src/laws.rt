@@ -10,6 +10,7 @@ ghost use Rattle.saned_serve.specs.Journal.{LoopAction, IsJournal, IsFront, Daem
 ghost use Rattle.saned_serve.specs.Journal.LoopAction.{Of};
 ghost use Rattle.saned_serve.specs.JournalSummary.{AreOpenSessions, IsInJournal, WasLeft};
 ghost use Rattle.saned_serve.specs.HeldLeases.{HoldsApart};
+ghost use Rattle.saned_serve.specs.Laws.{WasFedAll, NobodyActsAfterIt};
 
 /// What the places of the actions come to, for each session of a journal: it was fed nothing but what
 /// its control connection read, and once it is left all of that; what that connection was rid of
@@ -23,9 +24,7 @@ pub fn connections_tell_their_sessions()
     ensures fed { (journal : List LoopAction) (id : ℕ)
         → IsJournal journal → IsFront (projection_of id journal).heard
         (trace_bytes_read (projection_of id journal).control) }
-    ensures all_fed { (journal : List LoopAction) (id : ℕ) → IsJournal journal
-        → (projection_of id journal).is_open ≡ false
-        → trace_bytes_read (projection_of id journal).control ≡ (projection_of id journal).heard }
+    ensures all_fed { WasFedAll }
     ensures said { (journal : List LoopAction) (id : ℕ)
         → IsJournal journal → IsFront (trace_bytes_written (projection_of id journal).control)
         (projection_of id journal).said }
@@ -50,11 +49,7 @@ pub fn no_device_is_held_twice()
 
 pub fn nobody_acts_for_a_session_that_left()
     /// A number is one session's: behind the act that ends a session nothing is done for that number any more.
-    ensures { (since past : List LoopAction) (id port : ℕ) (trace : Option ConnectionTrace)
-        (act : SessionAction) (d e : Core)
-        → IsJournal (since ++ Of id (Leaves port trace) ∷ past)
-        → DaemonRuns d (since ++ Of id (Leaves port trace) ∷ past) e
-        → IsInJournal (Of id act) since → ⊥ }
+    ensures { NobodyActsAfterIt }
 {}
 
 pub fn no_more_stand_than_are_counted()

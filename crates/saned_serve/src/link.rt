@@ -5,7 +5,8 @@ ghost use Rattle.saned_core.specs.DaemonStates.{Core, core, frame_in, session_of
 ghost use Rattle.saned_serve.specs.ListenerTraces.{ListenerTrace, with_notice};
 ghost use Rattle.saned_serve.specs.ListenerTraces.Notice.{Back};
 ghost use Rattle.saned_serve.specs.SessionActions.{ends_session};
-ghost use Rattle.saned_serve.specs.Inside.{JournalGoesOn, Attends, SendsRecords, LeavesSession, hung_up, session_turn};
+ghost use Rattle.saned_serve.specs.Serving.{lent};
+ghost use Rattle.saned_serve.specs.Inside.{fed_to, JournalGoesOn, Attends, SendsRecords, LeavesSession, hung_up, session_turn};
 ghost use Rattle.saned_serve.specs.Inside.TurnPhase.{Due, Filled, Heard, Ready, Spoken, Dialed, Loaded, Shown};
 
 use crate::pending::{PendingBytes, is_end};
@@ -77,16 +78,8 @@ fn attend<D: Device, L: Listeners>(
     requires { length piece.now ≤ 4096 }
     ensures link { link.new ≡ record link.old { is_over = link.new.is_over } }
     ensures attends { Attends link.old.id.number link.old.port piece.now
-        (record {
-          daemon = core D.state daemon.old;
-          listeners = L.trace net.old;
-          is_over = link.old.is_over;
-        })
-        (record {
-          daemon = core D.state daemon.new;
-          listeners = L.trace net.new;
-          is_over = link.new.is_over;
-        }) }
+        (fed_to (lent D.state L.trace daemon.old net.old) link.old.is_over)
+        (fed_to (lent D.state L.trace daemon.new net.new) link.new.is_over) }
 {
     let was_waiting = is_waiting(daemon, link.id);
     let fed = daemon.feed(alloc, link.id, piece);
@@ -350,9 +343,8 @@ pub fn leave<D: Device, L: Listeners>(
     net: &mut L,
     mut link: SessionLink<L::Conn>,
 ) -> Rooms
-    ensures { LeavesSession L.Conn.history
-        (record { daemon = core D.state daemon.old; listeners = L.trace net.old }) link
-        (record { daemon = core D.state daemon.new; listeners = L.trace net.new }) }
+    ensures { LeavesSession L.Conn.history (lent D.state L.trace daemon.old net.old) link
+        (lent D.state L.trace daemon.new net.new) }
 {
     hang_up(net, &mut link);
     net.close_data(link.port);

@@ -3,8 +3,8 @@
 ghost use Rattle.std.specs.Prelude.{◌≡◌, ◌≤◌, ◌<◌, ◌+◌, ℕ, Bool, true, false, List, Option, None, Some, length, IsSome, IsTrue, IfSome, IfOk, All, []};
 ghost use Rattle.saned_core.specs.DaemonStates.{Core, core};
 ghost use Rattle.saned_serve.specs.ListenerTraces.{ListenerTrace};
-ghost use Rattle.saned_serve.specs.Serving.{DaemonAndListeners};
-ghost use Rattle.saned_serve.specs.Inside.{LoopInvariant, WentOn, KeepsSession, Empties, IsToBeLeft, IsNewLink, Greets, ClosesAll, HasRooms, one_if, link_at, serving_state};
+ghost use Rattle.saned_serve.specs.Serving.{lent};
+ghost use Rattle.saned_serve.specs.Inside.{KeepsSession, Empties, IsToBeLeft, IsNewLink, Greets, LeadsOn, ClosesBehind, HasRooms, link_at, none_left, of_visit, serving, visited};
 ghost use Rattle.saned_serve.specs.Journal.{LoopAction, has_stopped, has_asked, most_sessions};
 
 use crate::Listeners;
@@ -67,16 +67,8 @@ fn serve_slot<D: Device, L: Listeners>(
     slot: &mut LinkSlot<L::Conn>,
 ) -> Visit
     ensures keeps { KeepsSession L.Conn.history
-        (record {
-          daemon = core D.state daemon.old;
-          listeners = L.trace net.old;
-          link = slot.old.link;
-        }) result.has_moved
-        (record {
-          daemon = core D.state daemon.new;
-          listeners = L.trace net.new;
-          link = slot.new.link;
-        }) }
+        (visited (lent D.state L.trace daemon.old net.old) slot.old.link) result.has_moved
+        (visited (lent D.state L.trace daemon.new net.new) slot.new.link) }
     ensures left { IsToBeLeft result.has_left slot.new.link }
     ensures roomed { HasRooms slot.old → HasRooms slot.new }
 {
@@ -102,9 +94,8 @@ fn vacate<D: Device, L: Listeners>(
 )
     ensures none { slot.new.link ≡ None }
     ensures roomed { HasRooms slot.old → HasRooms slot.new }
-    ensures empties { Empties L.Conn.history
-        (record { daemon = core D.state daemon.old; listeners = L.trace net.old }) slot.old.link
-        (record { daemon = core D.state daemon.new; listeners = L.trace net.new }) }
+    ensures empties { Empties L.Conn.history (lent D.state L.trace daemon.old net.old) slot.old.link
+        (lent D.state L.trace daemon.new net.new) }
 {
     if let Some(link) = slot.link.take() {
         let rooms = leave(daemon, net, link);
@@ -122,12 +113,9 @@ pub fn turn_at<D: Device, L: Listeners>(
 ) -> Visit
     requires inside { i < length slots.old }
     requires roomed { All HasRooms slots.old }
-    ensures went { (start : DaemonAndListeners) (past : List LoopAction) → has_asked past ≡ true
-        → LoopInvariant L.Conn.history start past
-        (serving_state (core D.state daemon.old) (L.trace net.old) i slots.old)
-        → WentOn L.Conn.history start past
-        (record { has_moved = result.has_moved; left = one_if result.has_left })
-        (serving_state (core D.state daemon.new) (L.trace net.new) (i + 1) slots.new) }
+    ensures went { LeadsOn L.Conn.history true
+        (serving (lent D.state L.trace daemon.old net.old) i slots.old)
+        (of_visit result) (serving (lent D.state L.trace daemon.new net.new) (i + 1) slots.new) }
     ensures roomed { All HasRooms slots.new }
 {
     let slot = &mut slots[i];
@@ -148,9 +136,8 @@ fn greet<D: Device, L: Listeners>(
     requires none { slot.old.link ≡ None }
     requires roomed { HasRooms slot.old }
     ensures roomed { HasRooms slot.new }
-    ensures greets { Greets L.Conn.history
-        (record { daemon = core D.state daemon.old; listeners = L.trace net.old }) result
-        (record { daemon = core D.state daemon.new; listeners = L.trace net.new }) slot.new.link }
+    ensures greets { Greets L.Conn.history (lent D.state L.trace daemon.old net.old) result
+        (lent D.state L.trace daemon.new net.new) slot.new.link }
 {
     let Some(rooms) = slot.rooms.take() else {
         return false;
@@ -221,11 +208,9 @@ fn greet_at<D: Device, L: Listeners>(
     requires len { length slots.old ≡ most_sessions }
     requires roomed { All HasRooms slots.old }
     ensures roomed { All HasRooms slots.new }
-    ensures went { (start : DaemonAndListeners) (past : List LoopAction) → has_asked past ≡ false
-        → LoopInvariant L.Conn.history start past
-        (serving_state (core D.state daemon.old) (L.trace net.old) 0 slots.old)
-        → WentOn L.Conn.history start past (record { has_moved = result; left = 0 })
-        (serving_state (core D.state daemon.new) (L.trace net.new) 0 slots.new) }
+    ensures went { LeadsOn L.Conn.history false
+        (serving (lent D.state L.trace daemon.old net.old) 0 slots.old)
+        (none_left result) (serving (lent D.state L.trace daemon.new net.new) 0 slots.new) }
 {
     let slot = &mut slots[i];
     greet(alloc, daemon, net, slot)
@@ -241,11 +226,9 @@ pub fn welcome<D: Device, L: Listeners>(
     requires len { length slots.old ≡ most_sessions }
     requires roomed { All HasRooms slots.old }
     ensures roomed { All HasRooms slots.new }
-    ensures went { (start : DaemonAndListeners) (past : List LoopAction) → has_asked past ≡ false
-        → LoopInvariant L.Conn.history start past
-        (serving_state (core D.state daemon.old) (L.trace net.old) 0 slots.old)
-        → WentOn L.Conn.history start past (record { has_moved = result; left = 0 })
-        (serving_state (core D.state daemon.new) (L.trace net.new) 0 slots.new) }
+    ensures went { LeadsOn L.Conn.history false
+        (serving (lent D.state L.trace daemon.old net.old) 0 slots.old)
+        (none_left result) (serving (lent D.state L.trace daemon.new net.new) 0 slots.new) }
 {
     for i in 0..slots.len() {
         if slots[i].link.is_none() {
@@ -272,11 +255,9 @@ pub fn close_all<D: Device, L: Listeners>(
     net: &mut L,
     mut slots: Vec<LinkSlot<L::Conn>>,
 )
-    ensures { (start : DaemonAndListeners) (past : List LoopAction) → has_stopped past ≡ true
-        → LoopInvariant L.Conn.history start past
-        (serving_state (core D.state daemon.old) (L.trace net.old) 0 slots.items)
-        → ClosesAll start past
-        (record { daemon = core D.state daemon.new; listeners = L.trace net.new }) }
+    ensures { ClosesBehind L.Conn.history
+        (serving (lent D.state L.trace daemon.old net.old) 0 slots.items)
+        (lent D.state L.trace daemon.new net.new) }
 {
     while let Some(mut slot) = slots.pop() {
         vacate(daemon, net, &mut slot);

@@ -3,8 +3,8 @@
 ghost use Rattle.std.specs.Prelude.{◌≡◌, ◌≢◌, ◌≤◌, ◌<◌, ◌+◌, cond, Bool, true, false, List, [], Option, All, length};
 ghost use Rattle.saned_core.specs.DaemonStates.{Core, core};
 ghost use Rattle.saned_serve.specs.ListenerTraces.{ListenerTrace};
-ghost use Rattle.saned_serve.specs.Serving.{HasServed, most_turns, DaemonAndListeners};
-ghost use Rattle.saned_serve.specs.Inside.{LoopInvariant, HasRooms, TookTurn, HasTakenAllTurns, serving_state};
+ghost use Rattle.saned_serve.specs.Serving.{HasServed, lent, most_turns};
+ghost use Rattle.saned_serve.specs.Inside.{HasRooms, GoesRound, TakesAllTurns, serving};
 ghost use Rattle.saned_serve.specs.Journal.{LoopAction, has_asked, most_sessions};
 
 use crate::Listeners;
@@ -30,11 +30,9 @@ fn take_turn<D: Device, L: Listeners>(
     requires len { length slots.old ≡ most_sessions }
     requires roomed { All HasRooms slots.old }
     ensures roomed { All HasRooms slots.new }
-    ensures turned { (start : DaemonAndListeners) (past : List LoopAction) → has_asked past ≡ false
-        → LoopInvariant L.Conn.history start past
-        (serving_state (core D.state daemon.old) (L.trace net.old) 0 slots.old)
-        → TookTurn L.Conn.history start past result
-        (serving_state (core D.state daemon.new) (L.trace net.new) 0 slots.new) }
+    ensures turned { GoesRound L.Conn.history
+        (serving (lent D.state L.trace daemon.old net.old) 0 slots.old) result
+        (serving (lent D.state L.trace daemon.new net.new) 0 slots.new) }
     ensures few { result.left ≤ length slots.old }
 {
     let mut has_moved = welcome(alloc, daemon, net, slots);
@@ -80,11 +78,10 @@ fn take_turns<D: Device, L: Listeners>(
 ) -> ServeEnd
     requires len { length slots.old ≡ most_sessions }
     requires roomed { All HasRooms slots.old }
-    ensures ran { (start : DaemonAndListeners) → LoopInvariant L.Conn.history start []
-        (serving_state (core D.state daemon.old) (L.trace net.old) 0 slots.old)
-        → HasTakenAllTurns L.Conn.history start
-        (record { sessions = sessions; idle_turns = idle_turns }) result
-        (serving_state (core D.state daemon.new) (L.trace net.new) 0 slots.new) }
+    ensures ran { TakesAllTurns L.Conn.history
+        (record { sessions = sessions; idle_turns = idle_turns })
+        (serving (lent D.state L.trace daemon.old net.old) 0 slots.old) result
+        (serving (lent D.state L.trace daemon.new net.new) 0 slots.new) }
     ensures memory { result ≢ ServeEnd.NoMem }
 {
     let mut all_left = 0u64;
@@ -153,8 +150,8 @@ pub fn serve<D: Device, L: Listeners>(
     /// moved in as many turns in a row as were to be waited; else after 2^40. Behind them sessions are left and
     /// connections handed back, until none stands, and nothing else.
     ensures served { HasServed (record { sessions = sessions; idle_turns = idle_turns })
-        (record { daemon = core D.state daemon.old; listeners = L.trace net.old })
-        (record { daemon = core D.state daemon.new; listeners = L.trace net.new }) result }
+        (lent D.state L.trace daemon.old net.old)
+        (lent D.state L.trace daemon.new net.new) result }
     /// Where there is no memory before the first accept, nothing was done.
     ///
     /// It returns, after at most 2^40 turns.

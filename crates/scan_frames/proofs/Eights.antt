@@ -4,7 +4,7 @@ use Rattle.std.specs.Prelude.{slice_index}
 use Rattle.netpbm.specs.FileText.{binary, concat_up_to}
 use Rattle.scan_frames.specs.Line.{numbers}
 use Rattle.scan_frames.proofs.Lines.{numbers_at}
-use Rattle.page_picture.proofs.EightLemmas.{splat_lane, length-splat}
+use Rattle.vector_lanes.proofs.Lanes.{splat_lane, length-splat}
 use Rattle.scan_frames.specs.declared.lanes.TheConstants.{LEFTMOST_FIRST}
 use Rattle.std.specs.Simd.Lanes.{chunk}
 use Rattle.std.proofs.lemmas.List.{get_or_append_left}

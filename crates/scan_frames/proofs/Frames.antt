@@ -1,5 +1,5 @@
 -- A frame from its beginning to its end.
-use Rattle.std.proofs.Common.{◌≡◌, ℕ, ◌<◌, ◌≤◌, ◌+◌, ◌-◌, ◌*◌, inl, inr, Bool, true, false, List, length, arith, refl, sym, ap, ◌∙◌, subst}
+use Rattle.std.proofs.Common.{◌≡◌, ℕ, ◌<◌, ◌≤◌, ◌+◌, ◌-◌, ◌*◌, inl, inr, Bool, true, false, length, arith, refl, sym, ap, ◌∙◌}
 use Rattle.std.specs.Prelude.{◌==◌, ◌&&◌, nat_le}
 use Rattle.std.proofs.lemmas.Bool.{cases_lt}
 use Rattle.std.proofs.lemmas.Bool.Decides.{nat_tests}
@@ -15,8 +15,7 @@ use Rattle.scan_frames.specs.declared.setup.Packing.TheVariants.{Bits, Bytes, Wo
 use Rattle.scan_frames.specs.declared.setup.Setup.{Setup}
 use Rattle.scan_frames.specs.Line.{packing_of, line_size}
 use Rattle.scan_frames.specs.Frames.{has_picture, height_of, width_of, format_at, bytes_per_line, pass_length}
-use Rattle.scan_frames.specs.Samples.{HasZeros, IsZeroFrom}
-use Rattle.scan_frames.specs.PassReading.{FrameProgress, IsFrame, HasBegunPass, given_in}
+use Rattle.scan_frames.specs.PassReading.{FrameProgress, IsFrame, given_in}
 use Rattle.scan_frames.specs.Inside.{IsLineCounted, IsNewFrame, MakesLine, KeepsCount, HasLineBytes}
 use Rattle.scan_frames.proofs.Scans.{mul-split, left_in_line, left_whole, made_not_given}
 
@@ -100,36 +99,6 @@ pub short_line : (s : SourceState) (setup : Setup) (f : FrameProgress) → IsFra
 short_line s setup f is loss = let most = line_most setup s.page f.pass is.picture loss in let size = is.line in omega arith
 
 -- ---- the beginning
-
-all_zeros : (p : Packing) (i : ℕ) (line : List ℕ) → IsZeroFrom 0 line → HasZeros p i line
-all_zeros Bits i line zeros = tt
-all_zeros Bytes i line zeros = λ j h. zeros j (omega arith)
-all_zeros Words i line zeros = λ j h. zeros j (omega arith)
-
-pub first_frame : (s t : SourceState) (setup : Setup) (pass height : ℕ) (f : FrameProgress) → t ≡ record s { given = 0 } → has_picture setup s.page ≡ true → height ≡ height_of setup s.page → IsNewFrame s.page setup pass height f → HasBegunPass s setup pass f t
-first_frame s t setup pass height f after picture tall fresh =
-    let frame : IsFrame (record s { given = 0 }) setup f = record {
-      picture = picture;
-      columns = fresh.columns;
-      tables = fresh.tables;
-      height = fresh.height_is ∙ tall;
-      row = fresh.row;
-      taken = fresh.taken;
-      within = let e = fresh.taken in omega arith;
-      untaken = λ none. fresh.taken;
-      behind = λ some. absurd (let e = fresh.made in omega arith);
-      line = fresh.line ∙ ap (bytes_per_line setup) (sym fresh.pass_is);
-      zeros = all_zeros (packing_of setup.scene.depth) (channels_within (format_at setup f.pass) * width_of setup) f.line fresh.zeros;
-      made = let e = fresh.made in omega arith;
-      left = let e = fresh.left in omega arith;
-      bytes = λ steady some need. absurd (let e = fresh.made in omega arith);
-    } in
-    record {
-      frame = subst (λ (u : SourceState). IsFrame u setup f) (sym after) frame;
-      pass_is = fresh.pass_is;
-      none = ap (λ (n : ℕ). n * length f.line - f.left) fresh.made ∙ omega arith;
-      after = after;
-    }
 
 pub first_count : (page : PageView) (setup : Setup) (pass height : ℕ) (f : FrameProgress) → IsNewFrame page setup pass height f → IsLineCounted f
 first_count page setup pass height f fresh = record {

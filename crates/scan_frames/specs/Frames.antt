@@ -1,8 +1,11 @@
 -- The frames that a scan gives: what is told of each, and its bytes (SANE Standard 1.06, "Scan parameters").
-use Rattle.std.specs.Prelude.{ℕ, ◌+◌, ◌*◌, ◌≤◌, ◌≡◌, ◌==◌, ◌⊎◌, ◌&&◌, Bool, true, false, if◌then◌else◌, Option, Some, None, List, [], ◌∷◌}
+use Rattle.std.specs.Prelude.{ℕ, ◌+◌, ◌*◌, ◌≤◌, ◌≡◌, ◌==◌, ◌⊎◌, ◌&&◌, Bool, true, false, if◌then◌else◌, Option, Some}
+use Rattle.std.specs.Prelude.{None, List, [], ◌∷◌}
 use Rattle.netpbm.specs.FileText.{concat_up_to}
 use Rattle.sane_fixed.specs.declared.frame_format.FrameFormat.{FrameFormat}
-use Rattle.sane_fixed.specs.declared.frame_format.FrameFormat.TheVariants.{Gray as GrayFrame, Rgb as RgbFrame, Red as RedFrame, Green as GreenFrame, Blue as BlueFrame}
+use Rattle.sane_fixed.specs.declared.frame_format.FrameFormat.TheVariants.{Gray as GrayFrame, Rgb as RgbFrame}
+use Rattle.sane_fixed.specs.declared.frame_format.FrameFormat.TheVariants.{Red as RedFrame, Green as GreenFrame}
+use Rattle.sane_fixed.specs.declared.frame_format.FrameFormat.TheVariants.{Blue as BlueFrame}
 use Rattle.sane_fixed.specs.declared.params.Params.{Params}
 use Rattle.page_picture.specs.Page.{PageView}
 use Rattle.page_picture.specs.Extent.{across, down, is_side, shows_depth}
@@ -17,9 +20,9 @@ use Rattle.scan_frames.specs.declared.setup.Setup.{Setup}
 use Rattle.scan_frames.specs.declared.setup.PassOrder.{PassOrder}
 use Rattle.scan_frames.specs.declared.setup.PassOrder.TheVariants.{Rgb, Rbg, Gbr, Grb, Brg, Bgr}
 
--- **setup (`Setup`, `IsSetup`)**: what the options of a scanner say: the scene, the byte order, the order of passes, the
--- lost pixels of a line, the most bytes of a read, and what the first read of a frame answers in place of bytes; and the
--- limits of these.
+-- **setup (`Setup`, `IsSetup`)**: what the options of a scanner say: the scene, the byte order, the order of passes,
+-- the lost pixels of a line, the most bytes of a read, and what the first read of a frame answers in place of bytes;
+-- and the limits of these.
 pub record IsSetup (s : Setup) : Type 0 where
   pub depth : (s.scene.depth ≡ 1) ⊎ ((s.scene.depth ≡ 8) ⊎ (s.scene.depth ≡ 16))
   pub resolution_some : 1 ≤ s.scene.resolution
@@ -40,7 +43,8 @@ height_of s page = height_on s page.height page.dpi
 
 -- whether the scene means a picture on the page
 abbrev pub has_picture_on : Setup → ℕ → ℕ → Bool
-has_picture_on s rows dpi = shows_depth s.scene.mode s.scene.depth && (is_side (width_of s) && is_side (height_on s rows dpi))
+has_picture_on s rows dpi =
+    shows_depth s.scene.mode s.scene.depth && (is_side (width_of s) && is_side (height_on s rows dpi))
 
 abbrev pub has_picture : Setup → PageView → Bool
 has_picture s page = has_picture_on s page.height page.dpi
@@ -75,7 +79,8 @@ frame_format_of Gray = GrayFrame
 frame_format_of Color = RgbFrame
 
 abbrev pub format_at : Setup → ℕ → FrameFormat
-format_at s pass = if takes_colors s.scene.kind s.scene.mode then color_at s.passes pass else frame_format_of s.scene.mode
+format_at s pass =
+    if takes_colors s.scene.kind s.scene.mode then color_at s.passes pass else frame_format_of s.scene.mode
 
 -- the picture's channel that stands as number k in a frame of the format
 abbrev pub channel_in : FrameFormat → ℕ → ℕ
@@ -143,9 +148,9 @@ frame_of s page pass = record {
   payload = payload s page pass;
 }
 
--- **frames of a scan (`frames_of`, `params_at`, `payload`)**: one frame; in color on a three-pass scanner three, a color
--- each, in the order of passes. What is told of a pass has 0 for width, lines and bytes per line where there is no picture;
--- a hand scanner does not tell its lines. A pass's bytes are its lines one after another.
+-- **frames of a scan (`frames_of`, `params_at`, `payload`)**: one frame; in color on a three-pass scanner three, a
+-- color each, in the order of passes. What is told of a pass has 0 for width, lines and bytes per line where there is
+-- no picture; a hand scanner does not tell its lines. A pass's bytes are its lines one after another.
 abbrev pub frames_of : Setup → PageView → List Frame
 frames_of s page =
     if takes_colors s.scene.kind s.scene.mode

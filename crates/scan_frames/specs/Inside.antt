@@ -1,5 +1,6 @@
 -- What private functions alone promise.
-use Rattle.std.specs.Prelude.{ℕ, ◌+◌, ◌*◌, ◌/◌, ◌<◌, ◌≡◌, ◌≢◌, nat_lt, if◌then◌else◌, List, length, slice_index, get_or, ◌≤◌, true, ◌-◌, ◌%◌, ◌==◌, ◌&&◌, Bool, take, drop, min, []}
+use Rattle.std.specs.Prelude.{ℕ, ◌+◌, ◌*◌, ◌/◌, ◌<◌, ◌≡◌, ◌≢◌, nat_lt, if◌then◌else◌, List, length, slice_index, get_or}
+use Rattle.std.specs.Prelude.{◌≤◌, true, ◌-◌, ◌%◌, ◌==◌, ◌&&◌, Bool, take, drop, min, []}
 use Rattle.netpbm.specs.FileText.{binary, bits_byte}
 use Rattle.page_picture.specs.Columns.{Columns, place_at, columns_of}
 use Rattle.page_picture.specs.Page.{PageView, page_sample_at}
@@ -29,7 +30,8 @@ use Rattle.scan_frames.specs.declared.setup.Setup.{Setup}
 abbrev pub HasSample : Packing → ByteOrder → List ℕ → ℕ → ℕ → Type 0
 HasSample Bits order line i v = Unit {0}
 HasSample Bytes order line i v = slice_index line i ≡ v
-HasSample Words order line i v = (slice_index line (2 * i) ≡ half order 0 v) × (slice_index line (2 * i + 1) ≡ half order 1 v)
+HasSample Words order line i v = (slice_index line (2 * i) ≡ half order 0 v)
+    × (slice_index line (2 * i + 1) ≡ half order 1 v)
 
 -- how many bytes the first i samples of a line take
 abbrev pub sample_end : Packing → ℕ → ℕ
@@ -48,10 +50,11 @@ sum_from row i = 299 * slice_index row i + 587 * slice_index row (i + 1) + 114 *
 abbrev pub gray_in : List ℕ → ℕ → ℕ
 gray_in row place = sum_from row (3 * place) / 1000
 
--- **gray rows (`IsGrayDot`, `IsGrayRow`)**: a dot of a row is gray where its three samples are the same, and a row where
--- all its dots are; the gray of such a dot is its sample, so that none is summed.
+-- **gray rows (`IsGrayDot`, `IsGrayRow`)**: a dot of a row is gray where its three samples are the same, and a row
+-- where all its dots are; the gray of such a dot is its sample, so that none is summed.
 abbrev pub IsGrayDot : List ℕ → ℕ → Type 0
-IsGrayDot row p = (slice_index row (3 * p + 1) ≡ slice_index row (3 * p)) × (slice_index row (3 * p + 2) ≡ slice_index row (3 * p))
+IsGrayDot row p = (slice_index row (3 * p + 1) ≡ slice_index row (3 * p))
+    × (slice_index row (3 * p + 2) ≡ slice_index row (3 * p))
 
 -- all dots of a row are gray
 abbrev pub IsGrayRow : List ℕ → Type 0
@@ -60,14 +63,15 @@ IsGrayRow row = (p : ℕ) → 3 * p + 2 < length row → IsGrayDot row p
 -- the sample that a scene makes of a place in a row, in a channel of the picture
 abbrev pub sample_in_row : Scene → List ℕ → ℕ → ℕ → ℕ
 sample_in_row scene row place k =
-    in_channel scene.mode scene.depth scene.channel_gamma k (tone scene.depth scene.gamma (brightness scene.mode (λ i. slice_index row (3 * place + i)) k))
+    in_channel scene.mode scene.depth scene.channel_gamma k
+    (tone scene.depth scene.gamma (brightness scene.mode (λ i. slice_index row (3 * place + i)) k))
 
 -- the sample that stands as number k at column x of a frame's line
 abbrev pub value_at : Scene → FrameFormat → List ℕ → Columns → ℕ → ℕ → ℕ
 value_at scene format row columns x k = sample_in_row scene row (place_at columns x) (channel_in format k)
 
--- **dark dots (`dark`, `darks_from`)**: one for a sample below 32,768, and zero for any other; of eight dots a byte, the
--- leftmost as its most significant bit.
+-- **dark dots (`dark`, `darks_from`)**: one for a sample below 32,768, and zero for any other; of eight dots a byte,
+-- the leftmost as its most significant bit.
 abbrev pub dark : ℕ → ℕ
 dark v = if nat_lt v 32768 then 1 else 0
 
@@ -132,7 +136,8 @@ pub record IsNewFrame (page : PageView) (setup : Setup) (pass height : ℕ) (f :
   pub left : f.left ≡ 0
 
 -- the next line was made, and nothing of it given
-pub record MakesLine (s : SourceState) (setup : Setup) (old : FrameProgress) (t : SourceState) (new : FrameProgress) : Type 0 where
+pub record MakesLine (s : SourceState) (setup : Setup) (old : FrameProgress) (t : SourceState)
+    (new : FrameProgress) : Type 0 where
   pub source : TakesRows s t
   pub frame : IsFrame t setup new
   pub pass_is : new.pass ≡ old.pass
@@ -155,7 +160,8 @@ abbrev pub is_frame_over : FrameProgress → Bool
 is_frame_over f = (f.left == 0) && (f.made == f.height)
 
 -- some byte of the last line is left
-pub record HasLineBytes (s : SourceState) (setup : Setup) (old : FrameProgress) (t : SourceState) (new : FrameProgress) : Type 0 where
+pub record HasLineBytes (s : SourceState) (setup : Setup) (old : FrameProgress) (t : SourceState)
+    (new : FrameProgress) : Type 0 where
   pub source : TakesRows s t
   pub frame : IsFrame t setup new
   pub pass_is : new.pass ≡ old.pass
@@ -171,7 +177,8 @@ pub record GivesLine (old : FrameProgress) (n : ℕ) (new : FrameProgress) (buf 
   pub after : new ≡ record old { left = old.left - n }
 
 -- n bytes of the frame were written, behind those that were given before
-pub record HasGivenOfFrame (s : SourceState) (setup : Setup) (old : FrameProgress) (n : ℕ) (t : SourceState) (new : FrameProgress) (buf : List ℕ) : Type 0 where
+pub record HasGivenOfFrame (s : SourceState) (setup : Setup) (old : FrameProgress) (n : ℕ) (t : SourceState)
+    (new : FrameProgress) (buf : List ℕ) : Type 0 where
   pub source : TakesRows s t
   pub frame : IsFrame t setup new
   pub counted : IsLineCounted new
@@ -180,13 +187,14 @@ pub record HasGivenOfFrame (s : SourceState) (setup : Setup) (old : FrameProgres
   pub bytes : s.steady ≡ true → take n buf ≡ take n (drop (given_in old) (payload setup s.page old.pass))
 
 -- they are all that is left of a line, but no more than the buffer holds
-pub record GivesOfLine (setup : Setup) (was : FrameAndSource) (n : ℕ) (now : FrameAndSource) (buf : List ℕ) : Type 0 where
+pub record GivesOfLine (setup : Setup) (was : FrameAndSource) (n : ℕ) (now : FrameAndSource)
+    (buf : List ℕ) : Type 0 where
   pub count : n ≡ min (left_of_line was.frame) (length buf)
   pub some : 0 < n
   pub given : HasGivenOfFrame was.source setup was.frame n now.source now.frame buf
 
--- the next line may be made apart from the line that a frame keeps: its row is the next, and no further line shows it, and
--- no byte stands behind its samples
+-- the next line may be made apart from the line that a frame keeps: its row is the next, and no further line shows it,
+-- and no byte stands behind its samples
 pub record MayBeMadeApart (setup : Setup) (page : PageView) (f : FrameProgress) : Type 0 where
   pub no_loss : setup.loss ≡ 0
   pub next : row_of setup page f.made ≡ f.taken
@@ -199,7 +207,8 @@ pub record PutsGrays (s : SourceState) (table : List ℕ) (first : ℕ) (t : Sou
   pub more : s.given < s.page.height
   pub after : t ≡ record s { given = s.given + 1 }
   pub here : s.steady ≡ true → (x : ℕ) → x < length line
-      → slice_index line x ≡ slice_index table (brightness Gray (λ k. page_sample_at s.page (first + x) s.given k) 0 / 256)
+      → slice_index line x
+      ≡ slice_index table (brightness Gray (λ k. page_sample_at s.page (first + x) s.given k) 0 / 256)
 
 -- the same in color, as they are
 pub record PutsColors (s : SourceState) (first : ℕ) (t : SourceState) (line : List ℕ) : Type 0 where
@@ -214,7 +223,8 @@ AreAsTheyAre setup tables Upper channel = (packing_of setup.scene.depth ≡ Byte
 AreAsTheyAre setup tables Both channel = (packing_of setup.scene.depth ≡ Words) × (setup.order ≡ Big)
 
 -- the pass is one of one color, whose channel of the page this is, and its lines show these bytes of it as they are
-pub record ShowsChannel (setup : Setup) (pass : ℕ) (tables : List (List ℕ)) (which : SampleBytes) (channel : ℕ) : Type 0 where
+pub record ShowsChannel (setup : Setup) (pass : ℕ) (tables : List (List ℕ)) (which : SampleBytes)
+    (channel : ℕ) : Type 0 where
   pub mode : setup.scene.mode ≡ Color
   pub one : channels_within (format_at setup pass) ≡ 1
   pub channel_is : channel ≡ channel_in (format_at setup pass) 0
@@ -222,15 +232,16 @@ pub record ShowsChannel (setup : Setup) (pass : ℕ) (tables : List (List ℕ)) 
   pub shown : AreAsTheyAre setup tables which channel
 
 -- the next row was taken, and these bytes of one channel of `count` of its places were put
-pub record PutsChannel (s : SourceState) (of : ChannelBytes) (count : ℕ) (t : SourceState) (line : List ℕ) : Type 0 where
+pub record PutsChannel (s : SourceState) (of : ChannelBytes) (count : ℕ) (t : SourceState)
+    (line : List ℕ) : Type 0 where
   pub more : s.given < s.page.height
   pub after : t ≡ record s { given = s.given + 1 }
   pub here : s.steady ≡ true → (j : ℕ) → j < bytes_in of.which * count
       → slice_index line j ≡ sample_byte of.which (λ x. page_sample_at s.page (of.first + x) s.given of.channel) j
 
--- **black bytes (`black`, `black_in`, `blacks_in`)**: one for an entry of a gamma table that is black at depth 1, which is
--- one below 128, and zero for any other; of eight bytes a byte, the leftmost as its most significant bit, with zeros behind
--- the last byte.
+-- **black bytes (`black`, `black_in`, `blacks_in`)**: one for an entry of a gamma table that is black at depth 1, which
+-- is one below 128, and zero for any other; of eight bytes a byte, the leftmost as its most significant bit, with zeros
+-- behind the last byte.
 abbrev pub black : ℕ → ℕ
 black v = if nat_lt v 128 then 1 else 0
 
@@ -244,11 +255,14 @@ blacks_in bytes b = binary (λ j. black_in bytes (8 * b + j)) 8
 
 -- the next row was taken, and `count` of its places from `first` on were put in gray, a bit each, by a table; zeros
 -- stand behind them
-pub record PutsGrayBits (s : SourceState) (table : List ℕ) (first count : ℕ) (t : SourceState) (line : List ℕ) : Type 0 where
+pub record PutsGrayBits (s : SourceState) (table : List ℕ) (first count : ℕ) (t : SourceState)
+    (line : List ℕ) : Type 0 where
   pub more : s.given < s.page.height
   pub after : t ≡ record s { given = s.given + 1 }
   pub here : s.steady ≡ true → (b : ℕ) → b < length line
-      → slice_index line b ≡ bits_byte count (λ x. black (slice_index table (brightness Gray (λ k. page_sample_at s.page (first + x) s.given k) 0 / 256))) b
+      → slice_index line b
+      ≡ bits_byte count (λ x.
+      black (slice_index table (brightness Gray (λ k. page_sample_at s.page (first + x) s.given k) 0 / 256))) b
 
 -- the next row was taken, and the line is that of a pass where it shows this row
 pub record MakesOfRow (s : SourceState) (setup : Setup) (pass : ℕ) (t : SourceState) (line : List ℕ) : Type 0 where

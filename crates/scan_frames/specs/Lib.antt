@@ -7,3 +7,4 @@ pub mod Rows
 pub mod PassReading
 pub mod StatusOf
 pub mod Inside
+pub mod Laws

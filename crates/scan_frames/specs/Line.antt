@@ -31,8 +31,8 @@ line_byte Words order channels width at j =
 abbrev pub numbers : (ℕ → ℕ) → ℕ → List ℕ
 numbers f n = concat_up_to (λ i. f i ∷ []) n
 
--- **line (`line_of`, `line_byte`)**: the samples of a line as bits, the leftmost the most significant, as bytes, or as two
--- bytes in the byte order; zero behind the last pixel.
+-- **line (`line_of`, `line_byte`)**: the samples of a line as bits, the leftmost the most significant, as bytes, or as
+-- two bytes in the byte order; zero behind the last pixel.
 --
 -- such a line of `size` bytes
 unfoldable pub line_of : Packing → ByteOrder → ℕ → ℕ → (ℕ → ℕ → ℕ) → ℕ → List ℕ

@@ -1,12 +1,14 @@
 -- A frame that is read, line by line, from a source that gives its page row by row.
-use Rattle.std.specs.Prelude.{ℕ, ◌+◌, ◌-◌, ◌*◌, ◌<◌, ◌≤◌, ◌≡◌, ◌⊎◌, true, false, List, length, take, drop, min, Result, Ok, Err}
+use Rattle.std.specs.Prelude.{ℕ, ◌+◌, ◌-◌, ◌*◌, ◌<◌, ◌≤◌, ◌≡◌, ◌⊎◌, true, false, List, length, take, drop, min, Result}
+use Rattle.std.specs.Prelude.{Ok, Err}
 use Rattle.page_picture.specs.Page.{PageView}
 use Rattle.page_picture.specs.Seen.{row_seen}
 use Rattle.page_picture.specs.Columns.{Columns, columns_of}
 use Rattle.page_picture.specs.Shows.{channels_within}
 use Rattle.page_picture.specs.Source.{SourceState, Fails}
 use Rattle.scan_frames.specs.Line.{packing_of}
-use Rattle.scan_frames.specs.Frames.{has_picture, width_of, height_of, format_at, bytes_per_line, line_bytes, payload, pass_length}
+use Rattle.scan_frames.specs.Frames.{has_picture, width_of, height_of, format_at, bytes_per_line, line_bytes, payload}
+use Rattle.scan_frames.specs.Frames.{pass_length}
 use Rattle.scan_frames.specs.Samples.{HasZeros}
 use Rattle.scan_frames.specs.Tables.{AreComposed}
 use Rattle.scan_frames.specs.Rows.{IsWhiteBehind, TakesRows, StopsFailing}
@@ -16,11 +18,11 @@ use Rattle.scan_frames.specs.declared.faults.BeginFault.TheVariants.{NoPicture, 
 use Rattle.scan_frames.specs.declared.faults.ReadEnd.{ReadEnd}
 use Rattle.scan_frames.specs.declared.faults.ReadEnd.TheVariants.{End, SourceFailed as SourceFailedIn}
 
--- **a frame that is read (`FrameProgress`, `FrameAndSource`, `IsFrame`, `BeginsPass`, `ReadsFrame`)**: which pass, room for
--- a row and how many were taken (none behind the one that the last line shows), the last line that was made, as long as
--- some of it is left or the next line shows its row too (`IsLineNeeded`), and how many were made; of a setup over a source
--- in its state. A read gives the bytes that follow those given before, all that are left of the frame, but no more than the
--- buffer holds or the read limit lets; or the end, or the source's fault.
+-- **a frame that is read (`FrameProgress`, `FrameAndSource`, `IsFrame`, `BeginsPass`, `ReadsFrame`)**: which pass, room
+-- for a row and how many were taken (none behind the one that the last line shows), the last line that was made, as
+-- long as some of it is left or the next line shows its row too (`IsLineNeeded`), and how many were made; of a setup
+-- over a source in its state. A read gives the bytes that follow those given before, all that are left of the frame,
+-- but no more than the buffer holds or the read limit lets; or the end, or the source's fault.
 pub record FrameProgress : Type 0 where
   pub pass : ℕ
   -- which columns of the page its pixels show
@@ -31,7 +33,8 @@ pub record FrameProgress : Type 0 where
   -- room for a row, with a white place behind it, and how many rows were taken
   pub row : List ℕ
   pub taken : ℕ
-  -- the last line that was made, as long as it is needed, how many were made, and how many bytes of the last were not given
+  -- the last line that was made, as long as it is needed, how many were made, and how many bytes of the last were not
+  -- given
   pub line : List ℕ
   pub made : ℕ
   pub left : ℕ
@@ -64,10 +67,12 @@ pub record IsFrame (s : SourceState) (setup : Setup) (f : FrameProgress) : Type 
   pub zeros : HasZeros (packing_of setup.scene.depth) (channels_within (format_at setup f.pass) * width_of setup) f.line
   pub made : f.made ≤ f.height
   pub left : f.left ≤ length f.line
-  pub bytes : s.steady ≡ true → 0 < f.made → IsLineNeeded setup s.page f → f.line ≡ line_bytes setup s.page f.pass (f.made - 1)
+  pub bytes : s.steady ≡ true → 0 < f.made → IsLineNeeded setup s.page f
+      → f.line ≡ line_bytes setup s.page f.pass (f.made - 1)
 
 -- the frame of a pass of which nothing was given yet; its source begins at the page's first row
-pub record HasBegunPass (old : SourceState) (setup : Setup) (pass : ℕ) (f : FrameProgress) (new : SourceState) : Type 0 where
+pub record HasBegunPass (old : SourceState) (setup : Setup) (pass : ℕ) (f : FrameProgress)
+    (new : SourceState) : Type 0 where
   pub frame : IsFrame new setup f
   pub pass_is : f.pass ≡ pass
   pub none : given_in f ≡ 0
@@ -82,7 +87,8 @@ BeginsPass old setup pass (Err NoMem) new = (has_picture setup old.page ≡ true
 
 -- n bytes of the frame were written, behind those that were given before: all that is left of the frame, but no more
 -- than the buffer holds, nor than one read gives
-pub record GivesFrameBytes (s : SourceState) (setup : Setup) (old : FrameProgress) (n : ℕ) (t : SourceState) (new : FrameProgress) (buf : List ℕ) : Type 0 where
+pub record GivesFrameBytes (s : SourceState) (setup : Setup) (old : FrameProgress) (n : ℕ) (t : SourceState)
+    (new : FrameProgress) (buf : List ℕ) : Type 0 where
   pub count : n ≡ min (pass_length setup s.page old.pass - given_in old) (min (length buf) setup.limit)
   pub some : 0 < n
   pub room : n ≤ length buf
@@ -103,6 +109,7 @@ pub record FrameAndSource : Type 0 where
 abbrev pub ReadsFrame : Setup → FrameAndSource → Result ℕ ReadEnd → FrameAndSource → List ℕ → Type 0
 ReadsFrame setup was (Ok n) now buf = GivesFrameBytes was.source setup was.frame n now.source now.frame buf
 ReadsFrame setup was (Err End) now buf =
-    (given_in was.frame ≡ pass_length setup was.source.page was.frame.pass) × (now.source ≡ was.source) × (now.frame ≡ was.frame)
+    (given_in was.frame ≡ pass_length setup was.source.page was.frame.pass) × (now.source ≡ was.source)
+    × (now.frame ≡ was.frame)
 ReadsFrame setup was (Err SourceFailedIn) now buf =
     (given_in was.frame < pass_length setup was.source.page was.frame.pass) × StopsFailing was.source now.source

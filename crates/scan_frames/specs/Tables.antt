@@ -2,7 +2,9 @@
 use Rattle.std.specs.Prelude.{ℕ, ◌<◌, ◌≡◌, List, get_or, slice_index, []}
 use Rattle.page_picture.specs.declared.scene.Scene.{Scene}
 
--- **composed tables (`AreComposed`, `IsPlain`, `IsSame`)**: at depth 8, for each channel one table for the gamma table and
--- the channel's own after it; a table is the same where it gives each byte as it is, and the three are plain where each is.
+-- **composed tables (`AreComposed`, `IsPlain`, `IsSame`)**: at depth 8, for each channel one table for the gamma table
+-- and the channel's own after it; a table is the same where it gives each byte as it is, and the three are plain where
+-- each is.
 abbrev pub AreComposed : Scene → List (List ℕ) → Type 0
-AreComposed scene tables = (k v : ℕ) → k < 3 → v < 256 → slice_index (get_or tables k []) v ≡ slice_index (get_or scene.channel_gamma k []) (slice_index scene.gamma v)
+AreComposed scene tables = (k v : ℕ) → k < 3 → v < 256
+    → slice_index (get_or tables k []) v ≡ slice_index (get_or scene.channel_gamma k []) (slice_index scene.gamma v)

@@ -8,6 +8,7 @@ ghost use Rattle.scan_frames.specs.Inside.{HasSample, dark, darks_from, sum_from
 use crate::setup::Packing;
 use sane_fixed::ByteOrder;
 use std::simd::prelude::*;
+use vector_lanes::words::{bytes_of, products, turned, upper_bytes};
 
 /// For eight bits that stand as `mixed` has their dots: the same bits, the leftmost dot's as the most significant.
 const LEFTMOST_FIRST: [u8; 256] = [
@@ -36,17 +37,6 @@ fn eight(row: &[u16], at: usize) -> u16x8
     u16x32::from_slice(&row[at..]).swizzle([0, 3, 6, 9, 12, 15, 18, 21])
 }
 
-/// The upper bytes of eight samples.
-#[inline(always)]
-fn upper(samples: u16x8) -> u8x8
-    requires { length samples ≡ 8 }
-    ensures size { length result ≡ 8 }
-    ensures each { (i : ℕ) → i < 8 → slice_index result i ≡ slice_index samples i / 256 }
-{
-    let bytes: u8x16 = samples.to_le_bytes();
-    bytes.swizzle([1, 3, 5, 7, 9, 11, 13, 15])
-}
-
 /// How many eights of so many dots, from sample `at` of a row on, can be taken at once.
 pub fn eights(row: &[u16], at: usize, dots: usize) -> usize
     requires { at ≤ length row.now }
@@ -66,7 +56,7 @@ pub fn put_eights(row: &[u16], at: usize, eights: usize, line: &mut [u8])
     ensures behind { (j : ℕ) → 8 * eights ≤ j → slice_index line.new j ≡ slice_index line.old j }
 {
     for n in 0..eights {
-        upper(eight(row, at + 24 * n)).copy_to_slice(&mut line[8 * n..]);
+        upper_bytes(eight(row, at + 24 * n)).copy_to_slice(&mut line[8 * n..]);
     }
 }
 
@@ -123,17 +113,6 @@ pub fn put_darks(row: &[u16], at: usize, eights: usize, line: &mut [u8])
     }
 }
 
-/// Eight samples, each times a weight.
-#[inline(always)]
-fn weighted(samples: u16x8, weight: u32) -> u32x8
-    requires size { length samples ≡ 8 }
-    requires light { weight ≤ 1000 }
-    ensures size { length result ≡ 8 }
-    ensures each { (i : ℕ) → i < 8 → slice_index result i ≡ weight * slice_index samples i }
-{
-    samples.cast::<u32>() * u32x8::splat(weight)
-}
-
 /// The weighted sums of eight dots that lie one beside the other, from sample `at` on.
 #[inline(always)]
 fn sums_of(row: &[u16], at: usize) -> u32x8
@@ -141,9 +120,9 @@ fn sums_of(row: &[u16], at: usize) -> u32x8
     ensures size { length result ≡ 8 }
     ensures each { (i : ℕ) → i < 8 → slice_index result i ≡ sum_from row.now (at + 3 * i) }
 {
-    let red = weighted(eight(row, at), 299);
-    let green = weighted(eight(row, at + 1), 587);
-    let blue = weighted(eight(row, at + 2), 114);
+    let red = products(eight(row, at), 299);
+    let green = products(eight(row, at + 1), 587);
+    let blue = products(eight(row, at + 2), 114);
     red + green + blue
 }
 
@@ -205,17 +184,6 @@ pub fn put_sum_eights(row: &[u16], at: usize, eights: usize, line: &mut [u8])
     }
 }
 
-/// Eight samples, the two bytes of each turned.
-#[inline(always)]
-fn turned(samples: u16x8) -> u16x8
-    requires { length samples ≡ 8 }
-    ensures size { length result ≡ 8 }
-    ensures lower { (i : ℕ) → i < 8 → slice_index result i % 256 ≡ slice_index samples i / 256 }
-    ensures upper { (i : ℕ) → i < 8 → slice_index result i / 256 ≡ slice_index samples i % 256 }
-{
-    samples * u16x8::splat(256) + (samples >> u16x8::splat(8))
-}
-
 /// Eight samples whose lower bytes are those that stand first in the order.
 #[inline(always)]
 fn first_lower(order: ByteOrder, samples: u16x8) -> u16x8
@@ -230,19 +198,6 @@ fn first_lower(order: ByteOrder, samples: u16x8) -> u16x8
         ByteOrder::Little => samples,
         ByteOrder::Big => turned(samples),
     }
-}
-
-/// The bytes of eight samples, the lower of each before its upper.
-#[inline(always)]
-fn bytes_of(samples: u16x8) -> u8x16
-    requires { length samples ≡ 8 }
-    ensures size { length result ≡ 16 }
-    ensures lower { (i : ℕ) → i < 8
-        → slice_index result (2 * i) ≡ slice_index samples i % 256 }
-    ensures upper { (i : ℕ) → i < 8
-        → slice_index result (2 * i + 1) ≡ slice_index samples i / 256 }
-{
-    samples.to_le_bytes()
 }
 
 /// Puts the two bytes of one sample of each of so many eights of dots, from sample `at` on.

@@ -5,15 +5,12 @@ ghost use Rattle.page_picture.specs.Shows.{ShowsFrames};
 ghost use Rattle.scan_frames.specs.Frames.{IsSetup, frame_of, frames_of, has_picture, height_of, last_pass, width_of};
 ghost use Rattle.scan_frames.specs.Filler.{EndsInZeros};
 ghost use Rattle.scan_frames.specs.declared.setup.Setup.{Setup as SetupValue};
+ghost use Rattle.scan_frames.specs.Laws.{FramesShowThePicture};
 
 pub fn frames_show_the_picture()
     /// The frames of a scan show the picture that the options mean on the page: one frame all its channels, three
     /// frames a channel each, in each of the six orders.
-    ensures { (setup : SetupValue) (page : PageView)
-        → IsSetup setup → IsPageView page → ((i : ℕ) → slice_index setup.scene.gamma i < 2 ^ 8)
-        → ((k i : ℕ) → slice_index (get_or setup.scene.channel_gamma k []) i < 2 ^ 8)
-        → has_picture setup page ≡ true → ShowsFrames (frames_of setup page)
-        (picture_of page setup.scene (width_of setup, height_of setup page)) }
+    ensures { FramesShowThePicture }
 {}
 
 /// The frames of a scan are those of its passes, from 0 to the last, in their order: so what is told of a pass and what is

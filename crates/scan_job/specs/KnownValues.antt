@@ -21,4 +21,5 @@ tells_value desc = not (has_cap desc.caps.0 32) && (has_cap desc.caps.0 4 && has
 
 -- the options, of which the one at that place has that value
 abbrev pub with_known_value : ℕ → Value → List (Descriptor × Option Value) → List (Descriptor × Option Value)
-with_known_value n value known = elim (slice_get known n) [ None ↦ known | Some option ↦ slice_set known n (option.0, Some value) ]
+with_known_value n value known =
+    elim (slice_get known n) [ None ↦ known | Some option ↦ slice_set known n (option.0, Some value) ]

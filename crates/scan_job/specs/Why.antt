@@ -1,7 +1,8 @@
 -- The words that scanimage prints for why a job ended.
 use Rattle.std.specs.Prelude.{ℕ, List, codes}
 use Rattle.scan_job.specs.declared.outcome.Why.{Why}
-use Rattle.scan_job.specs.declared.outcome.Why.TheVariants.{Answer, Cancelled, Lost, Malformed, Short, Long, Setting, Plain, Memory, Sink}
+use Rattle.scan_job.specs.declared.outcome.Why.TheVariants.{Answer, Cancelled, Lost, Malformed, Short, Long, Setting}
+use Rattle.scan_job.specs.declared.outcome.Why.TheVariants.{Plain, Memory, Sink}
 
 abbrev pub why_word : Why → List ℕ
 why_word Answer = codes "answer"

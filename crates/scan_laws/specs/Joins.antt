@@ -1,5 +1,6 @@
 -- Frames that a join takes one after another, to the whole picture.
-use Rattle.std.specs.Prelude.{ℕ, ◌≤◌, ◌≡◌, Bool, true, false, if◌then◌else◌, Option, Some, None, List, [], ◌∷◌, ◌++◌, length}
+use Rattle.std.specs.Prelude.{ℕ, ◌≤◌, ◌≡◌, Bool, true, false, if◌then◌else◌, Option, Some, None, List, [], ◌∷◌, ◌++◌}
+use Rattle.std.specs.Prelude.{length}
 use Rattle.page_picture.specs.Shows.{Frame}
 use Rattle.frame_join.specs.AloneFrame.{most_bytes}
 use Rattle.frame_join.specs.FrameHistory.{JoinHistory, with_fault, is_accepted, is_full, is_joined}
@@ -10,11 +11,12 @@ abbrev pub no_frame_left : List Frame → Bool
 no_frame_left [] = true
 no_frame_left (f ∷ more) = false
 
--- **frames that a join takes (`JoinTakes`, `TakesAll`)**: each is accepted behind those before it, all its bytes fit and
--- are all of it, and the last makes the picture whole.
+-- **frames that a join takes (`JoinTakes`, `TakesAll`)**: each is accepted behind those before it, all its bytes fit
+-- and are all of it, and the last makes the picture whole.
 --
--- **takes (`JoinTakes`, `TakesAll`)**: behind the frames that ended a join takes this one: it begins, no front of its bytes
--- is too long, all of them are full, none of them are not, and its last-frame flag stands just where no frame follows.
+-- **takes (`JoinTakes`, `TakesAll`)**: behind the frames that ended a join takes this one: it begins, no front of its
+-- bytes is too long, all of them are full, none of them are not, and its last-frame flag stands just where no frame
+-- follows.
 pub record JoinTakes (ended : List Frame) (f : Frame) (more : List Frame) : Type 0 where
   pub unjoined : is_joined ended ≡ false
   pub accepted : is_accepted ended f.params f.order ≡ true

@@ -7,18 +7,19 @@ use Rattle.scan_frames.specs.declared.setup.Setup.{Setup}
 use Rattle.device_api.specs.State.{DeviceState, Phase, is_at_rest, page_of}
 use Rattle.device_api.specs.State.Phase.{AtRest, Between, Reading}
 
--- A phase that a scan of this setup on this page comes to. Where a status is told in place of the bytes, none of them is
--- ever given.
+-- A phase that a scan of this setup on this page comes to. Where a status is told in place of the bytes, none of them
+-- is ever given.
 abbrev pub IsPhaseOf : Phase → Setup → PageView → Type 0
 IsPhaseOf (AtRest _) setup page = Unit {0}
 IsPhaseOf (Between ended) setup page = (has_picture setup page ≡ true) × (1 ≤ ended) × (ended ≤ last_pass setup)
 IsPhaseOf (Reading pass given) setup page =
-    (has_picture setup page ≡ true) × (pass ≤ last_pass setup) × (given ≤ pass_length setup page pass) × (setup.told ≢ None → given ≡ 0)
+    (has_picture setup page ≡ true) × (pass ≤ last_pass setup) × (given ≤ pass_length setup page pass)
+    × (setup.told ≢ None → given ≡ 0)
 
 -- **in a scan (`IsInScan`), place (`ScanPlace`, `place_of`)**: a phase that a scan of this setup on this page comes to:
--- passes counted up to the last, bytes up to their number, none where a status is told in their place, and a page while a
--- scan is under way. Where a scanner is in the list of a scan's frames: at rest; the frame that ended last and those to be
--- started; the frame that is read, its bytes not given yet, and the frames after it.
+-- passes counted up to the last, bytes up to their number, none where a status is told in their place, and a page while
+-- a scan is under way. Where a scanner is in the list of a scan's frames: at rest; the frame that ended last and those
+-- to be started; the frame that is read, its bytes not given yet, and the frames after it.
 pub record IsInScan (s : DeviceState) : Type 0 where
   pub phase : IsPhaseOf s.phase s.setup (page_of s)
   pub page : is_at_rest s.phase ≡ false → s.pages ≢ []

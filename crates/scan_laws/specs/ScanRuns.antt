@@ -1,5 +1,6 @@
 -- A scan as its caller sees it, over any calls.
-use Rattle.std.specs.Prelude.{ℕ, ◌-◌, ◌≡◌, ◌⊎◌, Bool, true, false, List, [], ◌∷◌, ◌++◌, take, Option, Some, Result, Ok, Err, slice_get}
+use Rattle.std.specs.Prelude.{ℕ, ◌-◌, ◌≡◌, ◌⊎◌, Bool, true, false, List, [], ◌∷◌, ◌++◌, take, Option, Some, Result, Ok}
+use Rattle.std.specs.Prelude.{Err, slice_get}
 use Rattle.sane_fixed.specs.declared.info.Info.{Info}
 use Rattle.sane_fixed.specs.declared.status.Status.{Status}
 use Rattle.sane_fixed.specs.declared.status.Status.TheVariants.{Eof}
@@ -10,13 +11,14 @@ use Rattle.page_picture.specs.Shows.{Frame, ShowsFrames}
 use Rattle.page_picture.specs.Source.{SourceState}
 use Rattle.scan_frames.specs.Frames.{format_at}
 use Rattle.scan_frames.specs.Filler.{EndsInZeros}
-use Rattle.device_api.specs.State.{DeviceState, Phase, Starts, Reads, after_cancel, after_load, after_reset, after_set, is_at_rest, page_of, params_of, set_answer, takes_page}
+use Rattle.device_api.specs.State.{DeviceState, Phase, Starts, Reads, after_cancel, after_load, after_reset, after_set}
+use Rattle.device_api.specs.State.{is_at_rest, page_of, params_of, set_answer, takes_page}
 use Rattle.device_api.specs.State.Phase.{AtRest, Between, Reading}
 
--- **a run of calls (`DeviceCall`, `ScanGoesOn`), a scan in one sentence (`ShowsOne`)**: any calls in which the scanner did
--- not come to rest. There is one list of frames and one picture, the meaning of the first start's scene on its page; the
--- frames show it; whatever is called, what is told is of the frame started last, what was read since is a front of its
--- bytes, and its end comes behind the last of them, or where the options tell of it in place of the first.
+-- **a run of calls (`DeviceCall`, `ScanGoesOn`), a scan in one sentence (`ShowsOne`)**: any calls in which the scanner
+-- did not come to rest. There is one list of frames and one picture, the meaning of the first start's scene on its
+-- page; the frames show it; whatever is called, what is told is of the frame started last, what was read since is a
+-- front of its bytes, and its end comes behind the last of them, or where the options tell of it in place of the first.
 --
 -- a call that may change a scanner, with what it answered; of a read also the buffer behind it
 pub data DeviceCall : Type 0 where
@@ -41,7 +43,8 @@ Makes s Reset t = t ≡ after_reset s
 -- these calls were made one after another, and the scanner came to rest in none of them
 abbrev pub ScanGoesOn : DeviceState → List DeviceCall → DeviceState → Type 0
 ScanGoesOn s [] t = t ≡ s
-ScanGoesOn s (call ∷ calls) t = (now : DeviceState) × Makes s call now × (is_at_rest now.phase ≡ false) × ScanGoesOn now calls t
+ScanGoesOn s (call ∷ calls) t = (now : DeviceState) × Makes s call now × (is_at_rest now.phase ≡ false)
+    × ScanGoesOn now calls t
 
 -- the bytes that reads gave since the last start
 abbrev pub heard_after : List ℕ → DeviceCall → List ℕ
@@ -83,8 +86,8 @@ pub record IsOfScan (frames : List Frame) (now : DeviceState) (heard : List ℕ)
   pub order : now.setup.order ≡ frame.order
   pub is_heard : IsHeardIn now.phase now.setup.told heard frame
 
--- A frame ended: all of its bytes were heard, or none where the options tell of an end in their place; and the scan waits
--- for its next frame, or it was the last and the scanner is at rest.
+-- A frame ended: all of its bytes were heard, or none where the options tell of an end in their place; and the scan
+-- waits for its next frame, or it was the last and the scanner is at rest.
 pub record FrameIsHeard (frames : List Frame) (now after : DeviceState) (heard : List ℕ) : Type 0 where
   pub frame : Frame
   pub in_place : slice_get frames (last_started now.phase) ≡ Some frame
@@ -101,5 +104,7 @@ pub record ShowsOne (first begun : DeviceState) : Type 0 where
   pub shows : ShowsFrames frames picture
   pub passes : (pass : ℕ) (f : Frame) → slice_get frames pass ≡ Some f → f.params.format ≡ format_at first.setup pass
   pub zeros : (pass : ℕ) → EndsInZeros first.setup (page_of first) pass
-  pub so_far : (now : DeviceState) (calls : List DeviceCall) → ScanGoesOn begun calls now → IsOfScan frames now (heard_in [] calls)
-  pub ends : (now after : DeviceState) (calls : List DeviceCall) (buf : List ℕ) → ScanGoesOn begun calls now → Reads now (Err Eof) after buf → FrameIsHeard frames now after (heard_in [] calls)
+  pub so_far : (now : DeviceState) (calls : List DeviceCall) → ScanGoesOn begun calls now
+      → IsOfScan frames now (heard_in [] calls)
+  pub ends : (now after : DeviceState) (calls : List DeviceCall) (buf : List ℕ) → ScanGoesOn begun calls now
+      → Reads now (Err Eof) after buf → FrameIsHeard frames now after (heard_in [] calls)

@@ -1,6 +1,7 @@
 -- What the model takes from scanners and from joins: an accepted setting, the frames of a scan, and the join's
 -- word on them.
-use Rattle.std.specs.Prelude.{ℕ, nat_lt, Bool, if◌then◌else◌, Option, Some, None, Result, Ok, Err, List, [], ◌∷◌, ◌++◌, length}
+use Rattle.std.specs.Prelude.{ℕ, nat_lt, Bool, if◌then◌else◌, Option, Some, None, Result, Ok, Err, List, [], ◌∷◌, ◌++◌}
+use Rattle.std.specs.Prelude.{length}
 use Rattle.sane_fixed.specs.declared.info.Info.{Info}
 use Rattle.sane_fixed.specs.declared.params.Params.{Params}
 use Rattle.sane_fixed.specs.declared.status.Status.{Status}

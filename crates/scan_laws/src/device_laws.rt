@@ -20,6 +20,7 @@ ghost use Rattle.device_api.specs.OwnOptions.{IsOwn};
 ghost use Rattle.scan_laws.specs.Passes.{IsInScan, BeginsFrame, EndsEmpty, EndsWhole, GivesOn, place_of};
 ghost use Rattle.scan_laws.specs.Stays.{IsSameScan, IsSourceShaped};
 ghost use Rattle.scan_laws.specs.SetInfo.{MayRefuseStart, TellsOfSet};
+ghost use Rattle.scan_laws.specs.Laws.{RefusesOnlyWhereNoneIs, SettingsAreNearest};
 
 /// What a set answers tells a client whether to ask for the descriptors again: they changed just where the bit
 /// RELOAD_OPTIONS stands.
@@ -97,10 +98,6 @@ pub fn what_is_given_is_nearest()
     /// A set gives the nearest admitted value, and so does each setting of a job.
     ensures given { (s : Setup) (n : ℕ) (asked given : Value) (info : Info)
         → option_set s n asked ≡ Ok (given, info) → GivesNearest s n asked given }
-    ensures refused { (s : Setup) (n : ℕ) (asked given : Value) (status : Status)
-        (desc : Descriptor) → option_set s n asked ≡ Err status → slice_get (descriptors_of s) n
-        ≡ Some desc → may_be_set desc ≡ true → Puts desc asked given → ⊥ }
-    ensures settings { (kind : DeviceKind) (order : ByteOrder) (settings : List (List ℕ
-        × List ℕ)) (forced : Setup × List Placement) → in_force kind order settings ≡ Some forced
-        → PutAllNearest (defaults kind order) settings forced.1 forced.0 }
+    ensures refused { RefusesOnlyWhereNoneIs }
+    ensures settings { SettingsAreNearest }
 {}

@@ -15,6 +15,7 @@ ghost use Rattle.frame_join.specs.declared.join_stage.JoinFault.TheVariants.{Sho
 ghost use Rattle.frame_join.specs.JoinStates.{JoinState, Represents};
 ghost use Rattle.scan_laws.specs.Joins.{IsOpenJoin, JoinTakes, TakesAll, with_frame_begun, with_bytes};
 ghost use Rattle.scan_laws.specs.Weights.{greatest_weight, weight};
+ghost use Rattle.scan_laws.specs.Laws.{FrameBegins, FrameGoesOn, FrameEnds, FramesShowTheMeaning, FileDenotesTheMeaning};
 
 pub fn a_join_takes_the_frames_of_a_scan()
     /// A join takes the frames of a scan one after another, to the whole picture.
@@ -26,18 +27,9 @@ pub fn a_join_takes_the_frames_of_a_scan()
 /// its first byte is short.
 pub fn a_join_goes_through_a_frame()
     /// It goes through each frame in whatever pieces; an end before its first byte is short.
-    ensures begin { (ended more : List Frame) (f : Frame) (past : JoinHistory) (starved : Bool)
-        → JoinTakes ended f more
-        → IsOpenJoin ended None past → after_begin f.params f.order starved past
-        ≡ with_frame_begun starved (with_bytes f []) past }
-    ensures feed { (ended more : List Frame)
-        (f : Frame) (past : JoinHistory) (starved : Bool) (heard bytes rest : List ℕ)
-        → JoinTakes ended f more → IsOpenJoin ended (Some (with_bytes f heard)) past
-        → (heard ++ bytes) ++ rest ≡ f.payload → after_feed bytes starved past
-        ≡ with_frame_begun starved (with_bytes f (heard ++ bytes)) past }
-    ensures end { (ended more : List Frame) (f : Frame) (past : JoinHistory)
-        → JoinTakes ended f more → IsOpenJoin ended (Some f) past
-        → after_end past ≡ record past { ended = ended ++ f ∷ []; under = None } }
+    ensures begin { FrameBegins }
+    ensures feed { FrameGoesOn }
+    ensures end { FrameEnds }
     ensures short { (ended more : List Frame) (f : Frame) (past : JoinHistory)
         → JoinTakes ended f more
         → IsOpenJoin ended (Some (with_bytes f [])) past → after_end past ≡ with_fault Short past }
@@ -54,13 +46,8 @@ pub fn frames_join_to_the_meaning()
     /// The frames of a scan, joined, are the picture that its scene means on its page, and their file denotes it.
     ensures there { (setup : Setup) (page : PageView)
         → has_picture setup page ≡ false → meaning_of page setup.scene ≡ None }
-    ensures shows { (setup : Setup) (page : PageView)
-        → IsAllowed setup → IsPageView page → has_picture setup page ≡ true → (p : Picture)
-        × (meaning_of page setup.scene ≡ Some p) × ShowsFrames (frames_of setup page) p }
-    ensures file { (setup : Setup) (page : PageView) (past : JoinHistory) (join : JoinState)
-        (p : Picture) → IsAllowed setup → IsPageView page → meaning_of page setup.scene ≡ Some p
-        → Represents past join → past.ended ≡ frames_of setup page → past.under ≡ None
-        → past.fault ≡ None → AllGone past.under past.ended past.given → Denotes past.given p }
+    ensures shows { FramesShowTheMeaning }
+    ensures file { FileDenotesTheMeaning }
 {}
 
 /// A scan in one sentence: from a start at rest that succeeds, whatever is called until the scanner rests again, the scan

@@ -38,19 +38,22 @@ abbrev pub HasMore : Task → ℕ → Type 0
 HasMore (tasks.Batch count) file = file < count
 HasMore task file = ⊥
 
--- the file under way of a job that runs stands behind the pages that are finished; another is to come where it waits to be taken
+-- the file under way of a job that runs stands behind the pages that are finished; another is to come where it waits to
+-- be taken
 abbrev pub HasNumber : Task → Outcome → Progress → ℕ → ℕ → Type 0
-HasNumber task Running progress file pages = (file ≡ pages + 1) × IsAmong task file × (is_turning progress ≡ true → HasMore task file)
+HasNumber task Running progress file pages = (file ≡ pages + 1) × IsAmong task file
+    × (is_turning progress ≡ true → HasMore task file)
 HasNumber task (Done reports) progress file pages = Unit {0}
 HasNumber task (Ended status why) progress file pages = Unit {0}
 
--- The client stands for what it was told since the last page that is finished, and the file under way is what that gave. Where
--- the job is done, and what was told is a picture, the file is that of the picture.
+-- The client stands for what it was told since the last page that is finished, and the file under way is what that
+-- gave. Where the job is done, and what was told is a picture, the file is that of the picture.
 pub record FileIsUnderWay (past : JoinHistory) (pages : List JoinHistory) (p : Endpoint) : Type 0 where
   pub holds : HoldsHistory past pages p
   pub number : HasNumber p.task p.client.outcome p.client.progress p.client.notes.file (length pages)
   pub pages_are : ArePages pages
-  pub done : is_done p.client.outcome ≡ true → IsJoined past → (q : Picture) → ShowsFrames past.ended q → Denotes past.given q
+  pub done : is_done p.client.outcome ≡ true → IsJoined past → (q : Picture) → ShowsFrames past.ended q
+      → Denotes past.given q
 
 -- a batch is done with its last page: all its files are laid by
 pub record IsAllLaid (pages : List JoinHistory) (p : Endpoint) : Type 0 where
@@ -60,9 +63,9 @@ pub record IsAllLaid (pages : List JoinHistory) (p : Endpoint) : Type 0 where
   pub pages_are : ArePages pages
 
 -- **files stand (`FilesRepresent`, `FileIsUnderWay`, `IsAllLaid`, `IsPage`)**: the files of a job are those of what its
--- client was told: behind the finished pages, each a whole file of the picture that its frames show, stands the file under
--- way, which is that of the picture where the job is done and what was told is one; or a batch is done with its last page,
--- and all its files are laid by.
+-- client was told: behind the finished pages, each a whole file of the picture that its frames show, stands the file
+-- under way, which is that of the picture where the job is done and what was told is one; or a batch is done with its
+-- last page, and all its files are laid by.
 pub data FilesRepresent (p : Endpoint) : Type 0 where
   Underway : (past : JoinHistory) (pages : List JoinHistory) → FileIsUnderWay past pages p → FilesRepresent p
   AllLaid : (pages : List JoinHistory) → IsAllLaid pages p → FilesRepresent p

@@ -4,13 +4,14 @@ use Rattle.saned_core.specs.DaemonStates.{Core}
 use Rattle.client_replies.specs.ProtocolStates.{is_running}
 use Rattle.scan_world.specs.declared.event.Event.{Event}
 use Rattle.scan_world.specs.declared.event.JobEvent.{JobEvent}
-use Rattle.scan_world.specs.declared.event.JobEvent.TheVariants.{Connect, ToDaemon, ToClient, DataConnect, DataTurn, DataToClient, LoseControl}
+use Rattle.scan_world.specs.declared.event.JobEvent.TheVariants.{Connect, ToDaemon, ToClient, DataConnect, DataTurn}
+use Rattle.scan_world.specs.declared.event.JobEvent.TheVariants.{DataToClient, LoseControl}
 use Rattle.scan_world.specs.declared.endpoint.Endpoint.{Endpoint}
 use Rattle.scan_world.specs.JobEvents.{Can, job_event_of}
 
--- **move (`in_order`, `IsFirstMove`, `IsNextMove`)**: the connection made, at most 4,096 bytes to the daemon, as many to
--- the client, the data connection made, its bytes to the client, the daemon's turn: the first that can happen; and then the
--- loss of a connection whose session the daemon has ended.
+-- **move (`in_order`, `IsFirstMove`, `IsNextMove`)**: the connection made, at most 4,096 bytes to the daemon, as many
+-- to the client, the data connection made, its bytes to the client, the daemon's turn: the first that can happen; and
+-- then the loss of a connection whose session the daemon has ended.
 --
 -- the moves of a job, in their order
 abbrev pub in_order : List JobEvent

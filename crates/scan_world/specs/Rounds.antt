@@ -1,5 +1,6 @@
 -- Next moves by turns: a round is a turn of each job, and rounds come one after another until no job has a move.
-use Rattle.std.specs.Prelude.{ℕ, ◌≡◌, ◌<◌, ◌≤◌, ◌+◌, ◌⊎◌, ◌++◌, Bool, true, false, Option, Some, None, is_some, List, [], ◌∷◌, length, slice_get}
+use Rattle.std.specs.Prelude.{ℕ, ◌≡◌, ◌<◌, ◌≤◌, ◌+◌, ◌⊎◌, ◌++◌, Bool, true, false, Option, Some, None, is_some, List}
+use Rattle.std.specs.Prelude.{[], ◌∷◌, length, slice_get}
 use Rattle.page_picture.specs.Source.{SourceState}
 use Rattle.page_picture.specs.declared.sources.kinds.Source.{Source}
 use Rattle.scan_world.specs.declared.event.Event.{Event}
@@ -23,8 +24,9 @@ pub record IsMoveOf (w : WorldCore) (i : ℕ) (event : Event) : Type 0 where
 abbrev pub RestsAt : WorldCore → ℕ → Type 0
 RestsAt w i = (p : Endpoint) → slice_get w.endpoints i ≡ Some p → IsNextMove w.daemon i p None ⊎ (moves_left_of p ≡ 0)
 
--- **rounds (`TakesMove`, `IsRound`, `Rounds`, `RoundsRunOut`)**: the turn of a job is its next move, where it has one and
--- moves left; a round is one turn of each job, in their order; rounds run out where no job has a move, or moves left.
+-- **rounds (`TakesMove`, `IsRound`, `Rounds`, `RoundsRunOut`)**: the turn of a job is its next move, where it has one
+-- and moves left; a round is one turn of each job, in their order; rounds run out where no job has a move, or moves
+-- left.
 abbrev pub TakesMove : (Source → SourceState) → ℕ → Option Event → WorldCore → WorldCore → Type 0
 TakesMove source i None w v = RestsAt w i × (v ≡ w)
 TakesMove source i (Some event) w v = IsMoveOf w i event × Leads source event w v
@@ -32,7 +34,8 @@ TakesMove source i (Some event) w v = IsMoveOf w i event × Leads source event w
 -- the turns of the jobs from that place on, in their order
 abbrev pub TakesMoves : (Source → SourceState) → ℕ → List (Option Event) → WorldCore → WorldCore → Type 0
 TakesMoves source i [] w v = v ≡ w
-TakesMoves source i (turn ∷ turns) w v = (u : WorldCore) × TakesMove source i turn w u × TakesMoves source (i + 1) turns u v
+TakesMoves source i (turn ∷ turns) w v = (u : WorldCore) × TakesMove source i turn w u
+    × TakesMoves source (i + 1) turns u v
 
 -- one turn of each job
 abbrev pub IsRound : (Source → SourceState) → List (Option Event) → WorldCore → WorldCore → Type 0
@@ -65,7 +68,8 @@ pub record HasRound (source : Source → SourceState) (went : Bool) (w v : World
   pub some : went ≡ true → 0 < length (moves_made turns)
   pub none : went ≡ false → (v ≡ w) × ((i : ℕ) → RestsAt w i)
 
--- Rounds, and then no job has a move. They made at most as many moves as all jobs had left, and each of them is an event.
+-- Rounds, and then no job has a move. They made at most as many moves as all jobs had left, and each of them is an
+-- event.
 pub record RoundsRunOut (source : Source → SourceState) (w v : WorldCore) : Type 0 where
   pub rounds : List (List (Option Event))
   pub goes : Rounds source rounds w v

@@ -13,7 +13,9 @@ use Rattle.saned_requests.specs.declared.session.StringSize.TheVariants.{OfText}
 use Rattle.saned_core.specs.DaemonStates.{DaemonState, core}
 use Rattle.saned_core.specs.Loading as daemon
 use Rattle.scan_world.specs.declared.event.Event.{Event}
-use Rattle.scan_world.specs.declared.event.Event.TheVariants.{Connect, ToDaemon, ToClient, DataConnect, DataTurn, DataToClient, LoseControl, LoseImage, Cancel, Load, Unplug}
+use Rattle.scan_world.specs.declared.event.Event.TheVariants.{Connect, ToDaemon, ToClient, DataConnect, DataTurn}
+use Rattle.scan_world.specs.declared.event.Event.TheVariants.{DataToClient, LoseControl, LoseImage, Cancel, Load}
+use Rattle.scan_world.specs.declared.event.Event.TheVariants.{Unplug}
 use Rattle.scan_world.specs.declared.event.JobEvent.{JobEvent}
 use Rattle.scan_world.specs.declared.event.JobEvent.TheVariants as job_events
 use Rattle.scan_world.specs.declared.endpoint.Endpoint.{Endpoint}
@@ -22,9 +24,9 @@ use Rattle.scan_world.specs.declared.world_fault.WorldFault.TheVariants as fault
 use Rattle.scan_world.specs.Endpoints.{IsNew}
 use Rattle.scan_world.specs.JobEvents.{Happens}
 
--- **a world (`WorldState`, `AreNew`, `HasWorldFault`, `HasFaultAmong`, `IsInitialWorld`)**: the daemon and the endpoints;
--- that each job has its endpoint, to which nothing has happened; why there is no world of these devices and jobs, the first
--- fault in its order; and a new one, whose devices are reset.
+-- **a world (`WorldState`, `AreNew`, `HasWorldFault`, `HasFaultAmong`, `IsInitialWorld`)**: the daemon and the
+-- endpoints; that each job has its endpoint, to which nothing has happened; why there is no world of these devices and
+-- jobs, the first fault in its order; and a new one, whose devices are reset.
 --
 -- A world whose devices are seen as S.
 pub record WorldState (S : Type 0) : Type 0 where
@@ -72,7 +74,8 @@ HasFaultAmong faults.BadJob devices jobs = AreRegistrable devices × HasWorldFau
 HasFaultAmong faults.NoMem devices jobs = AreRegistrable devices × HasWorldFault faults.NoMem jobs
 
 -- a new daemon of these devices, each of them reset, and a new endpoint for each job
-pub record IsInitialWorld (devices : List DeviceState) (users : List Entry) (seed : List ℕ) (jobs : List Job) (w : WorldCore) : Type 0 where
+pub record IsInitialWorld (devices : List DeviceState) (users : List Entry) (seed : List ℕ) (jobs : List Job)
+    (w : WorldCore) : Type 0 where
   pub registry : w.daemon.registry ≡ fresh_table devices
   pub users_are : w.daemon.users ≡ users
   pub strings : w.daemon.strings ≡ OfText
@@ -87,9 +90,11 @@ pub record IsInitialWorld (devices : List DeviceState) (users : List Entry) (see
 -- changes; a page that is laid in and a device that is taken out are the daemon's calls; a list of events is one after
 -- another.
 --
--- It happens to the job of that place, by the daemon and its endpoint; no other endpoint changes. Where there is no such job nothing does.
+-- It happens to the job of that place, by the daemon and its endpoint; no other endpoint changes. Where there is no
+-- such job nothing does.
 pub record AtEndpoint (w : WorldCore) (i : ℕ) (job_event : JobEvent) (v : WorldCore) : Type 0 where
-  pub happens : (p : Endpoint) → slice_get w.endpoints i ≡ Some p → (q : Endpoint) × Happens w.daemon p job_event v.daemon q × (v.endpoints ≡ slice_set w.endpoints i q)
+  pub happens : (p : Endpoint) → slice_get w.endpoints i ≡ Some p
+      → (q : Endpoint) × Happens w.daemon p job_event v.daemon q × (v.endpoints ≡ slice_set w.endpoints i q)
   pub beyond : length w.endpoints ≤ i → v ≡ w
 
 -- what an event makes of a world; the source of a page that is laid in shows it
@@ -104,7 +109,8 @@ Leads source (LoseControl i) w v = AtEndpoint w i job_events.LoseControl v
 Leads source (LoseImage i) w v = AtEndpoint w i job_events.LoseImage v
 Leads source (Cancel i) w v = AtEndpoint w i job_events.Cancel v
 Leads source (Load name page) w v = v ≡ record w { daemon = daemon.core_after_load w.daemon name (source page) }
-Leads source (Unplug name) w v = v ≡ record w { daemon = record w.daemon { registry = after_unplug w.daemon.registry name } }
+Leads source (Unplug name) w v =
+    v ≡ record w { daemon = record w.daemon { registry = after_unplug w.daemon.registry name } }
 
 -- events one after another
 abbrev pub Runs : (Source → SourceState) → List Event → WorldCore → WorldCore → Type 0

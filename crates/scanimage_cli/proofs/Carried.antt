@@ -36,6 +36,10 @@ pub on_ok_of : {A E P Q : Type 0} (result : Result A E) → (P → Q) → OnOk r
 on_ok_of (Ok value) so is = so is
 on_ok_of (Err fault) so is = tt
 
+pub on_ok_of_two : {A E P Q R : Type 0} (result : Result A E) → (P → Q → R) → OnOk result P → OnOk result Q → OnOk result R
+on_ok_of_two (Ok value) so is and = so is and
+on_ok_of_two (Err fault) so is and = tt
+
 pub on_err : {A E P : Type 0} (result : Result A E) → P → OnErr result P
 on_err (Ok value) is = tt
 on_err (Err fault) is = is
@@ -95,8 +99,8 @@ ran_to_folder views job host held was now (Ok printed) x = record {
 ran_to_folder views job host held was now (Err ending) x = x
 
 -- a list was printed
-pub listed : (table : Table) (asked : AskedHere) (was now : StandardStreams) (lines : List ℕ) → asked.plan.task ≡ ListTask → lines ≡ device_lines [] (listed_infos table) → Appends was.out now.out lines → IsDoneHere table asked was now
-listed table asked was now lines task is whole = record { list = λ _. subst (Appends was.out now.out) is whole; job = λ no. absurd (no task) }
+pub listed : (table : Table) (asked : AskedHere) (was now : StandardStreams) (lines : List ℕ) → asked.plan.task ≡ ListTask → lines ≡ device_lines [] (listed_infos table) → now.err ≡ was.err → Appends was.out now.out lines → IsDoneHere table asked was now
+listed table asked was now lines task is kept whole = record { list = λ _. (subst (Appends was.out now.out) is whole, kept); job = λ no. absurd (no task) }
 
 -- a scan prints no table
 pub scan_prints_none : (destination : Destination) (job : Job) (was now : DeviceAndOutput) (printed : Printout) → job.task ≡ Scan → DoesPlanned destination job was now printed → printed.table.items ≡ []

@@ -5,3 +5,4 @@ pub mod CutLaw
 pub mod JoinLemmas
 pub mod NetDone
 pub mod Carried
+pub mod PutPieces

@@ -1,5 +1,6 @@
 -- What the options of the program ask for.
-use Rattle.std.specs.Prelude.{ℕ, ◌≡◌, ◌++◌, if◌then◌else◌, false, Option, Some, None, IsSome, IsTrue, IfSome, List, [], Contains, codes}
+use Rattle.std.specs.Prelude.{ℕ, ◌≡◌, ◌++◌, if◌then◌else◌, false, Option, Some, None, IsSome, IsTrue, IfSome, List, []}
+use Rattle.std.specs.Prelude.{Contains, codes}
 use Rattle.text_lines.specs.Lines.{SplitsAtFirst}
 use Rattle.scan_job.specs.declared.job.Task.{Task}
 use Rattle.scan_job.specs.declared.job.Task.TheVariants.{List as ListTask, Show, SetOnly, Scan, Batch}
@@ -10,9 +11,9 @@ abbrev pub pages_asked : Option ℕ → ℕ
 pages_asked None = 16
 pages_asked (Some count) = count
 
--- **what is asked for (`task_asked`, `IsLocal`, `HasConfig`)**: a list goes before a table, that before settings alone, and
--- those before a scan; of this machine is a list without a host, and anything else of a device that is none of the net;
--- what is asked of this machine needs a config.
+-- **what is asked for (`task_asked`, `IsLocal`, `HasConfig`)**: a list goes before a table, that before settings alone,
+-- and those before a scan; of this machine is a list without a host, and anything else of a device that is none of the
+-- net; what is asked of this machine needs a config.
 abbrev pub task_asked : Options → Task
 task_asked options =
     if options.list_devices then ListTask
@@ -21,9 +22,10 @@ task_asked options =
     else (if options.batch then Batch (pages_asked options.batch_count)
     else Scan)))
 
--- **what is asked of the net (`IsNetName`, `IsNetNameOf`, `IsAskedOf`, `port_asked`)**: `net:`, and a colon further on; its
--- host is what stands before the first such colon, the device's own name what stands behind it; a list asks the host of
--- `--net` for no device, all else the host of the named device for that device; the port is the one that is said, or 6566.
+-- **what is asked of the net (`IsNetName`, `IsNetNameOf`, `IsAskedOf`, `port_asked`)**: `net:`, and a colon further on;
+-- its host is what stands before the first such colon, the device's own name what stands behind it; a list asks the
+-- host of `--net` for no device, all else the host of the named device for that device; the port is the one that is
+-- said, or 6566.
 --
 -- `net:`, and then a host and a name with a colon between them
 abbrev pub IsNetName : List ℕ → Type 0
@@ -47,7 +49,8 @@ HasConfig options = IsLocal options → IsSome options.config
 -- the host that is asked, and the device there: a list asks for none, all else for the named one
 pub record IsAskedOf (options : Options) (host device : List ℕ) : Type 0 where
   pub list : IsTrue options.list_devices → (options.net ≡ Some host) × (device ≡ [])
-  pub named : options.list_devices ≡ false → (name : List ℕ) × (options.device_name ≡ Some name) × IsNetNameOf name host device
+  pub named : options.list_devices ≡ false
+      → (name : List ℕ) × (options.device_name ≡ Some name) × IsNetNameOf name host device
 
 -- the port that is said, or else that of SANE's daemon
 abbrev pub port_or_default : Option ℕ → ℕ

@@ -21,9 +21,9 @@ is_flag_in option (Valued other value) = false
 is_flag_in option (Measured geometry value) = false
 is_flag_in option (Setting name value) = false
 
--- **options of the cut (`value_given`, `is_flag_given`, `IsOfTheCut`)**: the value of the first piece that is the option
--- with one; the flag stands among the pieces. What the options take from the program's words is what the pieces of the same
--- cut give them.
+-- **options of the cut (`value_given`, `is_flag_given`, `IsOfTheCut`)**: the value of the first piece that is the
+-- option with one; the flag stands among the pieces. What the options take from the program's words is what the pieces
+-- of the same cut give them.
 abbrev pub value_given : ProgramOption → List Item → Option (List ℕ)
 value_given option [] = None
 value_given option (item ∷ items) = option_or (item_value_of option item) (value_given option items)

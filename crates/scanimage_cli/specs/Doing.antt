@@ -14,8 +14,8 @@ use Rattle.scanimage_cli.specs.Printing.{Prints}
 use Rattle.scanimage_cli.specs.declared.ending.Ending.{Ending}
 use Rattle.scanimage_cli.specs.declared.printed.Printout.{Printout}
 
--- **doing a job here (`DoesJob`, `EndsJob`, `DoesBatch`, `EndsBatch`)**: done as a local job is done, for some reports, and
--- what they come to is to be printed; or stopped, with a refusal, as such a job stops.
+-- **doing a job here (`DoesJob`, `EndsJob`, `DoesBatch`, `EndsBatch`)**: done as a local job is done, for some reports,
+-- and what they come to is to be printed; or stopped, with a refusal, as such a job stops.
 pub record DoesJob (job : Job) (was now : DeviceAndOutput) (printed : Printout) : Type 0 where
   pub reports : Reports
   pub done : IsDone job was now reports

@@ -1,10 +1,10 @@
 -- The exit statuses of scanimage, and the lines that tell its endings.
-use Rattle.std.specs.Prelude.{ℕ, ◌≡◌, ◌⊎◌, ◌∷◌, [], List, Option, Some, None, codes, decimal}
+use Rattle.std.specs.Prelude.{ℕ, ◌≡◌, ◌≢◌, ◌⊎◌, ◌∷◌, [], List, Option, Some, None, codes, decimal}
 use Rattle.std.specs.List.{concat}
 use Rattle.sane_fixed.specs.Status.{status_code, status_name}
 use Rattle.sane_fixed.specs.declared.status.Status.TheVariants.{Inval, NoMem}
 use Rattle.scan_job.specs.declared.job.Job.{Job}
-use Rattle.scan_job.specs.declared.outcome.Why.TheVariants.{Memory, Setting}
+use Rattle.scan_job.specs.declared.outcome.Why.TheVariants.{Memory, Setting, Sink}
 use Rattle.scan_job.specs.declared.stop.Stop.{Stop}
 use Rattle.scan_job.specs.JobSize.{HasJobFault}
 use Rattle.scan_job.specs.Why.{why_word}
@@ -24,6 +24,19 @@ exit_status (CannotRead path) = 65
 exit_status (Config fault) = 65
 exit_status (Page line why) = 65
 exit_status (Ended status why) = status_code status
+
+-- an ending whose exit status is not 0
+abbrev pub IsFailure : Ending → Type 0
+IsFailure ending = exit_status ending ≢ 0
+
+-- **told of an output (`IsOfOutput`)**: the cause that an ending names is that an output did not take what it was
+-- given.
+abbrev pub IsOfOutput : Ending → Type 0
+IsOfOutput BadCommandLine = ⊥
+IsOfOutput (CannotRead path) = ⊥
+IsOfOutput (Config fault) = ⊥
+IsOfOutput (Page line why) = ⊥
+IsOfOutput (Ended status why) = why ≡ Sink
 
 -- a line of the config has no scanner: its page is not there, or there is no memory
 abbrev pub ended_by_device : ℕ → DeviceFault → Ending
@@ -48,13 +61,15 @@ JobIsRefusedAs job (Some ending) = (ending ≡ Ended Inval Setting) × (HasJobFa
 
 -- a line of the config that is refused, and why
 abbrev pub config_line_text : ℕ → List ℕ → List ℕ
-config_line_text line reason = concat (codes "scanimage: config line " ∷ decimal line ∷ codes ": " ∷ reason ∷ codes "\n" ∷ [])
+config_line_text line reason =
+    concat (codes "scanimage: config line " ∷ decimal line ∷ codes ": " ∷ reason ∷ codes "\n" ∷ [])
 
--- **the line of an ending (`ending_line`)**: that the command line is bad; the file that cannot be read; the line of the
--- config and why it is refused or its page not there; or the status and its cause.
+-- **the line of an ending (`ending_line`)**: that the command line is bad; the file that cannot be read; the line of
+-- the config and why it is refused or its page not there; or the status and its cause.
 abbrev pub ending_line : Ending → List ℕ
 ending_line BadCommandLine = codes "scanimage: bad command line\n"
 ending_line (CannotRead path) = concat (codes "scanimage: cannot read " ∷ path ∷ codes "\n" ∷ [])
 ending_line (Config fault) = config_line_text fault.line (config_reason_text fault.reason)
 ending_line (Page line why) = config_line_text line (no_page_text why)
-ending_line (Ended status why) = concat (codes "scanimage: " ∷ status_name status ∷ codes " (" ∷ why_word why ∷ codes ")\n" ∷ [])
+ending_line (Ended status why) =
+    concat (codes "scanimage: " ∷ status_name status ∷ codes " (" ∷ why_word why ∷ codes ")\n" ∷ [])

@@ -18,5 +18,6 @@ behind_bars [] = []
 behind_bars (text ∷ more) = (124 ∷ text) ++ behind_bars more
 
 -- the items with those that a step completes behind them, and what is awaited then
-abbrev pub with_cut_step : List Item → Option (List Item × Option AwaitedValue) → Option (List Item × Option AwaitedValue)
+abbrev pub with_cut_step : List Item → Option (List Item × Option AwaitedValue)
+    → Option (List Item × Option AwaitedValue)
 with_cut_step items step = option_map (λ s. (items ++ s.0, s.1)) step

@@ -1,5 +1,6 @@
 -- The table of options that `-A` prints.
-use Rattle.std.specs.Prelude.{ℕ, ℤ, ◌/◌, ◌++◌, ◌∷◌, [], Bool, true, false, ◌&&◌, nat_lt, if◌then◌else◌, Option, Some, None, List, map, drop, codes, decimal, pos}
+use Rattle.std.specs.Prelude.{ℕ, ℤ, ◌/◌, ◌++◌, ◌∷◌, [], Bool, true, false, ◌&&◌, nat_lt, if◌then◌else◌, Option, Some}
+use Rattle.std.specs.Prelude.{None, List, map, drop, codes, decimal, pos}
 use Rattle.std.specs.Ordering.{int_eq}
 use Rattle.std.specs.List.{concat, join_with_byte}
 use Rattle.sane_fixed.specs.declared.kind.Kind.{Kind}
@@ -38,11 +39,13 @@ is_vector desc = has_number_values desc.kind && nat_lt 4 desc.size
 
 -- the steps, where not all words are admitted
 abbrev pub steps_text : Kind → ℤ → List ℕ
-steps_text kind quant = if int_eq quant (pos 0) then [] else concat (codes " (in steps of " ∷ word_text kind quant ∷ codes ")" ∷ [])
+steps_text kind quant =
+    if int_eq quant (pos 0) then [] else concat (codes " (in steps of " ∷ word_text kind quant ∷ codes ")" ∷ [])
 
 -- MIN..MAX and the unit
 abbrev pub option_bounds_text : Descriptor → Bounds → List ℕ
-option_bounds_text desc range = concat (word_text desc.kind range.min ∷ codes ".." ∷ word_text desc.kind range.max ∷ unit_text desc.unit ∷ [])
+option_bounds_text desc range =
+    concat (word_text desc.kind range.min ∷ codes ".." ∷ word_text desc.kind range.max ∷ unit_text desc.unit ∷ [])
 
 -- the bounds, and the steps
 abbrev pub option_range_text : Descriptor → Bounds → List ℕ
@@ -102,7 +105,9 @@ abbrev pub read_only_text : Descriptor → List ℕ
 read_only_text desc = if has_cap desc.caps.0 1 then codes "" else codes " [read-only]"
 
 abbrev pub valued_line : Descriptor → Option Value → List ℕ
-valued_line desc value = concat (codes "    --" ∷ desc.name ∷ codes " " ∷ bound_text desc.kind desc ∷ more_text desc ∷ codes " [" ∷ option_value_text desc value ∷ codes "]" ∷ read_only_text desc ∷ codes "\n" ∷ [])
+valued_line desc value =
+    concat (codes "    --" ∷ desc.name ∷ codes " " ∷ bound_text desc.kind desc ∷ more_text desc
+    ∷ codes " [" ∷ option_value_text desc value ∷ codes "]" ∷ read_only_text desc ∷ codes "\n" ∷ [])
 
 -- a group by its title, an action by its name, and all else with its values
 abbrev pub line_of_kind : Kind → Descriptor → Option Value → List ℕ
@@ -116,10 +121,11 @@ line_of_kind kinds.String desc value = valued_line desc value
 abbrev pub option_line : Descriptor × Option Value → List ℕ
 option_line option = line_of_kind option.0.kind option.0 option.1
 
--- **the table (`table_text`, `option_line`)**: a line with the device's name, then a line for each option but the first: a
--- group's title; an action's name; else the name, the values that it may have, and in brackets the one that it has
--- (`inactive`; the count of a vector that can be read; `unknown` where none is told), and `[read-only]` where it cannot be
--- set. The values are a range with its unit and steps, or a list joined by `|` with its unit, or a word for all values of
--- the kind, `,...` behind those of a vector; a constraint of another kind binds nothing.
+-- **the table (`table_text`, `option_line`)**: a line with the device's name, then a line for each option but the
+-- first: a group's title; an action's name; else the name, the values that it may have, and in brackets the one that it
+-- has (`inactive`; the count of a vector that can be read; `unknown` where none is told), and `[read-only]` where it
+-- cannot be set. The values are a range with its unit and steps, or a list joined by `|` with its unit, or a word for
+-- all values of the kind, `,...` behind those of a vector; a constraint of another kind binds nothing.
 abbrev pub table_text : List ℕ → List (Descriptor × Option Value) → List ℕ
-table_text name options = concat (codes "All options specific to device `" ∷ name ∷ codes "':\n" ∷ map option_line (drop 1 options))
+table_text name options =
+    concat (codes "All options specific to device `" ∷ name ∷ codes "':\n" ∷ map option_line (drop 1 options))

@@ -44,14 +44,16 @@ destination_of (Batch count) path = destinations.Folder
 -- the device is here, the named one or the first, or at the host, port and name that are asked
 abbrev pub IsLocationOf : Options → Location → Type 0
 IsLocationOf options (Here device) = IsLocal options × (device ≡ options.device_name)
-IsLocationOf options (There remote) = IsAskedOf options remote.host remote.device × (remote.port ≡ port_asked options) × (remote.dial_first ≡ options.dial_first)
+IsLocationOf options (There remote) = IsAskedOf options remote.host remote.device × (remote.port ≡ port_asked options)
+    × (remote.dial_first ≡ options.dial_first)
 
 -- what is asked of this machine has a config, and a batch has files of its own
 pub record IsComplete (options : Options) : Type 0 where
   pub config : HasConfig options
   pub batch : IsRightBatch options
 
--- each part of the plan is what the options say of it, and its settings those of the command line, of which a list has none
+-- each part of the plan is what the options say of it, and its settings those of the command line, of which a list has
+-- none
 pub record IsPlanned (options : Options) (settings : List (List ℕ × List ℕ)) (plan : Plan) : Type 0 where
   pub config : plan.config ≡ option_map input_named options.config
   pub password_file : plan.password_file ≡ options.password_file
@@ -61,9 +63,9 @@ pub record IsPlanned (options : Options) (settings : List (List ℕ × List ℕ)
   pub task : plan.job.task ≡ task_asked options
   pub destination : plan.job.destination ≡ destination_of plan.job.task options.output_file
 
--- **the plan of a command line (`IsPlanOf`, `IsPlanned`)**: the words are split, the program's words have these options, which
--- are complete, and each part of the plan is what they say: what is read as config and password, where the device is, who
--- asks, the settings, the task, and where its file goes.
+-- **the plan of a command line (`IsPlanOf`, `IsPlanned`)**: the words are split, the program's words have these
+-- options, which are complete, and each part of the plan is what they say: what is read as config and password, where
+-- the device is, who asks, the settings, the task, and where its file goes.
 pub record IsPlanOf (words : List (List ℕ)) (plan : Plan) : Type 0 where
   pub program : List (List ℕ)
   pub settings : List (List ℕ × List ℕ)

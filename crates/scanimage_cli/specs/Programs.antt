@@ -1,5 +1,5 @@
 -- What the program scanimage has done where it ends well.
-use Rattle.std.specs.Prelude.{ℕ, ◌≡◌, ◌≢◌, Option, Some, None, Ok, List, [], length, slice_get, All}
+use Rattle.std.specs.Prelude.{ℕ, ◌≡◌, ◌≢◌, Bool, Option, Some, None, Ok, List, [], length, slice_get, All}
 use Rattle.std.specs.Io.KnownBytes.{Appends}
 use Rattle.netpbm.specs.Picture.{Picture}
 use Rattle.netpbm.specs.Pnm.{Denotes}
@@ -17,10 +17,8 @@ use Rattle.net_jobs.specs.JobTraces.{JobTrace, TraceEvent, EventsLead, initial_t
 use Rattle.local_job.specs.LocalRun.{DeviceAndOutput}
 use Rattle.scanimage_cli.specs.DeviceList.{device_lines, net_prefix}
 use Rattle.scanimage_cli.specs.Doing.{DoesJob, DoesBatch}
-use Rattle.scanimage_cli.specs.Ending.{exit_status}
 use Rattle.scanimage_cli.specs.Host.{IsAddressOf}
-use Rattle.scanimage_cli.specs.Printing.{Prints}
-use Rattle.scanimage_cli.specs.declared.ending.Ending.{Ending}
+use Rattle.scanimage_cli.specs.Printing.{Prints, TakesOrFails}
 use Rattle.scanimage_cli.specs.declared.host.ControlConnection.{ControlConnection}
 use Rattle.scanimage_cli.specs.declared.planning.Destination.{Destination}
 use Rattle.scanimage_cli.specs.declared.planning.Destination.TheVariants.{StandardOutput, Path, Folder}
@@ -28,14 +26,14 @@ use Rattle.scanimage_cli.specs.declared.planning.JobPlan.{JobPlan}
 use Rattle.scanimage_cli.specs.declared.planning.Remote.{Remote}
 use Rattle.scanimage_cli.specs.declared.printed.Printout.{Printout}
 
--- an ending whose exit status is not 0
-abbrev pub IsFailure : Ending → Type 0
-IsFailure ending = exit_status ending ≢ 0
-
--- what standard output and standard error hold, where they tell
+-- what standard output and standard error hold, where they tell, and whether it is noted that an output failed
 pub record StandardStreams : Type 0 where
   pub out : Option (List ℕ)
   pub err : Option (List ℕ)
+  pub failed : Bool
+
+abbrev pub standard_streams : Option (List ℕ) → Option (List ℕ) → Bool → StandardStreams
+standard_streams out err failed = record { out = out; err = err; failed = failed }
 
 -- the job of a plan, with this password
 pub record IsJobOf (plan : JobPlan) (password : List ℕ) (job : Job) : Type 0 where
@@ -55,14 +53,20 @@ abbrev pub IsDeviceNamed : Option (List ℕ) → List DeviceInfo → List ℕ �
 IsDeviceNamed None infos device = (first : DeviceInfo) × (slice_get infos 0 ≡ Some first) × (device ≡ first.name)
 IsDeviceNamed (Some name) infos device = device ≡ name
 
--- A job on a device, done with its file where it is to go: standard output holds what it held, and the file if it goes there; of
--- the system's files nothing is known.
-pub data DoesPlanned (destination : Destination) (job : Job) (was now : DeviceAndOutput) (printed : Printout) : Type 0 where
+-- A job on a device, done with its file where it is to go: standard output holds what it held, and the file if it goes
+-- there; of the system's files nothing is known.
+pub data DoesPlanned (destination : Destination) (job : Job) (was now : DeviceAndOutput)
+    (printed : Printout) : Type 0 where
   ToOutput : destination ≡ StandardOutput → DoesJob job was now printed → DoesPlanned destination job was now printed
-  ToPath : (path : List ℕ) → destination ≡ Path path → DoesJob job (record was { output = None }) (record now { output = None }) printed → now.output ≡ was.output → DoesPlanned destination job was now printed
-  ToFolder : destination ≡ Folder → DoesBatch job (record { device = was.device; stock = None }) (record { device = now.device; stock = None }) printed → now.output ≡ was.output → DoesPlanned destination job was now printed
+  ToPath : (path : List ℕ) → destination ≡ Path path
+      → DoesJob job (record was { output = None }) (record now { output = None }) printed → now.output ≡ was.output
+      → DoesPlanned destination job was now printed
+  ToFolder : destination ≡ Folder
+      → DoesBatch job (record { device = was.device; stock = None }) (record { device = now.device; stock = None })
+      printed → now.output ≡ was.output → DoesPlanned destination job was now printed
 
--- the job that was asked for is done on the device of the table that it names, and its table is printed behind its file
+-- The job that was asked for is done on the device of the table that it names; its table is printed behind its file,
+-- and the lines of its rounded settings on standard error.
 pub record HasDoneHere (table : Table) (asked : AskedHere) (was now : StandardStreams) : Type 0 where
   pub job : Job
   pub asked_for : IsJobOf asked.plan asked.password job
@@ -72,18 +76,21 @@ pub record HasDoneHere (table : Table) (asked : AskedHere) (was now : StandardSt
   pub found : unplug_answer table job.device ≡ Ok old
   pub behind : Option (List ℕ)
   pub printed : Printout
-  pub does : DoesPlanned asked.plan.destination job (record { device = old; output = was.out }) (record { device = new; output = behind }) printed
+  pub does : DoesPlanned asked.plan.destination job (record { device = old; output = was.out })
+      (record { device = new; output = behind }) printed
   pub printed_out : Appends behind now.out printed.table.items
+  pub rounded : TakesOrFails was.err now.err printed.rounded.items now.failed
 
--- **done by the program (`IsDoneHere`, `HasDoneHere`, `IsJobOf`, `DoesPlanned`)**: a list prints a line for each device that is
--- listed, in order; anything else is the job of the plan, with the password, on the device that is named, or the first, its file
--- where the plan has it go.
+-- **done by the program (`IsDoneHere`, `HasDoneHere`, `IsJobOf`, `DoesPlanned`)**: a list prints a line for each device
+-- that is listed, in order, and nothing on standard error; anything else is the job of the plan, with the password, on
+-- the device that is named, or the first, its file where the plan has it go.
 pub record IsDoneHere (table : Table) (asked : AskedHere) (was now : StandardStreams) : Type 0 where
-  pub list : asked.plan.task ≡ ListTask → Appends was.out now.out (device_lines [] (listed_infos table))
+  pub list : asked.plan.task ≡ ListTask
+      → Appends was.out now.out (device_lines [] (listed_infos table)) × (now.err ≡ was.err)
   pub job : asked.plan.task ≢ ListTask → HasDoneHere table asked was now
 
--- a job's one file: the text that was written is the whole file of the picture that the frames show, or nothing, where the job
--- is no scan
+-- a job's one file: the text that was written is the whole file of the picture that the frames show, or nothing, where
+-- the job is no scan
 pub record GaveFile (job : Job) (trace : JobTrace) (was now : Option (List ℕ)) : Type 0 where
   pub text : List ℕ
   pub taken : Appends was now text
@@ -94,11 +101,13 @@ pub record GaveFile (job : Job) (trace : JobTrace) (was now : Option (List ℕ))
 abbrev pub GavePlanned : Destination → Job → JobTrace → Option (List ℕ) → Option (List ℕ) → Type 0
 GavePlanned StandardOutput job trace was now = GaveFile job trace was now
 GavePlanned (Path path) job trace was now = GaveFile job trace None None × (now ≡ was)
-GavePlanned Folder job trace was now = MayScan job.task (length (pages_of trace)) × All IsPageFile (pages_of trace) × (now ≡ was)
+GavePlanned Folder job trace was now = MayScan job.task (length (pages_of trace)) × All IsPageFile (pages_of trace)
+    × (now ≡ was)
 
--- the job is done by the client's rules, for replies and frames that came, its file where it is to go, and what its reports
--- come to is to be printed
-pub record RanThere (job : Job) (host : List ℕ) (destination : Destination) (was now : Option (List ℕ)) (printed : Printout) : Type 0 where
+-- the job is done by the client's rules, for replies and frames that came, its file where it is to go, and what its
+-- reports come to is to be printed
+pub record RanThere (job : Job) (host : List ℕ) (destination : Destination) (was now : Option (List ℕ))
+    (printed : Printout) : Type 0 where
   pub reports : Reports
   pub trace : JobTrace
   pub events : List TraceEvent
@@ -118,9 +127,10 @@ pub record IsConnectedTo (remote : Remote) (control : ControlConnection) : Type 
   pub address : IsAddressOf remote.host control.address
   pub port : control.port ≡ remote.port
 
--- **done at a host (`IsDoneThere`, `RanThere`, `IsConnectedTo`)**: the job of the plan, with the password, for the device that is
--- asked for there, done by the client's rules over a connection to the host and port that are asked, its file where the plan
--- has it go, and behind it its list or table is printed.
+-- **done at a host (`IsDoneThere`, `RanThere`, `IsConnectedTo`)**: the job of the plan, with the password, for the
+-- device that is asked for there, done by the client's rules over a connection to the host and port that are asked, its
+-- file where the plan has it go; behind it its list or table is printed, and the lines of its rounded settings on
+-- standard error.
 pub record IsDoneThere (asked : AskedThere) (was now : StandardStreams) : Type 0 where
   pub job : Job
   pub asked_for : IsJobOf asked.plan asked.password job
@@ -131,3 +141,4 @@ pub record IsDoneThere (asked : AskedThere) (was now : StandardStreams) : Type 0
   pub printed : Printout
   pub ran : RanThere job asked.remote.host asked.plan.destination was.out behind printed
   pub printed_out : Appends behind now.out printed.table.items
+  pub rounded : TakesOrFails was.err now.err printed.rounded.items now.failed

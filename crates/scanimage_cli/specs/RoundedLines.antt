@@ -10,18 +10,31 @@ use Rattle.scanimage_cli.specs.Rounding.{is_rounded}
 
 -- both values as an option shows them
 abbrev pub rounded_line : Report → Descriptor → List ℕ
-rounded_line report desc = concat (codes "scanimage: rounded value of " ∷ report.name ∷ codes " from " ∷ shown_text desc report.asked ∷ codes " to " ∷ shown_text desc report.given ∷ codes "\n" ∷ [])
+rounded_line report desc =
+    concat (codes "scanimage: rounded value of " ∷ report.name ∷ codes " from " ∷ shown_text desc report.asked
+    ∷ codes " to " ∷ shown_text desc report.given ∷ codes "\n" ∷ [])
 
 -- an option that has the name and the kind of what a report is of, and no more
 abbrev pub reported_option : Report → Descriptor
-reported_option report = record { name = report.name; title = []; about = []; kind = report.kind; unit = units.None; size = 4; caps = record { 0 = 1 }; constraint = Free }
+reported_option report =
+    record {
+      name = report.name;
+      title = [];
+      about = [];
+      kind = report.kind;
+      unit = units.None;
+      size = 4;
+      caps =
+          record { 0 = 1 };
+      constraint = Free;
+    }
 
 -- the line of a report; none where its setting was not rounded
 abbrev pub report_line : Report → List ℕ
 report_line report = if is_rounded report then rounded_line report (reported_option report) else []
 
--- **rounded values (`rounded_text`, `rounded_line`)**: for each report of a setting with INEXACT, in their order, a line
--- with the name and both values, as an option of the kind that the report keeps shows them.
+-- **rounded values (`rounded_text`, `rounded_line`)**: for each report of a setting with INEXACT, in their order, a
+-- line with the name and both values, as an option of the kind that the report keeps shows them.
 --
 -- the lines of all
 abbrev pub rounded_text : List Report → List ℕ

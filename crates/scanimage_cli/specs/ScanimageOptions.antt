@@ -1,10 +1,14 @@
 -- The values that the program's words, which have long names and values behind `=`, give the options.
-use Rattle.std.specs.Prelude.{ℕ, ◌≡◌, ◌+◌, ◌-◌, nat_lt, option_map, decimal, Bool, false, ◌||◌, ◌==◌, if◌then◌else◌, Option, Some, None, List, [], ◌∷◌, length, take, drop}
+use Rattle.std.specs.Prelude.{ℕ, ◌≡◌, ◌+◌, ◌-◌, nat_lt, option_map, decimal, Bool, false, ◌||◌, ◌==◌, if◌then◌else◌}
+use Rattle.std.specs.Prelude.{Option, Some, None, List, [], ◌∷◌, length, take, drop}
 use Rattle.std.specs.Str.{bytes_eq}
 use Rattle.scanimage_cli.specs.WordCut.{long_word}
 use Rattle.scanimage_cli.specs.declared.options.Options.{Options}
 use Rattle.scanimage_cli.specs.declared.program_option.ProgramOption.{ProgramOption}
-use Rattle.scanimage_cli.specs.declared.program_option.ProgramOption.TheVariants.{ListDevices, AllOptions, DontScan, DeviceName, OutputFile, Config, Net, Port, DialFirst, User, PasswordFile, Batch, BatchCount}
+use Rattle.scanimage_cli.specs.declared.program_option.ProgramOption.TheVariants.{ListDevices, AllOptions, DontScan}
+use Rattle.scanimage_cli.specs.declared.program_option.ProgramOption.TheVariants.{DeviceName, OutputFile, Config, Net}
+use Rattle.scanimage_cli.specs.declared.program_option.ProgramOption.TheVariants.{Port, DialFirst, User, PasswordFile}
+use Rattle.scanimage_cli.specs.declared.program_option.ProgramOption.TheVariants.{Batch, BatchCount}
 use Rattle.std.specs.Option.{option_or}
 
 -- what follows `=`, where the bytes begin with it
@@ -19,7 +23,8 @@ value_after name word = if bytes_eq (take (length name) word) name then after_eq
 -- the value of the first word that gives the option one
 abbrev pub program_option_value : ProgramOption → List (List ℕ) → Option (List ℕ)
 program_option_value option [] = None
-program_option_value option (word ∷ words) = option_or (value_after (long_word option) word) (program_option_value option words)
+program_option_value option (word ∷ words) =
+    option_or (value_after (long_word option) word) (program_option_value option words)
 
 -- the flag is among the words
 abbrev pub has_flag : ProgramOption → List (List ℕ) → Bool
@@ -37,8 +42,8 @@ count_named (d ∷ []) = if d == 48 then None else digit_to 57 d
 count_named (d ∷ e ∷ []) = if d == 49 then option_map (λ n. 10 + n) (digit_to 54 e) else None
 count_named (_ ∷ _ ∷ _ ∷ _) = None
 
--- **the options' values (`AreScanimageOptions`)**: each option has the value that the program's words give it; a port and a
--- count the number whose decimal text that is.
+-- **the options' values (`AreScanimageOptions`)**: each option has the value that the program's words give it; a port
+-- and a count the number whose decimal text that is.
 pub record AreScanimageOptions (words : List (List ℕ)) (options : Options) : Type 0 where
   pub list_devices : options.list_devices ≡ has_flag ListDevices words
   pub all_options : options.all_options ≡ has_flag AllOptions words
@@ -52,4 +57,5 @@ pub record AreScanimageOptions (words : List (List ℕ)) (options : Options) : T
   pub user : options.user ≡ program_option_value User words
   pub password_file : options.password_file ≡ program_option_value PasswordFile words
   pub batch : options.batch ≡ has_flag Batch words
-  pub batch_count : option_map count_named (program_option_value BatchCount words) ≡ option_map (λ count. Some count) options.batch_count
+  pub batch_count : option_map count_named (program_option_value BatchCount words)
+      ≡ option_map (λ count. Some count) options.batch_count

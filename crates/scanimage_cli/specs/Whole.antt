@@ -1,9 +1,17 @@
 -- What the program scanimage does, from the words of its command line to what its standard streams hold.
-use Rattle.std.specs.Prelude.{ℕ, ◌≡◌, None, List, []}
+use Rattle.std.specs.Prelude.{ℕ, ◌≡◌, Bool, List, true}
+use Rattle.sane_fixed.specs.declared.byte_order.ByteOrder.TheVariants.{Big}
 use Rattle.device_api.specs.State.{DeviceState}
 use Rattle.dispatch.specs.Table.{Table, fresh_table}
+use Rattle.dispatch.specs.declared.config_line.ConfigLine.{ConfigLine}
+use Rattle.config_pages.specs.Devices.{AreDevicesOf}
+use Rattle.config_pages.specs.InputTexts.{InputTexts}
+use Rattle.scanimage_cli.specs.Ending.{IsFailure, IsOfOutput, ending_line, exit_status}
+use Rattle.scanimage_cli.specs.Inputs.{AreLinesOf, IsPasswordIn}
 use Rattle.scanimage_cli.specs.Plans.{IsPlanOf}
+use Rattle.scanimage_cli.specs.Printing.{TakesOrFails}
 use Rattle.scanimage_cli.specs.Programs.{StandardStreams, IsDoneHere, IsDoneThere}
+use Rattle.scanimage_cli.specs.declared.ending.Ending.{Ending}
 use Rattle.scanimage_cli.specs.declared.planning.JobPlan.{JobPlan}
 use Rattle.scanimage_cli.specs.declared.planning.Location.{Location}
 use Rattle.scanimage_cli.specs.declared.planning.Location.TheVariants.{Here, There}
@@ -11,19 +19,33 @@ use Rattle.scanimage_cli.specs.declared.planning.Plan.{Plan}
 
 -- the job of a plan is done where its device is: on one of the table's here, or at the host
 abbrev pub IsDoneAt : Location → Table → JobPlan → List ℕ → StandardStreams → StandardStreams → Type 0
-IsDoneAt (Here device) table plan password was now = IsDoneHere table (record { device = device; plan = plan; password = password }) was now
-IsDoneAt (There remote) table plan password was now = IsDoneThere (record { remote = remote; plan = plan; password = password }) was now
+IsDoneAt (Here device) table plan password was now =
+    IsDoneHere table (record { device = device; plan = plan; password = password }) was now
+IsDoneAt (There remote) table plan password was now =
+    IsDoneThere (record { remote = remote; plan = plan; password = password }) was now
 
--- the plan is carried out with these devices; without a password file the password is empty
-pub record IsCarriedOut (plan : Plan) (table : Table) (was now : StandardStreams) : Type 0 where
+-- the plan is carried out with these devices, and with the password that it names
+pub record IsCarriedOut (texts : InputTexts) (plan : Plan) (table : Table) (was now : StandardStreams) : Type 0 where
   pub password : List ℕ
-  pub no_password : plan.password_file ≡ None → password ≡ []
+  pub named : IsPasswordIn texts plan.password_file password
   pub does : IsDoneAt plan.location table plan.job password was now
 
--- **has run (`HasRunFor`, `IsCarriedOut`, `IsDoneAt`)**: the words have a plan, and it is carried out: on one of some devices here,
--- or at the host; without a password file the password is empty.
-pub record HasRunFor (words : List (List ℕ)) (was now : StandardStreams) : Type 0 where
+-- **has run (`HasRunFor`, `IsCarriedOut`, `IsDoneAt`)**: the words have a plan, and it is carried out: on one of the
+-- scanners of the config's lines here, or at the host, with the password in the file that it names.
+pub record HasRunFor (texts : InputTexts) (words : List (List ℕ)) (was now : StandardStreams) : Type 0 where
   pub plan : Plan
   pub is_plan : IsPlanOf words plan
+  pub lines : List ConfigLine
+  pub config : AreLinesOf texts plan.config lines
   pub devices : List DeviceState
-  pub carried : IsCarriedOut plan (fresh_table devices) was now
+  pub of_lines : AreDevicesOf Big lines devices
+  pub carried : IsCarriedOut texts plan (fresh_table devices) was now
+
+-- **has ended (`HasEndedAs`)**: with the status of an ending that is no success; that it is an output's only where it
+-- is noted that one failed; and with its line on standard error, unless that failed too.
+pub record HasEndedAs (status : ℕ) (was now : StandardStreams) (errors : Bool) : Type 0 where
+  pub ending : Ending
+  pub status_is : status ≡ exit_status ending
+  pub failure : IsFailure ending
+  pub of_output : IsOfOutput ending → now.failed ≡ true
+  pub told : TakesOrFails was.err now.err (ending_line ending) errors

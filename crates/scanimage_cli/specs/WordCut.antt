@@ -1,13 +1,18 @@
 -- The words of scanimage's command line, and the one way to cut them from the left: into options of the program with
 -- their values, measures of the window with their values, and settings.
-use Rattle.std.specs.Prelude.{ℕ, ◌+◌, ◌^◌, ℤ, pos, negsuc, ◌+ℤ◌, nat_lt, Bool, true, false, ◌||◌, if◌then◌else◌, Option, Some, None, is_some, is_none, option_map, option_and_then, List, ◌∷◌, ◌++◌, take, drop, find, position, codes, nat_eq, []}
+use Rattle.std.specs.Prelude.{ℕ, ◌+◌, ◌^◌, ℤ, pos, negsuc, ◌+ℤ◌, nat_lt, Bool, true, false, ◌||◌, if◌then◌else◌, Option}
+use Rattle.std.specs.Prelude.{Some, None, is_some, is_none, option_map, option_and_then, List, ◌∷◌, ◌++◌, take, drop}
+use Rattle.std.specs.Prelude.{find, position, codes, nat_eq, []}
 use Rattle.std.specs.Option.{option_map_or}
 use Rattle.std.specs.List.{starts_with, filter_map}
 use Rattle.std.specs.Str.{bytes_eq}
 use Rattle.sane_fixed.specs.DecimalReading.{fixed_of, ◌>>=◌}
 use Rattle.sane_fixed.specs.ExactDecimal.{exact_decimal}
 use Rattle.scanimage_cli.specs.declared.program_option.ProgramOption.{ProgramOption}
-use Rattle.scanimage_cli.specs.declared.program_option.ProgramOption.TheVariants.{ListDevices, AllOptions, DontScan, DeviceName, OutputFile, Config, Net, Port, DialFirst, User, PasswordFile, Batch, BatchCount}
+use Rattle.scanimage_cli.specs.declared.program_option.ProgramOption.TheVariants.{ListDevices, AllOptions, DontScan}
+use Rattle.scanimage_cli.specs.declared.program_option.ProgramOption.TheVariants.{DeviceName, OutputFile, Config, Net}
+use Rattle.scanimage_cli.specs.declared.program_option.ProgramOption.TheVariants.{Port, DialFirst, User, PasswordFile}
+use Rattle.scanimage_cli.specs.declared.program_option.ProgramOption.TheVariants.{Batch, BatchCount}
 use Rattle.scanimage_cli.specs.declared.geometry.Geometry.{Geometry}
 use Rattle.scanimage_cli.specs.declared.geometry.Geometry.TheVariants.{Left, Top, Width, Height}
 use Rattle.scanimage_cli.specs.declared.split.Measures.{Measures}
@@ -68,7 +73,9 @@ is_flag Batch = true
 is_flag BatchCount = false
 
 abbrev pub all_options : List ProgramOption
-all_options = ListDevices ∷ AllOptions ∷ DontScan ∷ DeviceName ∷ OutputFile ∷ Config ∷ Net ∷ Port ∷ DialFirst ∷ User ∷ PasswordFile ∷ Batch ∷ BatchCount ∷ []
+all_options =
+    ListDevices ∷ AllOptions ∷ DontScan ∷ DeviceName ∷ OutputFile ∷ Config ∷ Net ∷ Port ∷ DialFirst ∷ User
+    ∷ PasswordFile ∷ Batch ∷ BatchCount ∷ []
 
 abbrev pub is_name_of : ProgramOption → List ℕ → Bool
 is_name_of option word = bytes_eq word (long_word option) || option_map_or (bytes_eq word) (short_word option) false
@@ -133,14 +140,15 @@ cut_step None word = step_of_part (part_of_word word)
 -- all of the words; none where one is refused, or where a value is missing at the end
 abbrev pub cut_from : Option AwaitedValue → List (List ℕ) → Option (List Item)
 cut_from awaited [] = if is_none awaited then Some [] else None
-cut_from awaited (word ∷ words) = option_and_then (λ step. option_map (λ more. step.0 ++ more) (cut_from step.1 words)) (cut_step awaited word)
+cut_from awaited (word ∷ words) =
+    option_and_then (λ step. option_map (λ more. step.0 ++ more) (cut_from step.1 words)) (cut_step awaited word)
 
--- **word cut (`cut`, `split_of`)**: the one way to cut the words of a command line from the left: a flag alone; an option
--- of the program with its value, in the next word or behind `=`; a measure (`-l -t -x -y`) with the next word; any other
--- `--NAME` with the next word or `--NAME=VALUE` as a setting. None where a word is anything else, a flag has a value, a
--- value is missing, a name or an option's value is empty, an option stands twice, a measure does not read as a decimal
--- number, or a far side is no 32-bit word. The settings are the named ones in their order, then tl-x, tl-y, br-x, br-y of
--- the last measures, `-x` and `-y` added to the last `-l` and `-t`.
+-- **word cut (`cut`, `split_of`)**: the one way to cut the words of a command line from the left: a flag alone; an
+-- option of the program with its value, in the next word or behind `=`; a measure (`-l -t -x -y`) with the next word;
+-- any other `--NAME` with the next word or `--NAME=VALUE` as a setting. None where a word is anything else, a flag has
+-- a value, a value is missing, a name or an option's value is empty, an option stands twice, a measure does not read as
+-- a decimal number, or a far side is no 32-bit word. The settings are the named ones in their order, then tl-x, tl-y,
+-- br-x, br-y of the last measures, `-x` and `-y` added to the last `-l` and `-t`.
 abbrev pub cut : List (List ℕ) → Option (List Item)
 cut words = cut_from None words
 
@@ -222,7 +230,8 @@ start_word (Some text) = fixed_of text
 
 -- the far side: the start and the extent from there; none where a sum is no word
 unfoldable pub far_text : Option (List ℕ) → List ℕ → Option (List ℕ)
-far_text start extent = option_and_then (λ from. option_and_then (λ size. length_text (from +ℤ size)) (fixed_of extent)) (start_word start)
+far_text start extent =
+    option_and_then (λ from. option_and_then (λ size. length_text (from +ℤ size)) (fixed_of extent)) (start_word start)
 
 -- a far side, where its extent is said
 abbrev pub far_side : Option (List ℕ) → Option (List ℕ) → Option (Option (List ℕ))
@@ -239,7 +248,9 @@ unfoldable pub window_settings : Measures → Option (List (List ℕ × List ℕ
 window_settings measures = do
   right ← far_side measures.left measures.width
   bottom ← far_side measures.top measures.height
-  Some (setting_of (codes "tl-x") measures.left ++ (setting_of (codes "tl-y") measures.top ++ (setting_of (codes "br-x") right ++ setting_of (codes "br-y") bottom)))
+  Some (setting_of (codes "tl-x") measures.left
+      ++ (setting_of (codes "tl-y") measures.top
+      ++ (setting_of (codes "br-x") right ++ setting_of (codes "br-y") bottom)))
 
 -- ---- the split
 

@@ -1,15 +1,14 @@
 ghost use Rattle.std.specs.Prelude.{◌≡◌, true, IfOk, IfErr, OnErr};
 ghost use Rattle.device_api.specs.State.{is_at_rest};
 ghost use Rattle.scanimage_cli.specs.Doing.{DoesJob, EndsJob, DoesBatch, EndsBatch};
-ghost use Rattle.scanimage_cli.specs.Programs.{IsFailure};
+ghost use Rattle.scanimage_cli.specs.Ending.{IsFailure, IsOfOutput};
 ghost use Rattle.local_job.specs.LocalRun.{LeavesNoFile, ChangesDevice};
 
 use crate::ending::Ending;
 use crate::printed::Printout;
 use device_api::Device;
 use local_job::{OutputTally, run_local_batch_with, run_local_with};
-use sane_fixed::Status;
-use scan_job::{Job, Shelf, Why};
+use scan_job::{Job, Shelf};
 use std::alloc::Global;
 use std::io::Write;
 
@@ -42,8 +41,7 @@ pub fn do_job<W: Write>(
         (λ ending. EndsJob (state device.old) job.now (state device.new) ending) }
     /// That a job on a scanner ended for its output is told only where a call on the output failed.
     /// Carried by: `output` of `do_job`, `do_batch`
-    ensures output { IfErr result (λ ending. ending ≡ Ending.Ended Status.IoError Why.Sink
-        → outputs.new.failed ≡ true) }
+    ensures output { IfErr result (λ ending. IsOfOutput ending → outputs.new.failed ≡ true) }
     // Its exit status is not 0.
     ensures failed { IfErr result IsFailure }
     // Of the scanner only options, phase and count of failures changed, and a feeder let go of a page.
@@ -79,8 +77,7 @@ pub fn do_batch<S: Shelf>(
     ensures ended { IfErr result (λ ending.
         EndsBatch job.now (record { device = state device.old; stock = S.stock shelf.old })
         (record { device = state device.new; stock = S.stock shelf.new }) ending) }
-    ensures output { IfErr result (λ ending. ending ≡ Ending.Ended Status.IoError Why.Sink
-        → outputs.new.failed ≡ true) }
+    ensures output { IfErr result (λ ending. IsOfOutput ending → outputs.new.failed ≡ true) }
     // Its exit status is not 0.
     ensures failed { IfErr result IsFailure }
     ensures rest { is_at_rest (state device.new).phase ≡ true }

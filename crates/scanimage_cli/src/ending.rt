@@ -1,16 +1,15 @@
-ghost use Rattle.std.specs.Prelude.{OnOk};
-ghost use Rattle.std.specs.Io.KnownBytes.{Appends};
 ghost use Rattle.scanimage_cli.specs.Ending.{config_line_text};
+ghost use Rattle.scanimage_cli.specs.Printing.{TakesOrFails};
 
 use crate::options::OptionsFault;
-use crate::pieces::write_pieces;
+use crate::pieces::put_pieces;
 use crate::word_cut::SplitFault;
 use config_pages::{DeviceFault, NoPage};
 use dispatch::ConfigFault;
 use itoa::Buffer;
+use local_job::OutputTally;
 use sane_fixed::{Status, Text};
 use scan_job::{Job, JobFault, Stop, Why};
-use std::io;
 use std::io::Write;
 
 /// How the program ends where it does not end well.
@@ -28,9 +27,9 @@ pub enum Ending {
 }
 
 impl Ending {
-    ghost use Rattle.std.specs.Prelude.{◌≡◌, OnOk};
-    ghost use Rattle.std.specs.Io.KnownBytes.{Appends};
+    ghost use Rattle.std.specs.Prelude.{◌≡◌};
     ghost use Rattle.scanimage_cli.specs.Ending.{ended_by, ended_by_device, exit_status, ending_line, IsPlanRefusal, JobIsRefusedAs};
+    ghost use Rattle.scanimage_cli.specs.Printing.{TakesOrFails};
 
     /// A job stopped so.
     pub fn of(stop: Stop) -> Ending
@@ -117,37 +116,43 @@ impl Ending {
         }
     }
 
-    /// Writes the line that says how the program ended.
-    pub fn tell<W: Write>(&self, to: &mut W) -> io::Result<()>
-        ensures { OnOk result
-            (Appends (W.contents to.old) (W.contents to.new) (ending_line self.now)) }
+    /// Writes the line that says how the program ended, as far as the writer takes it.
+    pub fn tell<W: Write>(&self, to: &mut W, outputs: &mut OutputTally)
+        /// The line of an ending is written whole, or a front of it where the writer failed, which is noted.
+        ensures { TakesOrFails (W.contents to.old)
+            (W.contents to.new) (ending_line self.now) outputs.new.failed }
     {
         match self {
-            Ending::BadCommandLine => to.write_all(b"scanimage: bad command line\n"),
-            Ending::CannotRead(path) => {
-                write_pieces(to, &[b"scanimage: cannot read ", path.as_bytes(), b"\n"])
+            Ending::BadCommandLine => {
+                put_pieces(to, &[b"scanimage: bad command line\n"], outputs)
             }
-            Ending::Config(fault) => tell_line(to, fault.line, fault.reason.text()),
-            Ending::Page(line, why) => tell_line(to, *line, why.text()),
+            Ending::CannotRead(path) => put_pieces(
+                to,
+                &[b"scanimage: cannot read ", path.as_bytes(), b"\n"],
+                outputs,
+            ),
+            Ending::Config(fault) => tell_line(to, fault.line, fault.reason.text(), outputs),
+            Ending::Page(line, why) => tell_line(to, *line, why.text(), outputs),
             Ending::Ended(status, why) => {
                 let status = status.name().as_bytes();
                 let why = why.word().as_bytes();
-                write_pieces(to, &[b"scanimage: ", status, b" (", why, b")\n"])
+                put_pieces(to, &[b"scanimage: ", status, b" (", why, b")\n"], outputs)
             }
         }
     }
 }
 
 /// Writes that a line of the config is refused.
-fn tell_line<W: Write>(to: &mut W, line: u32, reason: &str) -> io::Result<()>
-    ensures { OnOk result
-        (Appends (W.contents to.old) (W.contents to.new) (config_line_text line reason.now)) }
+fn tell_line<W: Write>(to: &mut W, line: u32, reason: &str, outputs: &mut OutputTally)
+    ensures { TakesOrFails (W.contents to.old)
+        (W.contents to.new) (config_line_text line reason.now) outputs.new.failed }
 {
     let mut digits = Buffer::new();
     let line = digits.format(line).as_bytes();
     let reason = reason.as_bytes();
-    write_pieces(
+    put_pieces(
         to,
         &[b"scanimage: config line ", line, b": ", reason, b"\n"],
-    )
+        outputs,
+    );
 }

@@ -1,12 +1,14 @@
 ghost use Rattle.std.specs.Prelude.{◌≡◌, IfOk, IfErr, IfSome, OnOk, IsOk, take};
-ghost use Rattle.dispatch.specs.ConfigLines.{TellsConfig};
 ghost use Rattle.config_pages.specs.ConfigReading.{remaining_of};
-ghost use Rattle.scanimage_cli.specs.Inputs.{IsUnread, RefusesNamedConfig};
+ghost use Rattle.config_pages.specs.InputTexts.{TellsLines, input_texts};
+ghost use Rattle.scanimage_cli.specs.Ending.{IsFailure, IsOfOutput};
+ghost use Rattle.scanimage_cli.specs.Inputs.{AreLinesOf, IsPasswordIn, IsUnread, RefusesNamedConfig};
 ghost use Rattle.scanimage_cli.specs.Password.{first_line_of};
 
 use crate::ending::Ending;
 use crate::password::password_line;
-use config_pages::{ConfigFailure, read_config};
+use crate::planning::Input;
+use config_pages::{ConfigFailure, Inputs, read_config};
 use dispatch::ConfigLine;
 use sane_fixed::Text;
 use std::alloc::Global;
@@ -44,8 +46,8 @@ pub fn config_from<R: Read + Drop>(
     /// by its name.
     /// Carried by: `opened`, `lines`, `refused` of `config_from`
     ensures opened { OnOk result (IsOk opened) }
-    ensures lines { IfOk result (λ lines. IfSome (remaining_of R.remaining opened)
-        (λ all. TellsConfig (take 4194433 all) lines.items)) }
+    ensures lines { IfOk result
+        (λ lines. TellsLines (remaining_of R.remaining opened) lines.items) }
     ensures refused { IfErr result (RefusesNamedConfig name.now (remaining_of R.remaining opened)) }
 {
     match read_config(alloc, opened) {
@@ -81,5 +83,52 @@ pub fn password_from<R: Read + Drop>(
     match Text::from_vec(line) {
         Ok(password) => Ok(password),
         Err(_) => Err(cannot_read(alloc, name)),
+    }
+}
+
+/// The lines of the config that a plan names; none where it names none.
+pub fn config_lines<I: Inputs>(
+    alloc: Global,
+    inputs: &I,
+    config: &Option<Input>,
+) -> Result<Vec<ConfigLine>, Ending>
+    /// The lines of a plan's config are those of the text on standard input, or in the file that it names, where the inputs tell
+    /// it, and none where it names none.
+    /// Carried by: `lines` of `config_lines`: `AreLinesOf`
+    ensures lines { IfOk result (λ lines. AreLinesOf
+        (input_texts (I.standard_text inputs.now) (I.file_text inputs.now))
+        config.now lines.items) }
+    /// Neither a config nor a password that is not there is told as the failure of an output, or as a success.
+    /// Carried by: `spares`, `failed` of `config_lines`, of `password_of`
+    ensures spares { IfErr result (λ ending. ¬ IsOfOutput ending) }
+    ensures failed { IfErr result IsFailure }
+{
+    match config {
+        None => Ok(Vec::new(alloc)),
+        Some(Input::StandardInput) => config_from(alloc, b"-", Ok(inputs.standard())),
+        Some(Input::Path(path)) => {
+            let name = path.as_bytes();
+            config_from(alloc, name, inputs.file(name))
+        }
+    }
+}
+
+/// The password in the file that a plan names; an empty one where it names none.
+pub fn password_of<I: Inputs>(
+    alloc: Global,
+    inputs: &I,
+    file: &Option<Text>,
+) -> Result<Text, Ending>
+    /// The password of a plan is the first line in the file that it names, where the inputs tell what is there, and empty where
+    /// it names none.
+    /// Carried by: `password` of `password_of`: `IsPasswordIn`
+    ensures password { IfOk result (IsPasswordIn
+        (input_texts (I.standard_text inputs.now) (I.file_text inputs.now)) file.now) }
+    ensures spares { IfErr result (λ ending. ¬ IsOfOutput ending) }
+    ensures failed { IfErr result IsFailure }
+{
+    match file {
+        None => Text::new(alloc, b"").map_err(|_| Ending::no_memory()),
+        Some(path) => password_from(alloc, path.as_bytes(), inputs.file(path.as_bytes())),
     }
 }

@@ -4,15 +4,15 @@ ghost use Rattle.net_jobs.specs.Links.{views_of};
 ghost use Rattle.net_jobs.specs.RunPromises.{seen, streams};
 ghost use Rattle.scanimage_cli.specs.DeviceList.{net_prefix};
 ghost use Rattle.scanimage_cli.specs.NetDoing.{DoesNetJob, EndsNetJob, DoesNetBatch, EndsNetBatch, stream_views};
-ghost use Rattle.scanimage_cli.specs.Programs.{IsFailure};
+ghost use Rattle.scanimage_cli.specs.Ending.{IsFailure, IsOfOutput};
 
 use crate::device_listing::net_prefix;
 use crate::ending::Ending;
 use crate::printed::Printout;
 use local_job::OutputTally;
 use net_backend::{Dial, run_batch_with, run_job_with};
-use sane_fixed::{NoMem, Status, Text};
-use scan_job::{Job, Shelf, Why};
+use sane_fixed::{NoMem, Text};
+use scan_job::{Job, Shelf};
 use std::alloc::Global;
 use std::io::{Read, Write};
 
@@ -53,8 +53,7 @@ pub fn do_net_job<C: Read + Write, D: Dial, W: Write>(
         (streams control.old dial.old output.old) (streams control.new dial.new output.new)) }
     /// That a job over the net ended for its output is told only where a call on the output failed.
     /// Carried by: `output` of `do_net_job`, `do_net_batch`
-    ensures output { IfErr result (λ ending. ending ≡ Ending.Ended Status.IoError Why.Sink
-        → outputs.new.failed ≡ true) }
+    ensures output { IfErr result (λ ending. IsOfOutput ending → outputs.new.failed ≡ true) }
     // Its exit status is not 0.
     ensures failed { IfErr result IsFailure }
 {
@@ -91,8 +90,7 @@ pub fn do_net_batch<C: Read + Write, D: Dial, S: Shelf>(
     ensures ended { IfErr result (EndsNetBatch
         (stream_views (views_of C.remaining C.contents D.ports D.prepared) D.coming S.stock) job
         (streams control.old dial.old shelf.old) (streams control.new dial.new shelf.new)) }
-    ensures output { IfErr result (λ ending. ending ≡ Ending.Ended Status.IoError Why.Sink
-        → outputs.new.failed ≡ true) }
+    ensures output { IfErr result (λ ending. IsOfOutput ending → outputs.new.failed ≡ true) }
     // Its exit status is not 0.
     ensures failed { IfErr result IsFailure }
 {

@@ -1,5 +1,6 @@
 ghost use Rattle.std.specs.Prelude.{◌≡◌, [], true, OnOk, OnErr, IfErr, IsOk};
 ghost use Rattle.std.specs.Io.KnownBytes.{Appends};
+ghost use Rattle.scanimage_cli.specs.Printing.{TakesOrFails};
 
 use crate::ending::Ending;
 use crate::printed::Printout;
@@ -25,7 +26,7 @@ pub fn print<W: Write>(to: &mut W, lines: &[u8], outputs: &mut OutputTally) -> R
     }
 }
 
-/// Prints what a job tells. Lines that standard error does not take are lost, and no more.
+/// Prints what a job tells, its table first. Lines that standard error does not take are lost, and no more.
 pub fn print_all<O: Write, E: Write>(
     out: &mut O,
     err: &mut E,
@@ -40,8 +41,14 @@ pub fn print_all<O: Write, E: Write>(
     // No output fails where there is no table, and where one does that is noted.
     ensures nothing { printed.now.table.items ≡ [] → IsOk result }
     ensures output { OnErr result (outputs.new.failed ≡ true) }
+    /// Behind it the lines of the rounded settings are printed on standard error, all of them unless that failed; where
+    /// the table is not printed none are.
+    /// Carried by: `rounded`, `silent` of `print_all`: `TakesOrFails`
+    ensures rounded { OnOk result (TakesOrFails (E.contents err.old)
+        (E.contents err.new) printed.now.rounded.items outputs.new.failed) }
+    ensures silent { OnErr result (E.contents err.new ≡ E.contents err.old) }
 {
     print(out, &printed.table, outputs)?;
-    let _ = err.write_all(&printed.rounded);
+    let _ = put(err, &printed.rounded, outputs);
     Ok(())
 }

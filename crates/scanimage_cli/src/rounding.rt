@@ -75,8 +75,7 @@ fn add_report(alloc: Global, lines: &mut Vec<u8>, report: &Report) -> Result<(),
 
 /// A line for each setting that was given another value than it asked for. The only error is out of memory.
 pub fn rounded_lines(alloc: Global, reports: &[Report]) -> Result<Vec<u8>, NoMem>
-    /// The text of the lines of rounded values, and of the line that tells an ending.
-    /// Carried by: `rounded_lines`, `Ending::tell`
+    /// The text of the lines of rounded values.
     ensures { IfOk result (λ lines. lines.items ≡ rounded_text reports.now) }
 {
     let mut lines = Vec::new(alloc);

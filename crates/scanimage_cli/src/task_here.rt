@@ -1,8 +1,9 @@
-ghost use Rattle.std.specs.Prelude.{◌≡◌, IfOk, IfErr, OnOk, OnErr};
-ghost use Rattle.device_api.specs.State.{DeviceState};
+ghost use Rattle.std.specs.Prelude.{◌≡◌, true, IfOk, IfErr, OnOk, OnErr};
+ghost use Rattle.config_pages.specs.ScannerStates.{scanner_state};
 ghost use Rattle.dispatch.specs.Table.{table, listed_infos};
 ghost use Rattle.local_job.specs.LocalRun.{LeavesNoFile};
-ghost use Rattle.scanimage_cli.specs.Programs.{DoesPlanned, IsDeviceNamed, IsDoneHere, IsFailure};
+ghost use Rattle.scanimage_cli.specs.Programs.{DoesPlanned, IsDeviceNamed, IsDoneHere, standard_streams};
+ghost use Rattle.scanimage_cli.specs.Ending.{IsFailure, IsOfOutput};
 
 use crate::device_listing::device_list;
 use crate::doing::{do_batch, do_job};
@@ -12,6 +13,7 @@ use crate::planning::{Destination, JobPlan};
 use crate::printed::Printout;
 use crate::printing::{print, print_all};
 use crate::program_output::OutputFile;
+use config_pages::Scanner;
 use device_api::Device;
 use dispatch::Registry;
 use local_job::OutputTally;
@@ -26,29 +28,34 @@ fn run_job<O: Write>(
     job: &Job,
     destination: Destination,
     out: &mut O,
+    outputs: &mut OutputTally,
 ) -> Result<Printout, Ending>
     ensures done { IfOk result (λ printed. DoesPlanned destination job.now
         (record { device = state device.old; output = O.contents out.old })
         (record { device = state device.new; output = O.contents out.new }) printed) }
     ensures no_file { OnErr result (LeavesNoFile (O.contents out.old) (O.contents out.new)) }
+    ensures output { IfErr result (λ ending. IsOfOutput ending → outputs.new.failed ≡ true) }
     ensures failed { IfErr result IsFailure }
 {
-    let mut outputs = OutputTally::new();
     match destination {
-        Destination::StandardOutput => do_job(rt.alloc(), device, job, out, &mut outputs),
+        Destination::StandardOutput => do_job(rt.alloc(), device, job, out, outputs),
         Destination::Path(path) => {
             let mut file = OutputFile::Unmade(rt, path);
-            do_job(rt.alloc(), device, job, &mut file, &mut outputs)
+            do_job(rt.alloc(), device, job, &mut file, outputs)
         }
-        Destination::Folder => {
-            do_batch(rt.alloc(), device, job, &mut Folder { rt }, &mut outputs)
-        }
+        Destination::Folder => do_batch(rt.alloc(), device, job, &mut Folder { rt }, outputs),
     }
 }
 
 /// The name of the device that is asked for: that of the first one where none is named.
-fn device_name(rt: &HostRuntime, registry: &Registry, named: Option<Text>) -> Result<Text, Ending>
-    ensures named { IfOk result (IsDeviceNamed named (listed_infos (table state registry.now))) }
+fn device_name(
+    rt: &HostRuntime,
+    registry: &Registry<Scanner>,
+    named: Option<Text>,
+) -> Result<Text, Ending>
+    ensures named { IfOk result
+        (IsDeviceNamed named (listed_infos (table scanner_state registry.now))) }
+    ensures spares { IfErr result (λ ending. ¬ IsOfOutput ending) }
     ensures failed { IfErr result IsFailure }
 {
     if let Some(name) = named {
@@ -69,24 +76,30 @@ fn device_name(rt: &HostRuntime, registry: &Registry, named: Option<Text>) -> Re
 /// Does what is asked for on one of the devices: on that of this name, or on the first.
 pub fn run_task<O: Write, E: Write>(
     rt: &HostRuntime,
-    registry: &mut Registry,
+    registry: &mut Registry<Scanner>,
     device: Option<Text>,
     plan: JobPlan,
     password: Text,
     out: &mut O,
     err: &mut E,
+    outputs: &mut OutputTally,
 ) -> Result<(), Ending>
-    /// Where what is asked for here ends well, it is done: a list of all devices is printed; or the job of the plan is done as
-    /// `do_job` or `do_batch` says, on the device of the table that is named, or on the first, its file where the plan has it
-    /// go, and behind it its table is printed.
+    /// Where what is asked for here ends well, it is done: a list of devices is printed; or the job of the plan is done as
+    /// `do_job` or `do_batch` says, on the device that is named, or on the first, its file where the plan has it go, its table
+    /// printed behind it, and its rounded settings on standard error.
     /// Carried by: `done` of `run_task`: `IsDoneHere`
-    ensures done { OnOk result (IsDoneHere (table state registry.old)
+    ensures done { OnOk result (IsDoneHere (table scanner_state registry.old)
         (record { device = device; plan = plan; password = password })
-        (record { out = O.contents out.old; err = E.contents err.old })
-        (record { out = O.contents out.new; err = E.contents err.new })) }
+        (standard_streams (O.contents out.old) (E.contents err.old) outputs.old.failed)
+        (standard_streams (O.contents out.new) (E.contents err.new) outputs.new.failed)) }
     /// Where a scan does not, an output that tells its bytes took no whole file.
     ensures no_file { plan.task ≡ Task.Scan
         → OnErr result (LeavesNoFile (O.contents out.old) (O.contents out.new)) }
+    /// That it ended for an output is told only where it is noted, by then or before, that a call on one failed.
+    /// Carried by: `output` of `run_task`, `run_net_task`
+    ensures output { IfErr result (λ ending. IsOfOutput ending → outputs.new.failed ≡ true) }
+    // Nothing is printed on standard error then.
+    ensures silent { OnErr result (E.contents err.new ≡ E.contents err.old) }
     /// No ending of any of its parts has the exit status 0.
     ensures failed { IfErr result IsFailure }
 {
@@ -97,7 +110,7 @@ pub fn run_task<O: Write, E: Write>(
         let Ok(lines) = device_list(rt.alloc(), &[], &devices) else {
             return Err(Ending::no_memory());
         };
-        return print(out, &lines, &mut OutputTally::new());
+        return print(out, &lines, outputs);
     }
     let device = device_name(rt, registry, device)?;
     let JobPlan {
@@ -113,9 +126,14 @@ pub fn run_task<O: Write, E: Write>(
         settings,
         task,
     };
-    let Ok(mut device) = registry.unplug(job.device.as_bytes()) else {
+    let Ok(scanner) = registry.unplug(job.device.as_bytes()) else {
         return Err(Ending::Ended(Status::Inval, Why::Setting));
     };
-    let printed = run_job(rt, &mut *device, &job, destination, out)?;
-    print_all(out, err, &printed, &mut OutputTally::new())
+    // In a box it is told which device a job on any device has.
+    let Ok(scanner) = Box::new(rt.alloc(), scanner) else {
+        return Err(Ending::no_memory());
+    };
+    let mut device: Box<dyn Device> = scanner;
+    let printed = run_job(rt, &mut *device, &job, destination, out, outputs)?;
+    print_all(out, err, &printed, outputs)
 }

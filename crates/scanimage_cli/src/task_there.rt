@@ -1,5 +1,6 @@
-ghost use Rattle.std.specs.Prelude.{◌≡◌, IfOk, IfErr, OnOk};
-ghost use Rattle.scanimage_cli.specs.Programs.{IsConnectedTo, IsDoneThere, IsFailure, RanThere};
+ghost use Rattle.std.specs.Prelude.{◌≡◌, true, IfOk, IfErr, OnOk, OnErr};
+ghost use Rattle.scanimage_cli.specs.Programs.{IsConnectedTo, IsDoneThere, RanThere, standard_streams};
+ghost use Rattle.scanimage_cli.specs.Ending.{IsFailure, IsOfOutput};
 
 use crate::ending::Ending;
 use crate::folder::Folder;
@@ -20,6 +21,7 @@ fn connections<'a>(
     remote: &Remote,
 ) -> Result<(HostDial<'a>, ControlConnection), Ending>
     ensures connected { IfOk result (λ made. IsConnectedTo remote.now made.1) }
+    ensures spares { IfErr result (λ ending. ¬ IsOfOutput ending) }
     ensures failed { IfErr result IsFailure }
 {
     let Some(dial) = HostDial::new(rt, remote.host.as_bytes(), remote.dial_first) else {
@@ -39,33 +41,27 @@ fn run_job<O: Write>(
     destination: Destination,
     made: (HostDial<'_>, ControlConnection),
     out: &mut O,
+    outputs: &mut OutputTally,
 ) -> Result<Printout, Ending>
     ensures ran { IfOk result
         (RanThere job host.now destination (O.contents out.old) (O.contents out.new)) }
+    ensures output { IfErr result (λ ending. IsOfOutput ending → outputs.new.failed ≡ true) }
     ensures failed { IfErr result IsFailure }
 {
     let (mut dial, mut control) = made;
     let stream = &mut control.stream;
-    let (alloc, mut outputs) = (rt.alloc(), OutputTally::new());
+    let alloc = rt.alloc();
     match destination {
         Destination::StandardOutput => {
-            do_net_job(alloc, host, job, stream, &mut dial, out, &mut outputs)
+            do_net_job(alloc, host, job, stream, &mut dial, out, outputs)
         }
         Destination::Path(path) => {
             let mut file = OutputFile::Unmade(rt, path);
-            do_net_job(alloc, host, job, stream, &mut dial, &mut file, &mut outputs)
+            do_net_job(alloc, host, job, stream, &mut dial, &mut file, outputs)
         }
         Destination::Folder => {
             let mut folder = Folder { rt };
-            do_net_batch(
-                alloc,
-                host,
-                job,
-                stream,
-                &mut dial,
-                &mut folder,
-                &mut outputs,
-            )
+            do_net_batch(alloc, host, job, stream, &mut dial, &mut folder, outputs)
         }
     }
 }
@@ -78,14 +74,19 @@ pub fn run_net_task<O: Write, E: Write>(
     password: Text,
     out: &mut O,
     err: &mut E,
+    outputs: &mut OutputTally,
 ) -> Result<(), Ending>
     /// Where a job over the net ends well, it is the one that the plan has for that host, port and device, done by the client's
-    /// rules, its file where the plan has it go, and behind it its list or table is printed.
+    /// rules, its file where the plan has it go, and behind it its list or table is printed, and its rounded settings on standard
+    /// error.
     /// Carried by: `done` of `run_net_task`: `IsDoneThere`
     ensures done { OnOk result (IsDoneThere
         (record { remote = remote; plan = plan; password = password })
-        (record { out = O.contents out.old; err = E.contents err.old })
-        (record { out = O.contents out.new; err = E.contents err.new })) }
+        (standard_streams (O.contents out.old) (E.contents err.old) outputs.old.failed)
+        (standard_streams (O.contents out.new) (E.contents err.new) outputs.new.failed)) }
+    ensures output { IfErr result (λ ending. IsOfOutput ending → outputs.new.failed ≡ true) }
+    // Nothing is printed on standard error then.
+    ensures silent { OnErr result (E.contents err.new ≡ E.contents err.old) }
     /// No ending of any of its parts has the exit status 0.
     ensures failed { IfErr result IsFailure }
 {
@@ -110,6 +111,14 @@ pub fn run_net_task<O: Write, E: Write>(
         return Err(ending);
     }
     let made = connections(rt, &remote)?;
-    let printed = run_job(rt, remote.host.as_bytes(), job, destination, made, out)?;
-    print_all(out, err, &printed, &mut OutputTally::new())
+    let printed = run_job(
+        rt,
+        remote.host.as_bytes(),
+        job,
+        destination,
+        made,
+        out,
+        outputs,
+    )?;
+    print_all(out, err, &printed, outputs)
 }

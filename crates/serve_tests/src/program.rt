@@ -1,3 +1,4 @@
 mod loopback;
 mod owners;
+mod reading;
 mod words;

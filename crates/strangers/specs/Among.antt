@@ -1,4 +1,5 @@
--- A world among strangers: each session that no endpoint has is one's, and whatever any of them does, all stand as before.
+-- A world among strangers: each session that no endpoint has is one's, and whatever any of them does, all stand as
+-- before.
 use Rattle.std.specs.Prelude.{ℕ, ◌≡◌, ◌≢◌, ◌<◌, ◌≤◌, ◌+◌, ◌⊎◌, false, Some, None, List, [], ◌∷◌, length, slice_get}
 use Rattle.device_api.specs.State.{DeviceState}
 use Rattle.saned_requests.specs.declared.session.Session.{Session as DeskSession}
@@ -27,9 +28,9 @@ IsNobodys w n =
 abbrev pub stranger_of : WorldCore → ℕ → ℕ
 stranger_of w n = length w.endpoints + n
 
--- **stands among (`StandsAmong`, `StrangerStands`, `IsNobodys`, `stranger_of`)**: all jobs stand, and all strangers: each
--- session that no endpoint has is by the model that of a client behind all jobs, any session, with up to four devices; and
--- of such a number that has none nothing is held.
+-- **stands among (`StandsAmong`, `StrangerStands`, `IsNobodys`, `stranger_of`)**: all jobs stand, and all strangers:
+-- each session that no endpoint has is by the model that of a client behind all jobs, any session, with up to four
+-- devices; and of such a number that has none nothing is held.
 pub record StrangerStands (t : Ghost) (w : WorldCore) (n : ℕ) : Type 0 where
   -- he has no job: that wants a place where nothing is listed
   pub nowhere : (device_for t.system (stranger_of w n)).listed ≡ false
@@ -89,8 +90,8 @@ StrangersDoAll =
 
 -- ---- and in any world of jobs, whatever events led there, they may come
 
--- **may have strangers (`MayHaveStrangers`)**: a world that refines, as each does to which events led, whose daemon is within
--- its limits, and of which nothing is said of jobs that there are not but that they want no device.
+-- **may have strangers (`MayHaveStrangers`)**: a world that refines, as each does to which events led, whose daemon is
+-- within its limits, and of which nothing is said of jobs that there are not but that they want no device.
 pub record MayHaveStrangers (t : Ghost) (w : WorldCore) : Type 0 where
   pub refines : WorldRefines t w
   pub limits : HasDaemonLimits w.daemon

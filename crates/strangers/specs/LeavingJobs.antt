@@ -3,7 +3,8 @@ use Rattle.std.specs.Prelude.{ℕ, ◌≡◌, ◌≢◌, ◌≤◌, ◌<◌, fal
 use Rattle.std.specs.List.{AllByRecursion}
 use Rattle.saned_core.specs.declared.session_slot.SessionId.{SessionId}
 use Rattle.saned_core.specs.declared.session_slot.Fed.{Fed}
-use Rattle.saned_core.specs.DaemonStates.{Core, after_connected, after_end_session, after_lost, after_open_session, after_taken, is_closed, on_session, on_session_slot, session_slot_of}
+use Rattle.saned_core.specs.DaemonStates.{Core, after_connected, after_end_session, after_lost, after_open_session}
+use Rattle.saned_core.specs.DaemonStates.{after_taken, is_closed, on_session, on_session_slot, session_slot_of}
 use Rattle.saned_core.specs.Feeding.{Feeds}
 use Rattle.saned_core.specs.Turns.{Turns}
 use Rattle.saned_core.specs.declared.session_slot.DataStep.{DataStep}
@@ -27,17 +28,18 @@ with_devices device s = record s { device = device }
 abbrev pub ghost_with : (ℕ → AbstractDevice) → Ghost → Ghost
 ghost_with device t = record t { system = with_devices device t.system }
 
--- **the jobs stand (`JobsStand`)**: the model's invariant holds, each job asks for what it holds alone, and each endpoint of
--- the world refines its job; so it is of a world of jobs, and nothing is said of whoever else has a session there.
+-- **the jobs stand (`JobsStand`)**: the model's invariant holds, each job asks for what it holds alone, and each
+-- endpoint of the world refines its job; so it is of a world of jobs, and nothing is said of whoever else has a session
+-- there.
 pub record JobsStand (t : Ghost) (w : WorldCore) : Type 0 where
   pub sound : Invariant t.system
   pub asks : (j : ℕ) → AsksAsHeld t.system j
   pub endpoints : (j : ℕ) (endpoint : Endpoint) → slice_get w.endpoints j ≡ Some endpoint
       → EndpointRefinesAt t w.daemon j endpoint
 
--- **stranger (`IsStrangers`, `MayCome`, `IsGone`)**: a session of the daemon that no endpoint of the world has: by the model
--- that of a client behind all jobs, which has no job, and so wants a place where nothing is listed. One may come where a
--- place for a session is free; of one who is gone nothing is held.
+-- **stranger (`IsStrangers`, `MayCome`, `IsGone`)**: a session of the daemon that no endpoint of the world has: by the
+-- model that of a client behind all jobs, which has no job, and so wants a place where nothing is listed. One may come
+-- where a place for a session is free; of one who is gone nothing is held.
 pub record IsStrangers (t : Ghost) (w : WorldCore) (i n : ℕ) (s : AbstractSession) : Type 0 where
   pub beyond : length w.endpoints ≤ i
   pub nowhere : (device_for t.system i).listed ≡ false
@@ -45,18 +47,18 @@ pub record IsStrangers (t : Ghost) (w : WorldCore) (i n : ℕ) (s : AbstractSess
       → endpoint.link ≡ Some id → id.number ≢ n
   pub sits : SessionRefines i t.system.make w.daemon n t.system.device s
 
--- **leaves the jobs (`LeavesJobs`)**: behind a call for a stranger's session the devices are these; with them the jobs stand,
--- no slot of another session is touched, so no reply that waits there, each device that anybody else holds is as it was,
--- and so is what the sessions of all others stand for.
+-- **leaves the jobs (`LeavesJobs`)**: behind a call for a stranger's session the devices are these; with them the jobs
+-- stand, no slot of another session is touched, so no reply that waits there, each device that anybody else holds is as
+-- it was, and so is what the sessions of all others stand for.
 pub record LeavesJobs (t : Ghost) (w : WorldCore) (i n : ℕ) (e : Core) (device : ℕ → AbstractDevice) : Type 0 where
   pub stands : JobsStand (ghost_with device t) (record w { daemon = e })
   pub slots : (m : ℕ) → m ≢ n → session_slot_of e.slots m ≡ session_slot_of w.daemon.slots m
   pub held : (k j : ℕ) → j ≢ i → (t.system.device k).holder ≡ Some j → device k ≡ t.system.device k
   pub others : LeavesOthers i w.daemon.registry e.registry t.system.device device
 
--- **whatever a stranger does (`SaysAnything`, `GoesOn`, `HasArrived`, `ActLeaves`)**: he is fed any bytes, also where memory
--- runs out; his data connection is made or lost, a record or replies of his are taken, and he has a session still; he
--- comes; or whatever of that. Each leaves the jobs.
+-- **whatever a stranger does (`SaysAnything`, `GoesOn`, `HasArrived`, `ActLeaves`)**: he is fed any bytes, also where
+-- memory runs out; his data connection is made or lost, a record or replies of his are taken, and he has a session
+-- still; he comes; or whatever of that. Each leaves the jobs.
 pub record SaysAnything (t : Ghost) (w : WorldCore) (i n : ℕ) (fed : Fed) (e : Core) : Type 0 where
   pub device : ℕ → AbstractDevice
   pub leaves : LeavesJobs t w i n e device

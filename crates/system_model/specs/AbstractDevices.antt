@@ -12,10 +12,10 @@ pub data ScanPhase : Type 0 where
   -- of this frame so much is still to be read, and then these are to be started
   Reading : (frame : Frame) → (rest : List ℕ) → (more : List Frame) → ScanPhase
 
--- **device among its users (`AbstractDevice`, `ScanPhase`, `DeviceInvariant`)**: whether it is listed, who holds it, its
--- options, the pages that starts at rest take (a feeder's start takes one out), and where a scan is: at rest; the frame
--- that ended last and the frames to be started; the frame that is read, what is left of it, and those after it. Fit: at
--- rest where nobody holds it, within its limits, one page, or at most 16 in a feeder.
+-- **device among its users (`AbstractDevice`, `ScanPhase`, `DeviceInvariant`)**: whether it is listed, who holds it,
+-- its options, the pages that starts at rest take (a feeder's start takes one out), and where a scan is: at rest; the
+-- frame that ended last and the frames to be started; the frame that is read, what is left of it, and those after it.
+-- Fit: at rest where nobody holds it, within its limits, one page, or at most 16 in a feeder.
 pub record AbstractDevice : Type 0 where
   pub listed : Bool
   -- the client that holds it: there are never two
@@ -44,7 +44,8 @@ abbrev pub AreShaped : List Page → Type 0
 AreShaped [] = Unit {0}
 AreShaped (page ∷ tray) = IsPageShaped page × AreShaped tray
 
--- a device is fit: it is at rest where nobody holds it, its options and pages are within their limits, and its tray is stocked
+-- a device is fit: it is at rest where nobody holds it, its options and pages are within their limits, and its tray is
+-- stocked
 pub record DeviceInvariant (make : Make) (dev : AbstractDevice) : Type 0 where
   pub laid_down : dev.holder ≡ None → dev.phase ≡ Resting
   pub allowed : AreOptionsAllowed make dev.options

@@ -60,8 +60,8 @@ pub record Report : Type 0 where
   pub given : Value
   pub info : Info
 
--- **words (`AbstractRequest`, `AbstractReply`, `Status`, `Why`, `Report`)**: what clients and daemon say to each other: an
--- answer, not its spelling.
+-- **words (`AbstractRequest`, `AbstractReply`, `Status`, `Why`, `Report`)**: what clients and daemon say to each other:
+-- an answer, not its spelling.
 --
 -- the requests of the client's rules; those about a device are about the one that the session opened
 pub data AbstractRequest : Type 0 where
@@ -78,7 +78,8 @@ pub data AbstractRequest : Type 0 where
   Close : AbstractRequest
   Exit : AbstractRequest
 
--- an answer: what a reply says of its procedure, or that it was refused; AUTHORIZE is answered by what its OPEN comes to
+-- an answer: what a reply says of its procedure, or that it was refused; AUTHORIZE is answered by what its OPEN comes
+-- to
 pub data AbstractReply : Type 0 where
   Greeted : AbstractReply
   Listed : (devices : List ℕ) → AbstractReply

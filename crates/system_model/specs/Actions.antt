@@ -1,19 +1,24 @@
--- What happens, as far as messages tell. All that chance decides is in a step's arguments, so that what stands after it is a function.
+-- What happens, as far as messages tell. All that chance decides is in a step's arguments, so that what stands after it
+-- is a function.
 use Rattle.std.specs.Prelude.{ℕ, List, [], ◌∷◌, ◌++◌, Bool, true, false, Option, Some, None, cond}
-use Rattle.system_model.specs.AbstractMessages.{Status, GivenUp, IoError, NoMem, Eof, Cancelled, Lost, Memory, Challenge, AbstractRequest, Init, AbstractReply}
+use Rattle.system_model.specs.AbstractMessages.{Status, GivenUp, IoError, NoMem, Eof, Cancelled, Lost, Memory}
+use Rattle.system_model.specs.AbstractMessages.{Challenge, AbstractRequest, Init, AbstractReply}
 use Rattle.system_model.specs.Devices.{Make}
 use Rattle.system_model.specs.Client.{ClientView, with_progress, Greeting, requests_sent, abstract_farewell}
 use Rattle.system_model.specs.ClientReplies.{hear_in, client_after_bytes, finish_in, client_after_stop}
-use Rattle.system_model.specs.AbstractDevices.{AbstractDevice, Begin, put_down, device_let_go, is_held_by, without_first, without_prefix, read_on, ended_phase}
-use Rattle.system_model.specs.Daemon.{TransferState, Quiet, Waiting, Streaming, Ending, FailureCounts, Environment, AnswerEffect, answer}
-use Rattle.system_model.specs.Causes.{Cause, GaveUp, LinkLost, LinkOutOfMemory, WasUnsaid, ClientOutOfMemory, SourceFailed, NamesEof, Names}
+use Rattle.system_model.specs.AbstractDevices.{AbstractDevice, Begin, put_down, device_let_go, is_held_by}
+use Rattle.system_model.specs.AbstractDevices.{without_first, without_prefix, read_on, ended_phase}
+use Rattle.system_model.specs.Daemon.{TransferState, Quiet, Waiting, Streaming, Ending, FailureCounts, Environment}
+use Rattle.system_model.specs.Daemon.{AnswerEffect, answer}
+use Rattle.system_model.specs.Causes.{Cause, GaveUp, LinkLost, LinkOutOfMemory, WasUnsaid, ClientOutOfMemory}
+use Rattle.system_model.specs.Causes.{SourceFailed, NamesEof, Names}
 use Rattle.system_model.specs.SystemStates.{SessionView, JobState}
 
--- **action, transition (`Action`, `Transition`, `after_transition`), enabled transition (`IsEnabled`)**: what comes to one
--- job: a connection, an answer, a reply heard, a record sent or read, a loss, a cancel, out of memory, a session that
--- breaks off, for lack of memory or, where a reply is due, at one past the limits of the wire (which explains no ending); a
--- page laid in, a device unplugged. All chance is in a step's arguments, so what stands after it is a function. When each
--- may come.
+-- **action, transition (`Action`, `Transition`, `after_transition`), enabled transition (`IsEnabled`)**: what comes to
+-- one job: a connection, an answer, a reply heard, a record sent or read, a loss, a cancel, out of memory, a session
+-- that breaks off, for lack of memory or, where a reply is due, at one past the limits of the wire (which explains no
+-- ending); a page laid in, a device unplugged. All chance is in a step's arguments, so what stands after it is a
+-- function. When each may come.
 pub data Action : Type 0 where
   -- the control connection is made
   Connects : Action
@@ -25,7 +30,8 @@ pub data Action : Type 0 where
   Dials : Action
   -- a record of these bytes is sent
   Turns : (bytes : List ℕ) → Action
-  -- the end record is sent: the frame is at its end; a status was named in place of its data, or EOF was; its source failed; it was cancelled
+  -- the end record is sent: the frame is at its end; a status was named in place of its data, or EOF was; its source
+  -- failed; it was cancelled
   TurnsLast : Action
   TurnsNamed : (status : Status) → Action
   TurnsShort : Action
@@ -34,8 +40,8 @@ pub data Action : Type 0 where
   -- the client takes bytes of a frame, or its end
   Reads : (bytes : List ℕ) → Action
   Finishes : (status : Status) → Action
-  -- losses, by out of memory or not; the end of the session by the daemon, for lack of memory or at a reply that cannot be said; out of
-  -- memory at the client; a cancel
+  -- losses, by out of memory or not; the end of the session by the daemon, for lack of memory or at a reply that cannot
+  -- be said; out of memory at the client; a cancel
   Loses : (memory : Bool) → Action
   LosesImage : (memory : Bool) → Action
   Breaks : (memory : Bool) → Action
@@ -54,14 +60,25 @@ is_some_begun (b ∷ more) = true
 
 -- WHAT COMES OF A JOB
 abbrev pub after_connection : JobState → JobState
-after_connection p = record p { client = with_progress Greeting p.client; todo = Init ∷ []; linked = true; served = true }
+after_connection p =
+    record p { client = with_progress Greeting p.client; todo = Init ∷ []; linked = true; served = true }
 
 abbrev pub environment_of : SessionView → List ℕ → Challenge → Option FailureCounts → Environment
 environment_of b listed challenge fault =
-    record { fault = fault; challenge = challenge; listed = listed; guarded = b.job.guarded; allows = b.job.allows; again = is_some_begun b.started }
+    record {
+      fault = fault;
+      challenge = challenge;
+      listed = listed;
+      guarded = b.job.guarded;
+      allows =
+          b.job.allows;
+      again = is_some_begun b.started;
+    }
 
-abbrev pub served_by : ℕ → Make → List ℕ → JobState → AbstractDevice → Challenge → Option FailureCounts → AbstractRequest → AnswerEffect
-served_by i k listed p dev challenge fault q = answer i k dev p.session.transfer p.session.awaited (environment_of p.session listed challenge fault) q
+abbrev pub served_by : ℕ → Make → List ℕ → JobState → AbstractDevice → Challenge → Option FailureCounts
+    → AbstractRequest → AnswerEffect
+served_by i k listed p dev challenge fault q =
+    answer i k dev p.session.transfer p.session.awaited (environment_of p.session listed challenge fault) q
 
 abbrev pub session_after_answer : SessionView → AnswerEffect → SessionView
 session_after_answer b v =
@@ -75,18 +92,28 @@ session_after_answer b v =
     }
 
 abbrev pub job_after_answer : JobState → AnswerEffect → JobState
-job_after_answer p v = record p { todo = without_first p.todo; due = p.due ++ v.told; served = v.goes_on; session = session_after_answer p.session v }
+job_after_answer p v =
+    record p {
+      todo = without_first p.todo;
+      due = p.due ++ v.told;
+      served = v.goes_on;
+      session =
+          session_after_answer p.session v;
+    }
 
-abbrev pub answer_next : ℕ → Make → List ℕ → JobState → AbstractDevice → Challenge → Option FailureCounts → List AbstractRequest → JobState
+abbrev pub answer_next : ℕ → Make → List ℕ → JobState → AbstractDevice → Challenge → Option FailureCounts
+    → List AbstractRequest → JobState
 answer_next i k listed p dev challenge fault [] = p
-answer_next i k listed p dev challenge fault (q ∷ rest) = job_after_answer p (served_by i k listed p dev challenge fault q)
+answer_next i k listed p dev challenge fault (q ∷ rest) =
+    job_after_answer p (served_by i k listed p dev challenge fault q)
 
 -- what a client comes to know, and what it asks for then
 abbrev pub job_after_learning : JobState → ClientView → JobState
 job_after_learning p m = record p { client = m; todo = p.todo ++ requests_sent p.session.job.task m.stage }
 
 abbrev pub job_after_reply : JobState → AbstractReply → JobState
-job_after_reply p r = record (job_after_learning p (hear_in p.client.stage p.session.job p.client r)) { due = without_first p.due }
+job_after_reply p r =
+    record (job_after_learning p (hear_in p.client.stage p.session.job p.client r)) { due = without_first p.due }
 
 abbrev pub with_transfer : SessionView → TransferState → SessionView
 with_transfer b c = record b { transfer = c }
@@ -104,7 +131,9 @@ abbrev pub with_nothing_in_flight : SessionView → SessionView
 with_nothing_in_flight b = record b { flight = []; ending = None }
 
 abbrev pub job_after_frame_end : JobState → Status → JobState
-job_after_frame_end p status = record (job_after_learning p (finish_in p.client.stage p.session.job.task p.client status)) { image = false; session = with_nothing_in_flight p.session }
+job_after_frame_end p status =
+    record (job_after_learning p (finish_in p.client.stage p.session.job.task p.client status))
+    { image = false; session = with_nothing_in_flight p.session }
 
 abbrev pub loss_cause : Bool → Cause
 loss_cause memory = cond memory LinkOutOfMemory LinkLost
@@ -138,23 +167,53 @@ job_after_action i k listed p dev Connects = after_connection p
 job_after_action i k listed p dev (Answers challenge fault) = answer_next i k listed p dev challenge fault p.todo
 job_after_action i k listed p dev (Hears reply) = job_after_reply p reply
 job_after_action i k listed p dev Dials = record p { image = true; session = with_transfer p.session Streaming }
-job_after_action i k listed p dev (Turns bytes) = record p { session = with_flight p.session (p.session.flight ++ bytes) }
+job_after_action i k listed p dev (Turns bytes) =
+    record p { session = with_flight p.session (p.session.flight ++ bytes) }
 job_after_action i k listed p dev TurnsLast = turned_last p Eof []
 job_after_action i k listed p dev (TurnsNamed status) = turned_last p status (Names status ∷ [])
 job_after_action i k listed p dev TurnsShort = turned_last p Eof (NamesEof ∷ [])
 job_after_action i k listed p dev (TurnsFault fault) = turned_last p IoError (SourceFailed ∷ [])
 job_after_action i k listed p dev TurnsOff = turned_last p GivenUp []
-job_after_action i k listed p dev (Reads bytes) = record p { client = client_after_bytes p.client.stage p.client bytes; session = with_flight p.session (without_prefix bytes p.session.flight) }
+job_after_action i k listed p dev (Reads bytes) =
+    record p {
+      client = client_after_bytes p.client.stage p.client bytes;
+      session =
+          with_flight p.session (without_prefix bytes p.session.flight);
+    }
 job_after_action i k listed p dev (Finishes status) = job_after_frame_end p status
 job_after_action i k listed p dev (Loses memory) =
-    record p { client = client_after_stop IoError Lost p.client; todo = []; due = []; linked = false; image = false; served = false; session = session_after_loss p.session (loss_cause memory) }
-job_after_action i k listed p dev (LosesImage memory) = record p { client = client_after_stop IoError Lost p.client; image = false; session = without_image p.session (loss_cause memory) }
-job_after_action i k listed p dev (Breaks memory) = record p { todo = []; due = []; served = false; session = without_session memory p.session }
-job_after_action i k listed p dev RunsOutOfMemory = record p { client = client_after_stop NoMem Memory p.client; session = with_cause p.session ClientOutOfMemory }
-job_after_action i k listed p dev Stops = record p { client = client_after_stop GivenUp Cancelled p.client; todo = p.todo ++ abstract_farewell p.client.stage; session = with_cause p.session GaveUp }
+    record p {
+      client = client_after_stop IoError Lost p.client;
+      todo = [];
+      due = [];
+      linked = false;
+      image =
+          false;
+      served = false;
+      session = session_after_loss p.session (loss_cause memory);
+    }
+job_after_action i k listed p dev (LosesImage memory) =
+    record p {
+      client = client_after_stop IoError Lost p.client;
+      image = false;
+      session =
+          without_image p.session (loss_cause memory);
+    }
+job_after_action i k listed p dev (Breaks memory) =
+    record p { todo = []; due = []; served = false; session = without_session memory p.session }
+job_after_action i k listed p dev RunsOutOfMemory =
+    record p { client = client_after_stop NoMem Memory p.client; session = with_cause p.session ClientOutOfMemory }
+job_after_action i k listed p dev Stops =
+    record p {
+      client = client_after_stop GivenUp Cancelled p.client;
+      todo =
+          p.todo ++ abstract_farewell p.client.stage;
+      session = with_cause p.session GaveUp;
+    }
 
 -- WHAT COMES OF ITS DEVICE
-abbrev pub device_after_answer : ℕ → Make → List ℕ → JobState → AbstractDevice → Challenge → Option FailureCounts → List AbstractRequest → AbstractDevice
+abbrev pub device_after_answer : ℕ → Make → List ℕ → JobState → AbstractDevice → Challenge → Option FailureCounts
+    → List AbstractRequest → AbstractDevice
 device_after_answer i k listed p dev challenge fault [] = dev
 device_after_answer i k listed p dev challenge fault (q ∷ rest) = (served_by i k listed p dev challenge fault q).device
 

@@ -1,6 +1,7 @@
 -- What explains that a job ended with a status and a why.
 use Rattle.std.specs.Prelude.{◌≡◌, ◌≢◌, ◌⊎◌, List, [], ◌∷◌}
-use Rattle.system_model.specs.AbstractMessages.{Status, GivenUp, Busy, Inval, Eof, NoDocs, IoError, NoMem, AccessDenied, Why, Answer, Cancelled, Lost, Short, Setting, Memory}
+use Rattle.system_model.specs.AbstractMessages.{Status, GivenUp, Busy, Inval, Eof, NoDocs, IoError, NoMem, AccessDenied}
+use Rattle.system_model.specs.AbstractMessages.{Why, Answer, Cancelled, Lost, Short, Setting, Memory}
 
 -- **causes (`Cause`, `Explains`, `HaveGrounds`)**: why a job may end: the table of statuses and whys, and what a cause
 -- means where a request is answered.
@@ -9,13 +10,15 @@ pub data Cause : Type 0 where
   GaveUp : Cause
   LinkLost : Cause
   LinkOutOfMemory : Cause
-  -- a reply to it passed a limit of the wire, or had no spelling: its session was over then, which by itself explains no ending
+  -- a reply to it passed a limit of the wire, or had no spelling: its session was over then, which by itself explains
+  -- no ending
   WasUnsaid : Cause
   -- the page source of its device failed; the option `read-return-value` names EOF, or another status
   SourceFailed : Cause
   NamesEof : Cause
   Names : (status : Status) → Cause
-  -- the settings are in force for no options; the device is not listed; the page and the options of a start at rest mean no picture
+  -- the settings are in force for no options; the device is not listed; the page and the options of a start at rest
+  -- mean no picture
   Unforced : Cause
   WasUnlisted : Cause
   HadNoPicture : Cause

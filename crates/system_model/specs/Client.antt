@@ -6,7 +6,9 @@ use Rattle.sane_fixed.specs.declared.byte_order.ByteOrder.{ByteOrder as Order}
 use Rattle.sane_fixed.specs.declared.params.Params.{Params}
 use Rattle.page_picture.specs.Shows.{Frame}
 use Rattle.option_desc.specs.declared.descriptor.Descriptor.{Descriptor}
-use Rattle.system_model.specs.AbstractMessages.{Status, Inval, Why, Setting, IoError, Malformed, RequestedSetting, Challenge, Report, AbstractRequest, Init, GetDevices, Open, Authorize, Describe, Get, Set, Parameters, Start, Cancel, Close, Exit}
+use Rattle.system_model.specs.AbstractMessages.{Status, Inval, Why, Setting, IoError, Malformed, RequestedSetting}
+use Rattle.system_model.specs.AbstractMessages.{Challenge, Report, AbstractRequest, Init, GetDevices, Open, Authorize}
+use Rattle.system_model.specs.AbstractMessages.{Describe, Get, Set, Parameters, Start, Cancel, Close, Exit}
 use Rattle.system_model.specs.Devices.{resolve_setting, readable_options}
 
 -- **client (`Task`, `AbstractJob`, `AbstractProgress`, `ClientView`), hearing (`hear_at`, `client_after_bytes`,
@@ -31,7 +33,8 @@ further_pages (Batch n) = n
 pub record AbstractJob : Type 0 where
   -- the place of the device that it names
   pub wants : ℕ
-  -- whether a line of the daemon's users names the backend of that device, and whether the job's user and password are allowed there for a challenge
+  -- whether a line of the daemon's users names the backend of that device, and whether the job's user and password are
+  -- allowed there for a challenge
   pub guarded : Bool
   pub allows : Challenge → Bool
   pub settings : List RequestedSetting
@@ -47,7 +50,8 @@ pub data AbstractProgress : Type 0 where
   -- the descriptors, and then these settings
   Describing : (left : List RequestedSetting) → AbstractProgress
   -- the answer to this setting, and then these
-  Putting : (n : ℕ) → (value : Value) → (requested : RequestedSetting) → (left : List RequestedSetting) → AbstractProgress
+  Putting : (n : ℕ) → (value : Value) → (requested : RequestedSetting) → (left : List RequestedSetting)
+      → AbstractProgress
   -- the value of this option, and then of these
   Getting : (n : ℕ) → (left : List ℕ) → AbstractProgress
   Starting : AbstractProgress
@@ -75,7 +79,18 @@ pub record ClientView : Type 0 where
   pub pages : List (List Frame)
 
 abbrev pub initial_client : ClientView
-initial_client = record { stage = Idle; reports = []; devices = []; known = []; values = []; order = Little; frames = []; pages = [] }
+initial_client =
+    record {
+      stage = Idle;
+      reports = [];
+      devices = [];
+      known = [];
+      values = [];
+      order = Little;
+      frames = [];
+      pages =
+          [];
+    }
 
 abbrev pub with_ending : Status → Why → ClientView → ClientView
 with_ending status why m = record m { stage = Ended status why }

@@ -2,11 +2,19 @@
 use Rattle.std.specs.Prelude.{ℕ, List, [], ◌∷◌, ◌++◌, Bool, true, false, length, ltb}
 use Rattle.sane_fixed.specs.declared.params.Params.{Params}
 use Rattle.page_picture.specs.Shows.{Frame}
-use Rattle.system_model.specs.AbstractMessages.{Status, Good, Unsupported, GivenUp, Busy, Inval, Eof, Jammed, NoDocs, CoverOpen, IoError, NoMem, AccessDenied, Why, Answer, Malformed, Short, Long, AbstractReply, Greeted, Listed, Opened, Challenged, Described, Got, Gave, Shaped, Begun, Refused}
+use Rattle.system_model.specs.AbstractMessages.{Status, Good, Unsupported, GivenUp, Busy, Inval, Eof, Jammed, NoDocs}
+use Rattle.system_model.specs.AbstractMessages.{CoverOpen, IoError, NoMem, AccessDenied, Why, Answer, Malformed, Short}
+use Rattle.system_model.specs.AbstractMessages.{Long, AbstractReply, Greeted, Listed, Opened, Challenged, Described}
+use Rattle.system_model.specs.AbstractMessages.{Got, Gave, Shaped, Begun, Refused}
 use Rattle.system_model.specs.Devices.{accepts, frame_overflows, frame_fills}
-use Rattle.system_model.specs.Client.{AbstractJob, Task, further_pages, AbstractProgress, Greeting, Listing, Opening, Allowing, Describing, Putting, Getting, Starting, Shaping, Imaging, JobStage, Idle, Running, Done, Ended, ClientView, with_ending, with_progress, with_malformed, progress_after_init, stage_of_next_setting, stage_after_put, next_value}
+use Rattle.system_model.specs.Client.{AbstractJob, Task, further_pages, AbstractProgress, Greeting, Listing, Opening}
+use Rattle.system_model.specs.Client.{Allowing, Describing, Putting, Getting, Starting, Shaping, Imaging, JobStage}
+use Rattle.system_model.specs.Client.{Idle, Running, Done, Ended, ClientView, with_ending, with_progress}
+use Rattle.system_model.specs.Client.{with_malformed, progress_after_init, stage_of_next_setting, stage_after_put}
+use Rattle.system_model.specs.Client.{next_value}
 
--- A START that is refused. Where a page of the batch is finished, and no frame of the next one, an empty tray ends the batch well.
+-- A START that is refused. Where a page of the batch is finished, and no frame of the next one, an empty tray ends the
+-- batch well.
 abbrev pub start_refused : Status → List Frame → List (List Frame) → ClientView → ClientView
 start_refused NoDocs [] (page ∷ pages) m = record m { stage = Done }
 start_refused status frames pages m = with_ending status Answer m
@@ -25,7 +33,8 @@ hear_at Opening job m Opened = with_progress (Describing job.settings) m
 hear_at Opening job m (Challenged challenge) = with_progress (Allowing challenge) m
 hear_at (Allowing answered) job m Opened = with_progress (Describing job.settings) m
 hear_at (Allowing answered) job m (Challenged challenge) = with_progress (Allowing challenge) m
-hear_at (Describing left) job m (Described descriptors) = record m { stage = stage_of_next_setting job.task descriptors left; known = descriptors }
+hear_at (Describing left) job m (Described descriptors) =
+    record m { stage = stage_of_next_setting job.task descriptors left; known = descriptors }
 hear_at (Putting n value requested left) job m (Gave given info) =
     record m {
       stage = stage_after_put job.task m.known left info.reload_options;
@@ -48,7 +57,8 @@ reads_on true params heard = Ended IoError Long
 reads_on false params heard = Running (Imaging params heard)
 
 abbrev pub client_after_bytes : JobStage → ClientView → List ℕ → ClientView
-client_after_bytes (Running (Imaging params heard)) m bytes = record m { stage = reads_on (frame_overflows params (heard ++ bytes)) params (heard ++ bytes) }
+client_after_bytes (Running (Imaging params heard)) m bytes =
+    record m { stage = reads_on (frame_overflows params (heard ++ bytes)) params (heard ++ bytes) }
 client_after_bytes stage m bytes = m
 
 -- a page is whole: the next one, where it is not the last of the job
@@ -57,12 +67,19 @@ after_page true = Running Starting
 after_page false = Done
 
 abbrev pub close_page : Bool → Task → Frame → ClientView → ClientView
-close_page true task frame m = record m { stage = after_page (ltb (length m.pages) (further_pages task)); frames = []; pages = m.pages ++ (m.frames ++ frame ∷ []) ∷ [] }
+close_page true task frame m =
+    record m {
+      stage = after_page (ltb (length m.pages) (further_pages task));
+      frames = [];
+      pages =
+          m.pages ++ (m.frames ++ frame ∷ []) ∷ [];
+    }
 close_page false task frame m = record m { stage = Running Starting; frames = m.frames ++ frame ∷ [] }
 
 -- the end of a frame: it is whole, or too short
 abbrev pub close_frame : Bool → Task → Params → List ℕ → ClientView → ClientView
-close_frame true task params heard m = close_page params.last_frame task (record { params = params; order = m.order; payload = heard }) m
+close_frame true task params heard m =
+    close_page params.last_frame task (record { params = params; order = m.order; payload = heard }) m
 close_frame false task params heard m = with_ending IoError Short m
 
 abbrev pub end_frame : Status → Task → Params → List ℕ → ClientView → ClientView

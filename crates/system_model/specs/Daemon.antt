@@ -3,11 +3,17 @@ use Rattle.std.specs.Prelude.{ℕ, List, [], ◌∷◌, Bool, true, false, Optio
 use Rattle.option_desc.specs.declared.value.Value.{Value}
 use Rattle.sane_fixed.specs.declared.params.Params.{Params}
 use Rattle.page_picture.specs.Shows.{Frame}
-use Rattle.system_model.specs.AbstractMessages.{same_text, Busy, Inval, NoDocs, IoError, AccessDenied, Challenge, AbstractRequest, Init, GetDevices, Open, Authorize, Describe, Get, Set, Parameters, Start, Cancel, Close, Exit, AbstractReply, Greeted, Listed, Opened, Challenged, Described, Got, Gave, Shaped, Begun, Acked, Refused}
+use Rattle.system_model.specs.AbstractMessages.{same_text, Busy, Inval, NoDocs, IoError, AccessDenied, Challenge}
+use Rattle.system_model.specs.AbstractMessages.{AbstractRequest, Init, GetDevices, Open, Authorize, Describe, Get, Set}
+use Rattle.system_model.specs.AbstractMessages.{Parameters, Start, Cancel, Close, Exit, AbstractReply, Greeted, Listed}
+use Rattle.system_model.specs.AbstractMessages.{Opened, Challenged, Described, Got, Gave, Shaped, Begun, Acked, Refused}
 use Rattle.device_api.specs.Kinds.{Page, after_start}
-use Rattle.system_model.specs.Devices.{Make, AbstractAcceptedSet, default_options, descriptors_in_force, accept_value, has_readable_value, readable_value, order_of, picture_frames, params_at_rest}
-use Rattle.system_model.specs.Causes.{Cause, Disallowed, WasUnlisted, WasHeld, HadNoPicture, SourceFailed, TrayWasEmpty, TrayRanOut}
-use Rattle.system_model.specs.AbstractDevices.{AbstractDevice, ScanPhase, Resting, Between, Reading, Begin, is_resting, is_held_by, put_down, put_back, device_let_go}
+use Rattle.system_model.specs.Devices.{Make, AbstractAcceptedSet, default_options, descriptors_in_force, accept_value}
+use Rattle.system_model.specs.Devices.{has_readable_value, readable_value, order_of, picture_frames, params_at_rest}
+use Rattle.system_model.specs.Causes.{Cause, Disallowed, WasUnlisted, WasHeld, HadNoPicture, SourceFailed, TrayWasEmpty}
+use Rattle.system_model.specs.Causes.{TrayRanOut}
+use Rattle.system_model.specs.AbstractDevices.{AbstractDevice, ScanPhase, Resting, Between, Reading, Begin, is_resting}
+use Rattle.system_model.specs.AbstractDevices.{is_held_by, put_down, put_back, device_let_go}
 
 -- the frame of a session
 pub data TransferState : Type 0 where
@@ -29,7 +35,8 @@ pub record Environment : Type 0 where
   pub challenge : Challenge
   -- the listed devices, in their order
   pub listed : List ℕ
-  -- whether a users line names the device's backend, and whether the user and password are allowed there for a challenge
+  -- whether a users line names the device's backend, and whether the user and password are allowed there for a
+  -- challenge
   pub guarded : Bool
   pub allows : Challenge → Bool
   -- whether a page was started for the session before
@@ -51,11 +58,33 @@ pub record AnswerEffect : Type 0 where
   pub goes_on : Bool
 
 abbrev pub reply_effect : AbstractReply → AbstractDevice → TransferState → AnswerEffect
-reply_effect reply dev c = record { told = reply ∷ []; device = dev; transfer = c; awaited = None; begun = []; shown = None; causes = []; goes_on = true }
+reply_effect reply dev c =
+    record {
+      told = reply ∷ [];
+      device = dev;
+      transfer = c;
+      awaited = None;
+      begun = [];
+      shown = None;
+      causes =
+          [];
+      goes_on = true;
+    }
 
 -- the session is over, and its device is given back
 abbrev pub session_over_effect : AbstractDevice → AnswerEffect
-session_over_effect dev = record { told = []; device = dev; transfer = Quiet; awaited = None; begun = []; shown = None; causes = []; goes_on = false }
+session_over_effect dev =
+    record {
+      told = [];
+      device = dev;
+      transfer = Quiet;
+      awaited = None;
+      begun = [];
+      shown = None;
+      causes = [];
+      goes_on =
+          false;
+    }
 
 -- whether the holder is another: nobody is refused for what it holds itself
 abbrev pub held_cause : Bool → List Cause
@@ -64,7 +93,8 @@ held_cause false = WasHeld ∷ []
 
 -- the device is handed out, all its options at their default_options
 abbrev pub hand_out_device : ℕ → Make → AbstractDevice → TransferState → Option ℕ → AnswerEffect
-hand_out_device i k dev c None = reply_effect Opened (record dev { holder = Some i; options = default_options k; phase = Resting }) c
+hand_out_device i k dev c None =
+    reply_effect Opened (record dev { holder = Some i; options = default_options k; phase = Resting }) c
 hand_out_device i k dev c (Some j) = record (reply_effect (Refused Busy) dev c) { causes = held_cause (eqb j i) }
 
 abbrev pub take_listed : ℕ → Make → AbstractDevice → TransferState → Bool → AnswerEffect
@@ -73,8 +103,10 @@ take_listed i k dev c true = hand_out_device i k dev c dev.holder
 
 -- OPEN: a guarded device asks for an answer to a challenge first
 abbrev pub open_listed : ℕ → Make → AbstractDevice → TransferState → Challenge → Bool → Bool → AnswerEffect
-open_listed i k dev c challenge false guarded = record (reply_effect (Refused Inval) dev c) { causes = WasUnlisted ∷ [] }
-open_listed i k dev c challenge true true = record (reply_effect (Challenged challenge) dev c) { awaited = Some challenge }
+open_listed i k dev c challenge false guarded =
+    record (reply_effect (Refused Inval) dev c) { causes = WasUnlisted ∷ [] }
+open_listed i k dev c challenge true true =
+    record (reply_effect (Challenged challenge) dev c) { awaited = Some challenge }
 open_listed i k dev c challenge true false = hand_out_device i k dev c dev.holder
 
 -- AUTHORIZE: whether the answer is to the challenge that was sent, and whether it is allowed
@@ -105,14 +137,16 @@ abstract_params k dev (Reading frame rest more) = frame.params
 abbrev pub begin_page : Make → AbstractDevice → TransferState → Page → List Frame → AnswerEffect
 begin_page k dev c page [] = record (reply_effect (Refused Inval) dev c) { causes = HadNoPicture ∷ [] }
 begin_page k dev c page (f ∷ more) =
-    record (reply_effect (Begun (order_of k dev.options)) (record dev { tray = after_start k.model dev.tray; phase = Reading f f.payload more }) Waiting) {
+    record (reply_effect (Begun (order_of k dev.options))
+    (record dev { tray = after_start k.model dev.tray; phase = Reading f f.payload more }) Waiting) {
       begun = record { page = page; options = dev.options } ∷ [];
     }
 
 -- the next pass of a page
 abbrev pub begin_pass : Make → AbstractDevice → TransferState → List Frame → AnswerEffect
 begin_pass k dev c [] = reply_effect (Refused Inval) (put_down dev) c
-begin_pass k dev c (f ∷ more) = reply_effect (Begun (order_of k dev.options)) (record dev { phase = Reading f f.payload more }) Waiting
+begin_pass k dev c (f ∷ more) =
+    reply_effect (Begun (order_of k dev.options)) (record dev { phase = Reading f f.payload more }) Waiting
 
 abbrev pub empty_cause : Bool → Cause
 empty_cause true = TrayRanOut
@@ -130,7 +164,8 @@ start_at k dev c again (Reading frame rest more) = reply_effect (Refused Busy) d
 -- the source fails at a start, and the device is at rest; its tray is as it was
 abbrev pub start_or_fail : Make → AbstractDevice → TransferState → Bool → Option FailureCounts → AnswerEffect
 start_or_fail k dev c again None = start_at k dev c again dev.phase
-start_or_fail k dev c again (Some fault) = record (reply_effect (Refused IoError) (put_down dev) c) { causes = SourceFailed ∷ [] }
+start_or_fail k dev c again (Some fault) =
+    record (reply_effect (Refused IoError) (put_down dev) c) { causes = SourceFailed ∷ [] }
 
 abbrev pub start_effect : Make → AbstractDevice → Environment → TransferState → AnswerEffect
 start_effect k dev x Quiet = start_or_fail k dev Quiet x.again x.fault
@@ -179,14 +214,16 @@ answer_if true i k dev c x q = serve i k dev c x q
 answer_if false i k dev c x q = refuse i k dev c x q
 
 -- a request where an answer to a challenge is awaited: any other ends the session
-abbrev pub answer_awaited : ℕ → Make → AbstractDevice → TransferState → Environment → Challenge → AbstractRequest → AnswerEffect
+abbrev pub answer_awaited : ℕ → Make → AbstractDevice → TransferState → Environment → Challenge → AbstractRequest
+    → AnswerEffect
 answer_awaited i k dev c x sent (Authorize challenge) = allow i k dev c (same_text challenge sent) (x.allows sent)
 answer_awaited i k dev c x sent q = session_over_effect (device_let_go i dev)
 
--- **answer (`answer`), answer in full (`answer_call`)**: the daemon's reply to a request and what it does to the device,
--- for a session that opens one device; the same with four device words.
+-- **answer (`answer`), answer in full (`answer_call`)**: the daemon's reply to a request and what it does to the
+-- device, for a session that opens one device; the same with four device words.
 --
 -- the daemon's rules: the answer to client i's request, where this is the device that its job names
-abbrev pub answer : ℕ → Make → AbstractDevice → TransferState → Option Challenge → Environment → AbstractRequest → AnswerEffect
+abbrev pub answer : ℕ → Make → AbstractDevice → TransferState → Option Challenge → Environment → AbstractRequest
+    → AnswerEffect
 answer i k dev c None x q = answer_if (is_held_by i dev.holder) i k dev c x q
 answer i k dev c (Some sent) x q = answer_awaited i k dev c x sent q

@@ -1,4 +1,5 @@
--- Deliveries: messages come in pieces of bytes, and what a piece shows are the marks of the requests that it makes whole.
+-- Deliveries: messages come in pieces of bytes, and what a piece shows are the marks of the requests that it makes
+-- whole.
 use Rattle.std.specs.Prelude.{ℕ, ◌+◌, ◌-◌, ◌≡◌, suc, cond, leb, List, [], ◌∷◌, ◌++◌, Option, take, drop}
 use Rattle.system_model.specs.AbstractMessages.{Challenge}
 use Rattle.system_model.specs.Daemon.{FailureCounts}
@@ -21,7 +22,8 @@ whole_messages (size ∷ sizes) came = cond (leb size came) (suc (whole_messages
 -- the link without the messages that are whole
 abbrev pub rest_of_link : List ℕ → ℕ → AbstractLink
 rest_of_link [] came = record { sizes = []; came = came }
-rest_of_link (size ∷ sizes) came = cond (leb size came) (rest_of_link sizes (came - size)) (record { sizes = size ∷ sizes; came = came })
+rest_of_link (size ∷ sizes) came =
+    cond (leb size came) (rest_of_link sizes (came - size)) (record { sizes = size ∷ sizes; came = came })
 
 -- n bytes more are delivered: so many messages become whole, and this link is left
 abbrev pub messages_completed : AbstractLink → ℕ → ℕ
@@ -48,7 +50,9 @@ delivery_marks d s i link n chances = all_marks d s (delivery i link n chances)
 
 -- In whatever pieces bytes are delivered, the same requests become whole,
 abbrev pub PiecesComplete : Type 0
-PiecesComplete = (link : AbstractLink) (n m : ℕ) → (messages_completed link (n + m) ≡ messages_completed link n + messages_completed (link_after link n) m) × (link_after link (n + m) ≡ link_after (link_after link n) m)
+PiecesComplete = (link : AbstractLink) (n m : ℕ)
+    → (messages_completed link (n + m) ≡ messages_completed link n + messages_completed (link_after link n) m)
+    × (link_after link (n + m) ≡ link_after (link_after link n) m)
 
 -- and the same marks are shown.
 abbrev pub PiecesShowTheSame : Type 0
@@ -56,4 +60,5 @@ PiecesShowTheSame =
     (d : ℕ) (s : SystemState) (i : ℕ) (link : AbstractLink) (n m : ℕ) (chances : List Chance) →
     delivery_marks d s i link (n + m) chances
     ≡ delivery_marks d s i link n chances
-    ++ delivery_marks d (after_all s (delivery i link n chances)) i (link_after link n) m (drop (messages_completed link n) chances)
+    ++ delivery_marks d (after_all s (delivery i link n chances)) i (link_after link n) m
+    (drop (messages_completed link n) chances)

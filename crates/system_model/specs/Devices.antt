@@ -1,6 +1,7 @@
--- THE LAYERS BELOW: devices and the join of frames, as the model sees them. Each definition is opaque: what is proved above rests on
--- the laws of proofs/Laws alone.
-use Rattle.std.specs.Prelude.{ℕ, ◌+◌, ◌==◌, ◌&&◌, Bool, true, false, not, if◌then◌else◌, Option, Some, option_map, Result, Ok, Err, List, [], ◌∷◌, slice_get}
+-- THE LAYERS BELOW: devices and the join of frames, as the model sees them. Each definition is opaque: what is proved
+-- above rests on the laws of proofs/Laws alone.
+use Rattle.std.specs.Prelude.{ℕ, ◌+◌, ◌==◌, ◌&&◌, Bool, true, false, not, if◌then◌else◌, Option, Some, option_map}
+use Rattle.std.specs.Prelude.{Result, Ok, Err, List, [], ◌∷◌, slice_get}
 use Rattle.sane_fixed.specs.DecimalReading.{◌>>=◌}
 use Rattle.sane_fixed.specs.declared.byte_order.ByteOrder.{ByteOrder as Order}
 use Rattle.sane_fixed.specs.declared.info.Info.{Info as Bits}
@@ -28,7 +29,8 @@ use Rattle.frame_join.specs.FrameHistory.{is_accepted}
 use Rattle.scan_laws.specs.NearestSet.{GivesNearest}
 use Rattle.scan_laws.specs.SetAndJoin as rules
 use Rattle.scan_laws.specs.SetInfo.{has_bit}
-use Rattle.system_model.specs.AbstractMessages.{Status, Good, Unsupported, GivenUp, Busy, Inval, Eof, Jammed, NoDocs, CoverOpen, IoError, NoMem, AccessDenied, RequestedSetting, Info}
+use Rattle.system_model.specs.AbstractMessages.{Status, Good, Unsupported, GivenUp, Busy, Inval, Eof, Jammed, NoDocs}
+use Rattle.system_model.specs.AbstractMessages.{CoverOpen, IoError, NoMem, AccessDenied, RequestedSetting, Info}
 
 -- what never changes of a device
 pub record Make : Type 0 where
@@ -87,7 +89,8 @@ resolve_setting descriptors requested = do
   Some (n, asked)
 
 abbrev pub abstract_info : Bits → Info
-abstract_info bits = record { inexact = has_bit bits 1; reload_options = has_bit bits 2; reload_params = has_bit bits 4 }
+abstract_info bits =
+    record { inexact = has_bit bits 1; reload_options = has_bit bits 2; reload_params = has_bit bits 4 }
 
 abbrev pub abstract_accepted_set : rules.AcceptedSet → AbstractAcceptedSet
 abstract_accepted_set put = record { given = put.given; info = abstract_info put.info; options = put.setup }
@@ -143,7 +146,8 @@ readable_value make o n = value_or_false (option_got o n)
 unfoldable pub order_of : Make → OptionsInForce → Order
 order_of make o = o.order
 
--- the frames of the picture that the page and the options mean, in the order of the passes; none where there is no picture
+-- the frames of the picture that the page and the options mean, in the order of the passes; none where there is no
+-- picture
 unfoldable pub picture_frames : Make → OptionsInForce → Page → List Frame
 picture_frames make options page_view = rules.frames_given options page_view
 

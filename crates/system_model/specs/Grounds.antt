@@ -3,7 +3,8 @@ use Rattle.std.specs.Prelude.{ℕ, ◌≡◌, ◌≢◌, List, [], ◌∷◌, tr
 use Rattle.system_model.specs.AbstractMessages.{Challenge}
 use Rattle.device_api.specs.Kinds.{Page}
 use Rattle.system_model.specs.Devices.{Make, picture_frames}
-use Rattle.system_model.specs.Causes.{Cause, SourceFailed, WasUnlisted, HadNoPicture, WasHeld, Disallowed, TrayWasEmpty, TrayRanOut}
+use Rattle.system_model.specs.Causes.{Cause, SourceFailed, WasUnlisted, HadNoPicture, WasHeld, Disallowed, TrayWasEmpty}
+use Rattle.system_model.specs.Causes.{TrayRanOut}
 use Rattle.system_model.specs.AbstractDevices.{AbstractDevice, Resting}
 use Rattle.system_model.specs.Daemon.{Environment, FailureCounts}
 
@@ -11,7 +12,8 @@ abbrev pub HasGround : ℕ → Make → AbstractDevice → Option Challenge → 
 HasGround i k dev awaited x WasUnlisted = dev.listed ≡ false
 HasGround i k dev awaited x WasHeld = (j : ℕ) × (dev.holder ≡ Some j) × (j ≢ i)
 HasGround i k dev awaited x Disallowed = (c : Challenge) × (awaited ≡ Some c) × (x.allows c ≡ false)
-HasGround i k dev awaited x HadNoPicture = (page : Page) × (tray : List Page) × (dev.phase ≡ Resting) × (dev.tray ≡ page ∷ tray) × (picture_frames k dev.options page ≡ [])
+HasGround i k dev awaited x HadNoPicture = (page : Page) × (tray : List Page) × (dev.phase ≡ Resting)
+    × (dev.tray ≡ page ∷ tray) × (picture_frames k dev.options page ≡ [])
 HasGround i k dev awaited x TrayWasEmpty = (dev.tray ≡ []) × (x.again ≡ false)
 HasGround i k dev awaited x TrayRanOut = (dev.tray ≡ []) × (x.again ≡ true)
 HasGround i k dev awaited x SourceFailed = (f : FailureCounts) × (x.fault ≡ Some f)

@@ -3,17 +3,20 @@ use Rattle.std.specs.Prelude.{ℕ, ◌≡◌, ◌≢◌, ◌≤◌, ◌⊎◌, L
 use Rattle.system_model.specs.AbstractMessages.{Status, Why, AbstractReply}
 use Rattle.system_model.specs.Devices.{Make, OptionsInForce, descriptors_in_force, readable_options}
 use Rattle.system_model.specs.AbstractInForce.{abstract_in_force, values_of}
-use Rattle.system_model.specs.Client.{Task, List_, Show, SetOnly, Scan, Batch, ClientView, JobStage, Idle, Running, Done, Ended, AbstractProgress, request_awaited}
+use Rattle.system_model.specs.Client.{Task, List_, Show, SetOnly, Scan, Batch, ClientView, JobStage, Idle, Running}
+use Rattle.system_model.specs.Client.{Done, Ended, AbstractProgress, request_awaited}
 use Rattle.system_model.specs.ClientReplies.{hear_at}
 use Rattle.system_model.specs.AbstractDevices.{AbstractDevice, Begin, DeviceInvariant}
 use Rattle.system_model.specs.Daemon.{TransferState, Quiet, Waiting, Streaming, Ending}
-use Rattle.system_model.specs.Causes.{LinkOutOfMemory, WasUnsaid, Unforced, TrayRanOut, Explains, IsExplained, IsCauseAmong}
+use Rattle.system_model.specs.Causes.{LinkOutOfMemory, WasUnsaid, Unforced, TrayRanOut, Explains, IsExplained}
+use Rattle.system_model.specs.Causes.{IsCauseAmong}
 use Rattle.system_model.specs.SystemStates.{SessionView, JobState, SystemState, make_for, device_for}
 use Rattle.system_model.specs.Sync.{InSync, NotYet, AllInForce, ArePictures}
 
 -- an ending has its cause
 abbrev pub IsCaused : Make → SessionView → Status → Why → Type 0
-IsCaused k b status why = IsExplained status why b.met ⊎ ((abstract_in_force k b.job.settings ≡ None) × Explains Unforced status why)
+IsCaused k b status why = IsExplained status why b.met
+    ⊎ ((abstract_in_force k b.job.settings ≡ None) × Explains Unforced status why)
 
 -- a batch has the pages that it wants, or its tray ran out behind at least one
 abbrev pub HasBatchPages : ℕ → SessionView → ClientView → Type 0
@@ -31,8 +34,10 @@ abbrev pub IsRightlyDone : Make → SessionView → ClientView → Task → Type
 IsRightlyDone k b m List_ = b.shown ≡ Some m.devices
 IsRightlyDone k b m Show = ShowIsRight k b m
 IsRightlyDone k b m SetOnly = (options : OptionsInForce) × AllInForce k b.job b.sent m.reports options
-IsRightlyDone k b m Scan = ((options : OptionsInForce) × AllInForce k b.job b.sent m.reports options) × (length m.pages ≡ 1)
-IsRightlyDone k b m (Batch n) = ((options : OptionsInForce) × AllInForce k b.job b.sent m.reports options) × HasBatchPages n b m
+IsRightlyDone k b m Scan = ((options : OptionsInForce) × AllInForce k b.job b.sent m.reports options)
+    × (length m.pages ≡ 1)
+IsRightlyDone k b m (Batch n) = ((options : OptionsInForce) × AllInForce k b.job b.sent m.reports options)
+    × HasBatchPages n b m
 
 -- the client is right to be where it is
 abbrev pub IsRight : ℕ → Make → SessionView → ClientView → AbstractDevice → JobStage → Type 0
@@ -49,7 +54,8 @@ IsCalm Streaming = ⊥
 IsCalm Ending = ⊥
 
 -- its request is on the way
-pub record RequestInFlight (i : ℕ) (k : Make) (p : JobState) (dev : AbstractDevice) (g : AbstractProgress) : Type 0 where
+pub record RequestInFlight (i : ℕ) (k : Make) (p : JobState) (dev : AbstractDevice)
+    (g : AbstractProgress) : Type 0 where
   pub linked : p.linked ≡ true
   pub served : p.served ≡ true
   pub todo : p.todo ≡ request_awaited g
@@ -65,7 +71,9 @@ pub record ReplyInFlight (i : ℕ) (k : Make) (p : JobState) (dev : AbstractDevi
   pub due : p.due ≡ reply ∷ []
   pub waits : request_awaited g ≢ []
   pub calm : IsCalm p.session.transfer
-  pub right : IsRight i k p.session (hear_at g p.session.job p.client reply) dev (hear_at g p.session.job p.client reply).stage
+  pub right
+      : IsRight i k p.session (hear_at g p.session.job p.client reply) dev
+      (hear_at g p.session.job p.client reply).stage
 
 -- the daemon ended the session: for lack of memory, or at a reply that it could not say
 pub record SessionIsDead (p : JobState) (g : AbstractProgress) : Type 0 where

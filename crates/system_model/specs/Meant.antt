@@ -1,4 +1,5 @@
--- The frames of a finished page show the picture that the settings mean on the page, where the device's sources are steady.
+-- The frames of a finished page show the picture that the settings mean on the page, where the device's sources are
+-- steady.
 use Rattle.std.specs.Prelude.{◌≡◌, true, List, Some}
 use Rattle.netpbm.specs.Picture.{Picture}
 use Rattle.page_picture.specs.Page.{IsPageView}
@@ -11,5 +12,6 @@ use Rattle.system_model.specs.Sync.{IsPictureOfStart}
 
 abbrev pub PicturesAreMeant : Type 0
 PicturesAreMeant =
-    (k : Make) (settings : List RequestedSetting) (begin : Begin) (frames : List Frame) → IsPictureOfStart k settings begin frames → k.steady ≡ true → IsPageView begin.page →
+    (k : Make) (settings : List RequestedSetting) (begin : Begin) (frames : List Frame)
+    → IsPictureOfStart k settings begin frames → k.steady ≡ true → IsPageView begin.page →
     (p : Picture) × (meaning_of begin.page begin.options.scene ≡ Some p) × ShowsFrames frames p

@@ -1,5 +1,6 @@
 -- The promises, each a statement about all that may stand or come.
-use Rattle.std.specs.Prelude.{true, false, ℕ, ◌+◌, ◌<◌, ◌^◌, ◌≡◌, ◌≢◌, ◌≤◌, ◌⊎◌, suc, List, [], ◌∷◌, ◌++◌, Option, Some, None, length}
+use Rattle.std.specs.Prelude.{true, false, ℕ, ◌+◌, ◌<◌, ◌^◌, ◌≡◌, ◌≢◌, ◌≤◌, ◌⊎◌, suc, List, [], ◌∷◌, ◌++◌, Option, Some}
+use Rattle.std.specs.Prelude.{None, length}
 use Rattle.page_picture.specs.Shows.{Frame}
 use Rattle.system_model.specs.AbstractMessages.{Challenge, AbstractRequest, Status, Why}
 use Rattle.system_model.specs.Devices.{Make, OptionsInForce, descriptors_in_force, readable_options}
@@ -12,7 +13,8 @@ use Rattle.system_model.specs.Grounds.{HaveGrounds}
 use Rattle.system_model.specs.SystemStates.{SystemState, listed_devices, initial_job, make_for}
 use Rattle.system_model.specs.Actions
 use Rattle.system_model.specs.Actions.{Action}
-use Rattle.system_model.specs.Transitions.{Transition, By, IsUnderWay, IsEnabled, IsHistory, after_transition, after_all}
+use Rattle.system_model.specs.Transitions.{Transition, By, IsUnderWay, IsEnabled, IsHistory, after_transition}
+use Rattle.system_model.specs.Transitions.{after_all}
 use Rattle.system_model.specs.Sync.{IsPermitted, IsPictureOfStart, ArePictures, AllInForce}
 use Rattle.system_model.specs.Invariants.{Invariant, IsCaused}
 use Rattle.system_model.specs.Marks.{touched_device, MarksLead, device_view, marks, starts_in}
@@ -22,39 +24,47 @@ use Rattle.system_model.specs.Variant.{control_variant, job_variant, action_cost
 -- HISTORIES
 -- nothing has happened
 abbrev pub initial_state : (ℕ → Make) → (ℕ → AbstractDevice) → (ℕ → AbstractJob) → List ℕ → SystemState
-initial_state make device job places = record { make = make; device = device; job = λ i. initial_job (job i); places = places }
+initial_state make device job places =
+    record { make = make; device = device; job = λ i. initial_job (job i); places = places }
 
 -- the invariant holds before anything has happened, where no device is held and all are fit
 abbrev pub InitialStateIsInvariant : Type 0
 InitialStateIsInvariant =
     (make : ℕ → Make) (device : ℕ → AbstractDevice) (job : ℕ → AbstractJob) (places : List ℕ) →
-    ((d : ℕ) → (device d).holder ≡ None) → ((d : ℕ) → DeviceInvariant (make d) (device d)) → Invariant (initial_state make device job places)
+    ((d : ℕ) → (device d).holder ≡ None) → ((d : ℕ) → DeviceInvariant (make d) (device d))
+    → Invariant (initial_state make device job places)
 
 abbrev pub HistoriesKeepInvariant : Type 0
-HistoriesKeepInvariant = (s : SystemState) (xs : List Transition) → Invariant s → IsHistory s xs → Invariant (after_all s xs)
+HistoriesKeepInvariant = (s : SystemState) (xs : List Transition) → Invariant s → IsHistory s xs
+    → Invariant (after_all s xs)
 
 -- JOBS THAT ARE DONE
--- A scan that is done has one page, and where the sources are steady its frames are those of the picture that its settings mean on the
--- page of its first start.
+-- A scan that is done has one page, and where the sources are steady its frames are those of the picture that its
+-- settings mean on the page of its first start.
 abbrev pub ScansAreRight : Type 0
 ScansAreRight =
     (s : SystemState) (i : ℕ) → Invariant s → (s.job i).client.stage ≡ Done → (s.job i).session.job.task ≡ Scan →
-    (begin : Begin) × (later : List Begin) × (frames : List Frame) × ((s.job i).session.started ≡ begin ∷ later) × ((s.job i).client.pages ≡ frames ∷ [])
+    (begin : Begin) × (later : List Begin) × (frames : List Frame) × ((s.job i).session.started ≡ begin ∷ later)
+    × ((s.job i).client.pages ≡ frames ∷ [])
     × IsPictureOfStart (make_for s i) (s.job i).session.job.settings begin frames
 
 -- Whatever became of a job, each page that it finished is that of its start.
 abbrev pub PagesAreRight : Type 0
 PagesAreRight =
     (s : SystemState) (i : ℕ) → Invariant s →
-    (begins : List Begin) × (later : List Begin) × ((s.job i).session.started ≡ begins ++ later) × ArePictures (make_for s i) (s.job i).session.job.settings begins (s.job i).client.pages
+    (begins : List Begin) × (later : List Begin) × ((s.job i).session.started ≡ begins ++ later)
+    × ArePictures (make_for s i) (s.job i).session.job.settings begins (s.job i).client.pages
 
 -- A batch that is done has its count of pages, or fewer, but one at least, and then the tray ran out.
 abbrev pub BatchPagesAreCounted : Type 0
 BatchPagesAreCounted =
     (s : SystemState) (i n : ℕ) → Invariant s → (s.job i).client.stage ≡ Done → (s.job i).session.job.task ≡ Batch n →
-    (length (s.job i).client.pages ≡ suc n) ⊎ (((s.job i).client.pages ≢ []) × (length (s.job i).client.pages ≤ n) × IsCauseAmong TrayRanOut (s.job i).session.met)
+    (length (s.job i).client.pages ≡ suc n)
+    ⊎ (((s.job i).client.pages ≢ []) × (length (s.job i).client.pages ≤ n)
+    × IsCauseAmong TrayRanOut (s.job i).session.met)
 
--- Each setting of a job that is done is answered with the nearest admitted value, INEXACT just where it differs; a list has no settings.
+-- Each setting of a job that is done is answered with the nearest admitted value, INEXACT just where it differs; a list
+-- has no settings.
 abbrev pub SettingsAreAnswered : Type 0
 SettingsAreAnswered =
     (s : SystemState) (i : ℕ) → Invariant s → (s.job i).client.stage ≡ Done → (s.job i).session.job.task ≢ List_ →
@@ -63,17 +73,20 @@ SettingsAreAnswered =
 -- A job that opened a device is done only where that was allowed.
 abbrev pub DoneIsAllowed : Type 0
 DoneIsAllowed =
-    (s : SystemState) (i : ℕ) → Invariant s → (s.job i).client.stage ≡ Done → (s.job i).session.job.task ≢ List_ → IsPermitted (s.job i).session.job (s.job i).session.sent
+    (s : SystemState) (i : ℕ) → Invariant s → (s.job i).client.stage ≡ Done → (s.job i).session.job.task ≢ List_
+    → IsPermitted (s.job i).session.job (s.job i).session.sent
 
 -- A list that is done has the devices that were listed when the daemon read the request.
 abbrev pub ListsAreRight : Type 0
-ListsAreRight = (s : SystemState) (i : ℕ) → Invariant s → (s.job i).client.stage ≡ Done → (s.job i).session.job.task ≡ List_ → (s.job i).session.shown ≡ Some (s.job i).client.devices
+ListsAreRight = (s : SystemState) (i : ℕ) → Invariant s → (s.job i).client.stage ≡ Done
+    → (s.job i).session.job.task ≡ List_ → (s.job i).session.shown ≡ Some (s.job i).client.devices
 
 -- what is listed: of the places in their order, those whose device is listed
 abbrev pub IsListing : (ℕ → AbstractDevice) → List ℕ → List ℕ → Type 0
 IsListing device [] ds = ds ≡ []
 IsListing device (d ∷ places) ds =
-    (((device d).listed ≡ true) × ((rest : List ℕ) × (ds ≡ d ∷ rest) × IsListing device places rest)) ⊎ (((device d).listed ≡ false) × IsListing device places ds)
+    (((device d).listed ≡ true) × ((rest : List ℕ) × (ds ≡ d ∷ rest) × IsListing device places rest))
+    ⊎ (((device d).listed ≡ false) × IsListing device places ds)
 
 abbrev pub ListingsAreTrue : Type 0
 ListingsAreTrue = (s : SystemState) → IsListing s.device s.places (listed_devices s)
@@ -82,22 +95,27 @@ ListingsAreTrue = (s : SystemState) → IsListing s.device s.places (listed_devi
 abbrev pub ShowsAreRight : Type 0
 ShowsAreRight =
     (s : SystemState) (i : ℕ) → Invariant s → (s.job i).client.stage ≡ Done → (s.job i).session.job.task ≡ Show →
-    (options : OptionsInForce) × AllInForce (make_for s i) (s.job i).session.job (s.job i).session.sent (s.job i).client.reports options
+    (options : OptionsInForce)
+    × AllInForce (make_for s i) (s.job i).session.job (s.job i).session.sent (s.job i).client.reports options
     × ((s.job i).client.known ≡ descriptors_in_force (make_for s i) options)
-    × ((s.job i).client.values ≡ values_of (make_for s i) options (readable_options (descriptors_in_force (make_for s i) options)))
+    × ((s.job i).client.values
+    ≡ values_of (make_for s i) options (readable_options (descriptors_in_force (make_for s i) options)))
 
 -- JOBS THAT ENDED
 abbrev pub EndsAreCaused : Type 0
-EndsAreCaused = (s : SystemState) (i : ℕ) (status : Status) (why : Why) → Invariant s → (s.job i).client.stage ≡ Ended status why → IsCaused (make_for s i) (s.job i).session status why
+EndsAreCaused = (s : SystemState) (i : ℕ) (status : Status) (why : Why) → Invariant s
+    → (s.job i).client.stage ≡ Ended status why → IsCaused (make_for s i) (s.job i).session status why
 
 -- each cause that an answer adds is so
 abbrev pub CausesAreGrounded : Type 0
 CausesAreGrounded =
-    (i : ℕ) (k : Make) (dev : AbstractDevice) (c : TransferState) (awaited : Option Challenge) (x : Environment) (q : AbstractRequest) → HaveGrounds i k dev awaited x (answer i k dev c awaited x q).causes
+    (i : ℕ) (k : Make) (dev : AbstractDevice) (c : TransferState) (awaited : Option Challenge) (x : Environment)
+    (q : AbstractRequest) → HaveGrounds i k dev awaited x (answer i k dev c awaited x q).causes
 
 -- what a client has once it is over stays: its outcome, its reports, its pages
 abbrev pub OutcomesLast : Type 0
-OutcomesLast = (s : SystemState) (i : ℕ) (x : Action) → IsEnabled s (By i x) → (IsUnderWay (s.job i).client.stage → ⊥) → ((after_transition s (By i x)).job i).client ≡ (s.job i).client
+OutcomesLast = (s : SystemState) (i : ℕ) (x : Action) → IsEnabled s (By i x) → (IsUnderWay (s.job i).client.stage → ⊥)
+    → ((after_transition s (By i x)).job i).client ≡ (s.job i).client
 
 -- a cancel, a loss, or out of memory at the client
 abbrev pub IsEndingAction : Action → Type 0
@@ -109,46 +127,61 @@ IsEndingAction x = ⊥
 
 -- each of these ends a job
 abbrev pub EndsEnd : Type 0
-EndsEnd = (s : SystemState) (i : ℕ) (x : Action) → IsEndingAction x → IsUnderWay ((after_transition s (By i x)).job i).client.stage → ⊥
+EndsEnd = (s : SystemState) (i : ℕ) (x : Action) → IsEndingAction x
+    → IsUnderWay ((after_transition s (By i x)).job i).client.stage → ⊥
 
 -- DEVICES
 -- the marks of a step may come where its device stands, and lead to where it stands then
 abbrev pub MarksAreEnabled : Type 0
 MarksAreEnabled =
     (s : SystemState) (x : Transition) → Invariant s → IsEnabled s x →
-    MarksLead (device_view (s.make (touched_device s x)) (s.device (touched_device s x))) (marks s x) (device_view (s.make (touched_device s x)) ((after_transition s x).device (touched_device s x)))
+    MarksLead (device_view (s.make (touched_device s x)) (s.device (touched_device s x))) (marks s x)
+    (device_view (s.make (touched_device s x)) ((after_transition s x).device (touched_device s x)))
 
--- What is noted of a job is what its steps show: its starts are those of its marks, and the devices shown to it are those that are listed then.
+-- What is noted of a job is what its steps show: its starts are those of its marks, and the devices shown to it are
+-- those that are listed then.
 abbrev pub NotesAreTrue : Type 0
 NotesAreTrue =
-    (s : SystemState) (i : ℕ) (x : Action) → (((after_transition s (By i x)).job i).session.started ≡ (s.job i).session.started ++ starts_in (marks s (By i x)))
-    × ((ds : List ℕ) → (s.job i).session.shown ≡ None → ((after_transition s (By i x)).job i).session.shown ≡ Some ds → ds ≡ listed_devices s)
+    (s : SystemState) (i : ℕ) (x : Action)
+    → (((after_transition s (By i x)).job i).session.started
+    ≡ (s.job i).session.started ++ starts_in (marks s (By i x)))
+    × ((ds : List ℕ) → (s.job i).session.shown ≡ None → ((after_transition s (By i x)).job i).session.shown ≡ Some ds
+    → ds ≡ listed_devices s)
 
 -- MOVES
 -- a job that is not over has a next move, and none comes before it
 abbrev pub NoDeadlock : Type 0
 NoDeadlock =
     (s : SystemState) (i : ℕ) → Invariant s → IsUnderWay (s.job i).client.stage →
-    (x : Action) × IsMove (s.job i) x × IsEnabled s (By i x) × ((y : Action) → IsMove (s.job i) y → IsEnabled s (By i y) → turn_of x ≤ turn_of y)
+    (x : Action) × IsMove (s.job i) x × IsEnabled s (By i x)
+    × ((y : Action) → IsMove (s.job i) y → IsEnabled s (By i y) → turn_of x ≤ turn_of y)
 
 -- Each step of a running job pays its price: what it puts on the way is taken off its moves.
 abbrev pub StepsArePaid : Type 0
-StepsArePaid = (s : SystemState) (i : ℕ) (x : Action) → Invariant s → IsUnderWay (s.job i).client.stage → IsEnabled s (By i x) → control_variant (after_transition s (By i x)) i + action_cost x ≤ control_variant s i
+StepsArePaid = (s : SystemState) (i : ℕ) (x : Action) → Invariant s → IsUnderWay (s.job i).client.stage
+    → IsEnabled s (By i x) → control_variant (after_transition s (By i x)) i + action_cost x ≤ control_variant s i
 
 -- So its number falls,
 abbrev pub VariantDecreases : Type 0
-VariantDecreases = (s : SystemState) (i : ℕ) (x : Action) → Invariant s → IsUnderWay (s.job i).client.stage → IsEnabled s (By i x) → job_variant (after_transition s (By i x)) i < job_variant s i
+VariantDecreases = (s : SystemState) (i : ℕ) (x : Action) → Invariant s → IsUnderWay (s.job i).client.stage
+    → IsEnabled s (By i x) → job_variant (after_transition s (By i x)) i < job_variant s i
 
 -- no step of another changes it,
 abbrev pub OthersKeepVariant : Type 0
-OthersKeepVariant = (s : SystemState) (i : ℕ) (x : Transition) → Invariant s → IsEnabled s x → IsOthers i x → (job_variant (after_transition s x) i ≡ job_variant s i) × (control_variant (after_transition s x) i ≡ control_variant s i)
+OthersKeepVariant = (s : SystemState) (i : ℕ) (x : Transition) → Invariant s → IsEnabled s x → IsOthers i x
+    → (job_variant (after_transition s x) i ≡ job_variant s i)
+    × (control_variant (after_transition s x) i ≡ control_variant s i)
 
 -- it is 0 just where the job is over,
 abbrev pub VariantEndsAtZero : Type 0
-VariantEndsAtZero = (s : SystemState) (i : ℕ) → (IsUnderWay (s.job i).client.stage → 0 < job_variant s i) × ((IsUnderWay (s.job i).client.stage → ⊥) → job_variant s i ≡ 0)
+VariantEndsAtZero = (s : SystemState) (i : ℕ)
+    → (IsUnderWay (s.job i).client.stage → 0 < job_variant s i)
+    × ((IsUnderWay (s.job i).client.stage → ⊥) → job_variant s i ≡ 0)
 
 -- and it is bounded where nothing has happened: for a job of 64 settings and one page, and for a batch of 16 pages.
 abbrev pub VariantIsBounded : Type 0
 VariantIsBounded =
-    (make : ℕ → Make) (device : ℕ → AbstractDevice) (job : ℕ → AbstractJob) (places : List ℕ) (i : ℕ) → length (job i).settings ≤ 64 →
-    (further_pages (job i).task ≡ 0 → job_variant (initial_state make device job places) i ≤ 2 ^ 34) × (further_pages (job i).task ≤ 15 → job_variant (initial_state make device job places) i ≤ 2 ^ 36)
+    (make : ℕ → Make) (device : ℕ → AbstractDevice) (job : ℕ → AbstractJob) (places : List ℕ) (i : ℕ)
+    → length (job i).settings ≤ 64 →
+    (further_pages (job i).task ≡ 0 → job_variant (initial_state make device job places) i ≤ 2 ^ 34)
+    × (further_pages (job i).task ≤ 15 → job_variant (initial_state make device job places) i ≤ 2 ^ 36)

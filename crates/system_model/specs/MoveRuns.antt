@@ -1,17 +1,19 @@
 -- Runs: moves of jobs one after another, and what all steps of a history show of a device.
 use Rattle.std.specs.Prelude.{ℕ, zero, ◌+◌, ◌<◌, ◌≤◌, suc, List, [], ◌∷◌, ◌++◌, cond, eqb, length}
 use Rattle.system_model.specs.SystemStates.{SystemState}
-use Rattle.system_model.specs.Transitions.{Transition, By, Loads, Unplugs, IsUnderWay, IsHistory, after_transition, after_all}
+use Rattle.system_model.specs.Transitions.{Transition, By, Loads, Unplugs, IsUnderWay, IsHistory, after_transition}
+use Rattle.system_model.specs.Transitions.{after_all}
 use Rattle.system_model.specs.Invariants.{Invariant}
 use Rattle.system_model.specs.Marks.{Mark, MarksLead, marks, device_view, touched_device}
 use Rattle.system_model.specs.Moves.{IsMove}
 use Rattle.system_model.specs.Variant.{job_variant}
 
--- **round robin (`AreMoves`, `RunsToTheEnd`)**: moves of the first n jobs one after another, to where none of them is under
--- way.
+-- **round robin (`AreMoves`, `RunsToTheEnd`)**: moves of the first n jobs one after another, to where none of them is
+-- under way.
 abbrev pub AreMoves : ℕ → SystemState → List Transition → Type 0
 AreMoves n s [] = Unit {0}
-AreMoves n s (By i x ∷ xs) = (i < n) × IsUnderWay (s.job i).client.stage × IsMove (s.job i) x × AreMoves n (after_transition s (By i x)) xs
+AreMoves n s (By i x ∷ xs) = (i < n) × IsUnderWay (s.job i).client.stage × IsMove (s.job i) x
+    × AreMoves n (after_transition s (By i x)) xs
 AreMoves n s (Loads d page ∷ xs) = ⊥
 AreMoves n s (Unplugs d ∷ xs) = ⊥
 
@@ -26,11 +28,13 @@ AreOver n s = (i : ℕ) → i < n → IsUnderWay (s.job i).client.stage → ⊥
 
 -- However moves are taken in turn, there are no more of them than the numbers of the jobs together,
 abbrev pub RunsAreBounded : Type 0
-RunsAreBounded = (n : ℕ) (s : SystemState) (xs : List Transition) → Invariant s → IsHistory s xs → AreMoves n s xs → length xs + sum_to n (job_variant (after_all s xs)) ≤ sum_to n (job_variant s)
+RunsAreBounded = (n : ℕ) (s : SystemState) (xs : List Transition) → Invariant s → IsHistory s xs → AreMoves n s xs
+    → length xs + sum_to n (job_variant (after_all s xs)) ≤ sum_to n (job_variant s)
 
 -- and while a job is under way there is a further one: so the round robin ends with every job over.
 abbrev pub RunsGoOn : Type 0
-RunsGoOn = (n i : ℕ) (s : SystemState) → Invariant s → i < n → IsUnderWay (s.job i).client.stage → (x : Transition) × IsHistory s (x ∷ []) × AreMoves n s (x ∷ [])
+RunsGoOn = (n i : ℕ) (s : SystemState) → Invariant s → i < n → IsUnderWay (s.job i).client.stage
+    → (x : Transition) × IsHistory s (x ∷ []) × AreMoves n s (x ∷ [])
 
 pub record RunsToTheEnd (n : ℕ) (s : SystemState) (xs : List Transition) : Type 0 where
   pub is_history : IsHistory s xs
@@ -44,8 +48,8 @@ RunsEnd = (n : ℕ) (s : SystemState) → Invariant s → (xs : List Transition)
 abbrev pub marks_at : ℕ → SystemState → Transition → List Mark
 marks_at d s x = cond (eqb d (touched_device s x)) (marks s x) []
 
--- **marks of a history (`all_marks`), of a delivery (`delivery_marks`)**: those of its steps, one after another; those of
--- the requests that become whole when so many more bytes have come.
+-- **marks of a history (`all_marks`), of a delivery (`delivery_marks`)**: those of its steps, one after another; those
+-- of the requests that become whole when so many more bytes have come.
 abbrev pub all_marks : ℕ → SystemState → List Transition → List Mark
 all_marks d s [] = []
 all_marks d s (x ∷ xs) = marks_at d s x ++ all_marks d (after_transition s x) xs
@@ -53,4 +57,6 @@ all_marks d s (x ∷ xs) = marks_at d s x ++ all_marks d (after_transition s x) 
 -- The marks of every history are enabled at each device, one after another, and lead to where it stands then.
 abbrev pub HistoryMarksAreEnabled : Type 0
 HistoryMarksAreEnabled =
-    (d : ℕ) (s : SystemState) (xs : List Transition) → Invariant s → IsHistory s xs → MarksLead (device_view (s.make d) (s.device d)) (all_marks d s xs) (device_view (s.make d) ((after_all s xs).device d))
+    (d : ℕ) (s : SystemState) (xs : List Transition) → Invariant s → IsHistory s xs
+    → MarksLead (device_view (s.make d) (s.device d)) (all_marks d s xs)
+    (device_view (s.make d) ((after_all s xs).device d))

@@ -4,9 +4,9 @@ use Rattle.system_model.specs.SystemStates.{JobState}
 use Rattle.system_model.specs.Actions
 use Rattle.system_model.specs.Actions.{Action}
 
--- **next move (`IsMove`, `turn_of`)**: an action that no user, no failure and no lack of memory does; a loss only where the
--- session is over. They are looked for in the order connect, to the daemon, to the client, connect for data, data to the
--- client, data turn, loss.
+-- **next move (`IsMove`, `turn_of`)**: an action that no user, no failure and no lack of memory does; a loss only where
+-- the session is over. They are looked for in the order connect, to the daemon, to the client, connect for data, data
+-- to the client, data turn, loss.
 abbrev pub IsMove : JobState → Action → Type 0
 IsMove p Actions.Connects = Unit {0}
 IsMove p (Actions.Answers challenge fault) = fault ≡ None
@@ -26,7 +26,8 @@ IsMove p (Actions.Breaks memory) = ⊥
 IsMove p Actions.RunsOutOfMemory = ⊥
 IsMove p Actions.Stops = ⊥
 
--- the order in which moves are looked for: connect, to the daemon, to the client, connect for data, data to the client, data turn, and then the loss
+-- the order in which moves are looked for: connect, to the daemon, to the client, connect for data, data to the client,
+-- data turn, and then the loss
 abbrev pub turn_of : Action → ℕ
 turn_of Actions.Connects = 0
 turn_of (Actions.Answers challenge fault) = 1

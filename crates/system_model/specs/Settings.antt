@@ -11,4 +11,6 @@ pair_of requested = (requested.name, requested.text)
 -- the same settings are in force, or none, by both
 abbrev pub SettingsMeanTheSame : Type 0
 SettingsMeanTheSame =
-    (k : Make) (settings : List RequestedSetting) → option_map (λ f. f.options) (abstract_in_force k settings) ≡ option_map (λ r. r.0) (devices.in_force k.model k.order (map pair_of settings))
+    (k : Make) (settings : List RequestedSetting)
+    → option_map (λ f. f.options) (abstract_in_force k settings)
+    ≡ option_map (λ r. r.0) (devices.in_force k.model k.order (map pair_of settings))

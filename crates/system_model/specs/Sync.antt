@@ -1,14 +1,22 @@
--- What is so while a job runs: for each thing that its client may wait for, what client, daemon and device have in common.
+-- What is so while a job runs: for each thing that its client may wait for, what client, daemon and device have in
+-- common.
 use Rattle.std.specs.Prelude.{ℕ, ◌≡◌, ◌≢◌, ◌≤◌, ◌⊎◌, List, [], ◌∷◌, ◌++◌, true, false, Option, Some, None, length}
 use Rattle.option_desc.specs.declared.value.Value.{Value}
 use Rattle.sane_fixed.specs.declared.byte_order.ByteOrder.{ByteOrder as Order}
 use Rattle.sane_fixed.specs.declared.params.Params.{Params}
 use Rattle.page_picture.specs.Shows.{Frame}
-use Rattle.system_model.specs.AbstractMessages.{Report, Status, Good, Eof, IoError, Answer, Short, RequestedSetting, Challenge}
-use Rattle.system_model.specs.Devices.{Make, OptionsInForce, read_status_of, resolve_setting, descriptors_in_force, readable_options, order_of, picture_frames, accepts, frame_overflows, frame_fills}
-use Rattle.system_model.specs.AbstractInForce.{abstract_in_force, abstract_force, with_reports_before, values_of, AreReadable}
-use Rattle.system_model.specs.Client.{AbstractJob, Task, List_, Show, SetOnly, Scan, Batch, further_pages, ClientView, AbstractProgress, Greeting, Listing, Opening, Allowing, Describing, Putting, Getting, Starting, Shaping, Imaging}
-use Rattle.system_model.specs.AbstractDevices.{AbstractDevice, Begin, ScanPhase, Resting, Between, Reading, phase_after_frame}
+use Rattle.system_model.specs.AbstractMessages.{Report, Status, Good, Eof, IoError, Answer, Short, RequestedSetting}
+use Rattle.system_model.specs.AbstractMessages.{Challenge}
+use Rattle.system_model.specs.Devices.{Make, OptionsInForce, read_status_of, resolve_setting, descriptors_in_force}
+use Rattle.system_model.specs.Devices.{readable_options, order_of, picture_frames, accepts, frame_overflows}
+use Rattle.system_model.specs.Devices.{frame_fills}
+use Rattle.system_model.specs.AbstractInForce.{abstract_in_force, abstract_force, with_reports_before, values_of}
+use Rattle.system_model.specs.AbstractInForce.{AreReadable}
+use Rattle.system_model.specs.Client.{AbstractJob, Task, List_, Show, SetOnly, Scan, Batch, further_pages, ClientView}
+use Rattle.system_model.specs.Client.{AbstractProgress, Greeting, Listing, Opening, Allowing, Describing, Putting}
+use Rattle.system_model.specs.Client.{Getting, Starting, Shaping, Imaging}
+use Rattle.system_model.specs.AbstractDevices.{AbstractDevice, Begin, ScanPhase, Resting, Between, Reading}
+use Rattle.system_model.specs.AbstractDevices.{phase_after_frame}
 use Rattle.system_model.specs.Daemon.{Quiet, Waiting, Streaming}
 use Rattle.system_model.specs.Causes.{IsExplained}
 use Rattle.system_model.specs.SystemStates.{SessionView}
@@ -37,21 +45,24 @@ Scans (Batch n) = Unit {0}
 abbrev pub IsPermitted : AbstractJob → Option Challenge → Type 0
 IsPermitted job sent = (job.guarded ≡ false) ⊎ ((c : Challenge) × (sent ≡ Some c) × (job.allows c ≡ true))
 
--- **a picture of a start (`IsPictureOfStart`, `ArePictures`, `PagesAreOfStarts`)**: frames that are those of the start's
--- options, the settings in force, on its page; each finished page is that of its start.
+-- **a picture of a start (`IsPictureOfStart`, `ArePictures`, `PagesAreOfStarts`)**: frames that are those of the
+-- start's options, the settings in force, on its page; each finished page is that of its start.
 --
--- There are frames, and where the device's sources are steady they are those of the picture that the job's settings mean on the page
--- of this start.
+-- There are frames, and where the device's sources are steady they are those of the picture that the job's settings
+-- mean on the page of this start.
 abbrev pub IsPictureOfStart : Make → List RequestedSetting → Begin → List Frame → Type 0
 IsPictureOfStart k settings begin frames =
-    ((reports : List Report) × (abstract_in_force k settings ≡ Some (record { options = begin.options; reports = reports }))) × (k.steady ≡ true → frames ≡ picture_frames k begin.options begin.page) × (frames ≢ [])
+    ((reports : List Report)
+    × (abstract_in_force k settings ≡ Some (record { options = begin.options; reports = reports })))
+    × (k.steady ≡ true → frames ≡ picture_frames k begin.options begin.page) × (frames ≢ [])
 
 -- each of these pages is that of its start
 abbrev pub ArePictures : Make → List RequestedSetting → List Begin → List (List Frame) → Type 0
 ArePictures k settings [] [] = Unit {0}
 ArePictures k settings [] (page ∷ pages) = ⊥
 ArePictures k settings (begin ∷ begins) [] = ⊥
-ArePictures k settings (begin ∷ begins) (page ∷ pages) = IsPictureOfStart k settings begin page × ArePictures k settings begins pages
+ArePictures k settings (begin ∷ begins) (page ∷ pages) = IsPictureOfStart k settings begin page
+    × ArePictures k settings begins pages
 
 -- client i holds the device, with these options in force, in this phase
 pub record HoldsDevice (i : ℕ) (dev : AbstractDevice) (options : OptionsInForce) (phase : ScanPhase) : Type 0 where
@@ -67,7 +78,8 @@ pub record Still (b : SessionView) : Type 0 where
   pub awaited : b.awaited ≡ None
 
 -- no device is held yet
-pub record NotYet (i : ℕ) (b : SessionView) (m : ClientView) (dev : AbstractDevice) (awaited : Option Challenge) : Type 0 where
+pub record NotYet (i : ℕ) (b : SessionView) (m : ClientView) (dev : AbstractDevice)
+    (awaited : Option Challenge) : Type 0 where
   pub free : dev.holder ≢ Some i
   pub transfer : b.transfer ≡ Quiet
   pub flight : b.flight ≡ []
@@ -82,7 +94,8 @@ pub record NotYet (i : ℕ) (b : SessionView) (m : ClientView) (dev : AbstractDe
   pub pages : m.pages ≡ []
 
 -- the settings but these are in force
-pub record SettingsInForce (i : ℕ) (k : Make) (b : SessionView) (m : ClientView) (dev : AbstractDevice) (left : List RequestedSetting) (options : OptionsInForce) : Type 0 where
+pub record SettingsInForce (i : ℕ) (k : Make) (b : SessionView) (m : ClientView) (dev : AbstractDevice)
+    (left : List RequestedSetting) (options : OptionsInForce) : Type 0 where
   pub held : HoldsDevice i dev options Resting
   pub still : Still b
   pub so_far : abstract_in_force k b.job.settings ≡ with_reports_before m.reports (abstract_force left k options)
@@ -93,19 +106,22 @@ pub record SettingsInForce (i : ℕ) (k : Make) (b : SessionView) (m : ClientVie
   pub frames : m.frames ≡ []
   pub pages : m.pages ≡ []
 
-pub record IsPutting (i : ℕ) (k : Make) (b : SessionView) (m : ClientView) (dev : AbstractDevice) (n : ℕ) (value : Value) (requested : RequestedSetting) (left : List RequestedSetting) : Type 0 where
+pub record IsPutting (i : ℕ) (k : Make) (b : SessionView) (m : ClientView) (dev : AbstractDevice) (n : ℕ)
+    (value : Value) (requested : RequestedSetting) (left : List RequestedSetting) : Type 0 where
   pub options : OptionsInForce
   pub settles : SettingsInForce i k b m dev (requested ∷ left) options
   pub known : m.known ≡ descriptors_in_force k options
   pub resolved : resolve_setting m.known requested ≡ Some (n, value)
 
 -- all settings are in force, and the device may be opened
-pub record AllInForce (k : Make) (job : AbstractJob) (sent : Option Challenge) (reports : List Report) (options : OptionsInForce) : Type 0 where
+pub record AllInForce (k : Make) (job : AbstractJob) (sent : Option Challenge) (reports : List Report)
+    (options : OptionsInForce) : Type 0 where
   pub forced : abstract_in_force k job.settings ≡ Some (record { options = options; reports = reports })
   pub permitted : IsPermitted job sent
 
 -- the values but these are told
-pub record IsGetting (i : ℕ) (k : Make) (b : SessionView) (m : ClientView) (dev : AbstractDevice) (left : List ℕ) : Type 0 where
+pub record IsGetting (i : ℕ) (k : Make) (b : SessionView) (m : ClientView) (dev : AbstractDevice)
+    (left : List ℕ) : Type 0 where
   pub options : OptionsInForce
   pub held : HoldsDevice i dev options Resting
   pub still : Still b
@@ -127,9 +143,10 @@ pub record Ready (i : ℕ) (k : Make) (b : SessionView) (m : ClientView) (dev : 
   pub pictures : ArePictures k b.job.settings b.started m.pages
   pub fewer : length m.pages ≤ further_pages b.job.task
 
--- A page is under way: the frames but these are heard, of the picture of its start where the sources are steady; the pages before it
--- are those of theirs.
-pub record PageUnderWay (k : Make) (job : AbstractJob) (sent : Option Challenge) (starts : List Begin) (reports : List Report) (pages : List (List Frame)) (done more : List Frame) : Type 0 where
+-- A page is under way: the frames but these are heard, of the picture of its start where the sources are steady; the
+-- pages before it are those of theirs.
+pub record PageUnderWay (k : Make) (job : AbstractJob) (sent : Option Challenge) (starts : List Begin)
+    (reports : List Report) (pages : List (List Frame)) (done more : List Frame) : Type 0 where
   pub earlier : List Begin
   pub begin : Begin
   pub started : starts ≡ earlier ++ begin ∷ []
@@ -161,8 +178,10 @@ pub record IsShaping (i : ℕ) (k : Make) (b : SessionView) (m : ClientView) (de
   pub ending : b.ending ≡ None
   pub awaited : b.awaited ≡ None
 
--- THE DATA CONNECTION OF A FRAME is in one of four states. So much of the frame that the device has is still to be read;
-pub record StillReading (i : ℕ) (k : Make) (b : SessionView) (dev : AbstractDevice) (options : OptionsInForce) (more : List Frame) (heard rest : List ℕ) : Type 0 where
+-- THE DATA CONNECTION OF A FRAME is in one of four states. So much of the frame that the device has is still to be
+-- read;
+pub record StillReading (i : ℕ) (k : Make) (b : SessionView) (dev : AbstractDevice) (options : OptionsInForce)
+    (more : List Frame) (heard rest : List ℕ) : Type 0 where
   pub meant : Frame
   pub held : HoldsDevice i dev options (Reading meant rest more)
   pub ending : b.ending ≡ None
@@ -171,7 +190,8 @@ pub record StillReading (i : ℕ) (k : Make) (b : SessionView) (dev : AbstractDe
   pub unread : (status : Status) → read_status_of k options ≡ Some status → (heard ≡ []) × (b.flight ≡ [])
 
 -- all of it was sent;
-pub record FlowsOut (i : ℕ) (b : SessionView) (dev : AbstractDevice) (options : OptionsInForce) (more : List Frame) (rest : List ℕ) : Type 0 where
+pub record FlowsOut (i : ℕ) (b : SessionView) (dev : AbstractDevice) (options : OptionsInForce) (more : List Frame)
+    (rest : List ℕ) : Type 0 where
   pub meant : Frame
   pub held : HoldsDevice i dev options (phase_after_frame meant more)
   pub nothing : rest ≡ []
@@ -197,11 +217,14 @@ pub record ReadWasRefused (i : ℕ) (b : SessionView) (dev : AbstractDevice) : T
   pub cause : IsExplained status Answer b.met
   pub transfer : b.transfer ≡ Quiet
 
-abbrev pub DataUnderWay : ℕ → Make → SessionView → AbstractDevice → OptionsInForce → List Frame → List ℕ → List ℕ → Type 0
-DataUnderWay i k b dev o more heard rest = StillReading i k b dev o more heard rest ⊎ (FlowsOut i b dev o more rest ⊎ (CutShort i b dev heard ⊎ ReadWasRefused i b dev))
+abbrev pub DataUnderWay : ℕ → Make → SessionView → AbstractDevice → OptionsInForce → List Frame → List ℕ → List ℕ
+    → Type 0
+DataUnderWay i k b dev o more heard rest = StillReading i k b dev o more heard rest
+    ⊎ (FlowsOut i b dev o more rest ⊎ (CutShort i b dev heard ⊎ ReadWasRefused i b dev))
 
 -- the data of a frame come: what was heard, what is on the way, and what is to come are its payload
-pub record Images (i : ℕ) (k : Make) (b : SessionView) (m : ClientView) (dev : AbstractDevice) (params : Params) (heard : List ℕ) : Type 0 where
+pub record Images (i : ℕ) (k : Make) (b : SessionView) (m : ClientView) (dev : AbstractDevice) (params : Params)
+    (heard : List ℕ) : Type 0 where
   pub frame : Frame
   pub more : List Frame
   pub continues : PageUnderWay k b.job b.sent b.started m.reports m.pages m.frames (frame ∷ more)

@@ -7,9 +7,9 @@ use Rattle.system_model.specs.AbstractDevices.{AbstractDevice, Begin}
 use Rattle.system_model.specs.Daemon.{TransferState, Quiet}
 use Rattle.system_model.specs.Causes.{Cause}
 
--- **system state (`SessionView`, `JobState`, `SystemState`)**: of each place its device, of each client its job, what it
--- knows, the requests not answered and replies not heard, its links, the challenge, the bytes of a frame on the way, the
--- starts and the causes met so far.
+-- **system state (`SessionView`, `JobState`, `SystemState`)**: of each place its device, of each client its job, what
+-- it knows, the requests not answered and replies not heard, its links, the challenge, the bytes of a frame on the way,
+-- the starts and the causes met so far.
 --
 -- what stands of a job beside its control connection
 pub record SessionView : Type 0 where
@@ -55,7 +55,19 @@ with_entry f i x j = cond (eqb j i) x (f j)
 abbrev pub initial_job : AbstractJob → JobState
 initial_job job =
     record {
-      session = record { job = job; transfer = Quiet; awaited = None; sent = None; flight = []; ending = None; started = []; shown = None; met = [] };
+      session =
+          record {
+            job = job;
+            transfer = Quiet;
+            awaited = None;
+            sent = None;
+            flight = [];
+            ending = None;
+            started =
+                [];
+            shown = None;
+            met = [];
+          };
       client = initial_client;
       todo = [];
       due = [];

@@ -1,5 +1,6 @@
 -- The steps of a world, when they may come, and what stands after them.
-use Rattle.std.specs.Prelude.{ℕ, ◌≡◌, ◌≢◌, ◌<◌, ◌^◌, ◌-◌, ◌⊎◌, List, [], ◌∷◌, ◌++◌, true, false, Option, Some, None, length}
+use Rattle.std.specs.Prelude.{ℕ, ◌≡◌, ◌≢◌, ◌<◌, ◌^◌, ◌-◌, ◌⊎◌, List, [], ◌∷◌, ◌++◌, true, false, Option, Some, None}
+use Rattle.std.specs.Prelude.{length}
 use Rattle.sane_fixed.specs.declared.params.Params.{Params}
 use Rattle.page_picture.specs.Shows.{Frame}
 use Rattle.system_model.specs.AbstractMessages.{Good, Eof, AbstractReply}
@@ -8,7 +9,8 @@ use Rattle.system_model.specs.Devices.{Make, IsPageShaped, read_status_of}
 use Rattle.system_model.specs.Client.{JobStage, Idle, Running, Done, Ended, AbstractProgress, Imaging, request_awaited}
 use Rattle.system_model.specs.AbstractDevices.{AbstractDevice, Resting, Reading}
 use Rattle.system_model.specs.Daemon.{Waiting, Streaming, Ending, FailureCounts}
-use Rattle.system_model.specs.SystemStates.{JobState, SystemState, with_entry, wanted_place, make_for, device_for, listed_devices}
+use Rattle.system_model.specs.SystemStates.{JobState, SystemState, with_entry, wanted_place, make_for, device_for}
+use Rattle.system_model.specs.SystemStates.{listed_devices}
 use Rattle.system_model.specs.Actions
 
 pub data Transition : Type 0 where
@@ -34,7 +36,8 @@ without_listing dev = record dev { listed = false }
 -- what stands after a step
 abbrev pub after_transition : SystemState → Transition → SystemState
 after_transition s (By i x) =
-    state_with_job s i (Actions.job_after_action i (make_for s i) (listed_devices s) (s.job i) (device_for s i) x) (Actions.device_after i (make_for s i) (listed_devices s) (s.job i) (device_for s i) x)
+    state_with_job s i (Actions.job_after_action i (make_for s i) (listed_devices s) (s.job i) (device_for s i) x)
+    (Actions.device_after i (make_for s i) (listed_devices s) (s.job i) (device_for s i) x)
 after_transition s (Loads d page) = with_device_at s d (with_page_laid_in (s.make d) page (s.device d))
 after_transition s (Unplugs d) = with_device_at s d (without_listing (s.device d))
 
@@ -70,41 +73,54 @@ MayFail k (Some f) = (k.fallible ≡ true) × IsFault f
 
 -- the session of client i reads a frame of its device
 abbrev pub ReadsFrameOf : ℕ → JobState → AbstractDevice → Frame → List ℕ → List Frame → Type 0
-ReadsFrameOf i p dev f rest more = (p.session.transfer ≡ Streaming) × (dev.holder ≡ Some i) × (dev.phase ≡ Reading f rest more)
+ReadsFrameOf i p dev f rest more = (p.session.transfer ≡ Streaming) × (dev.holder ≡ Some i)
+    × (dev.phase ≡ Reading f rest more)
 
--- Of the frame these bytes are sent next, and the rest is still to be read: as many as the page means there, and where the device's
--- sources are steady the same.
-pub record SendsOfFrame (i : ℕ) (k : Make) (p : JobState) (dev : AbstractDevice) (f : Frame) (bytes rest : List ℕ) (more : List Frame) : Type 0 where
+-- Of the frame these bytes are sent next, and the rest is still to be read: as many as the page means there, and where
+-- the device's sources are steady the same.
+pub record SendsOfFrame (i : ℕ) (k : Make) (p : JobState) (dev : AbstractDevice) (f : Frame) (bytes rest : List ℕ)
+    (more : List Frame) : Type 0 where
   pub meant : List ℕ
   pub as_many : length bytes ≡ length meant
   pub same : k.steady ≡ true → bytes ≡ meant
   pub reads : ReadsFrameOf i p dev f (meant ++ rest) more
 
--- the actions that may come to the job of client i; a session breaks off where memory runs out, or over a reply that is due
+-- the actions that may come to the job of client i; a session breaks off where memory runs out, or over a reply that is
+-- due
 abbrev pub IsActionEnabled : ℕ → Make → JobState → AbstractDevice → Actions.Action → Type 0
 IsActionEnabled i k p dev Actions.Connects = p.client.stage ≡ Idle
 IsActionEnabled i k p dev (Actions.Answers challenge fault) = (p.served ≡ true) × (p.todo ≢ []) × MayFail k fault
-IsActionEnabled i k p dev (Actions.Hears r) = IsRunning p.client.stage × ((rest : List AbstractReply) × (p.due ≡ r ∷ rest))
+IsActionEnabled i k p dev (Actions.Hears r) = IsRunning p.client.stage
+    × ((rest : List AbstractReply) × (p.due ≡ r ∷ rest))
 IsActionEnabled i k p dev Actions.Dials = IsImaging p.client.stage × (p.session.transfer ≡ Waiting)
-IsActionEnabled i k p dev (Actions.Turns bytes) = (f : Frame) × (rest : List ℕ) × (more : List Frame) × SendsOfFrame i k p dev f bytes rest more × (read_status_of k dev.options ≡ None) × (bytes ≢ [])
-IsActionEnabled i k p dev Actions.TurnsLast = (f : Frame) × (more : List Frame) × ReadsFrameOf i p dev f [] more × (read_status_of k dev.options ≡ None)
+IsActionEnabled i k p dev (Actions.Turns bytes) = (f : Frame) × (rest : List ℕ) × (more : List Frame)
+    × SendsOfFrame i k p dev f bytes rest more × (read_status_of k dev.options ≡ None) × (bytes ≢ [])
+IsActionEnabled i k p dev Actions.TurnsLast = (f : Frame) × (more : List Frame) × ReadsFrameOf i p dev f [] more
+    × (read_status_of k dev.options ≡ None)
 IsActionEnabled i k p dev (Actions.TurnsNamed status) =
-    (f : Frame) × (rest : List ℕ) × (more : List Frame) × ReadsFrameOf i p dev f rest more × (read_status_of k dev.options ≡ Some status) × (status ≢ Eof) × (status ≢ Good)
-IsActionEnabled i k p dev Actions.TurnsShort = (f : Frame) × (rest : List ℕ) × (more : List Frame) × ReadsFrameOf i p dev f rest more × (read_status_of k dev.options ≡ Some Eof)
-IsActionEnabled i k p dev (Actions.TurnsFault fault) = (f : Frame) × (rest : List ℕ) × (more : List Frame) × ReadsFrameOf i p dev f rest more × MayFail k (Some fault)
+    (f : Frame) × (rest : List ℕ) × (more : List Frame) × ReadsFrameOf i p dev f rest more
+    × (read_status_of k dev.options ≡ Some status) × (status ≢ Eof) × (status ≢ Good)
+IsActionEnabled i k p dev Actions.TurnsShort = (f : Frame) × (rest : List ℕ) × (more : List Frame)
+    × ReadsFrameOf i p dev f rest more × (read_status_of k dev.options ≡ Some Eof)
+IsActionEnabled i k p dev (Actions.TurnsFault fault) = (f : Frame) × (rest : List ℕ) × (more : List Frame)
+    × ReadsFrameOf i p dev f rest more × MayFail k (Some fault)
 IsActionEnabled i k p dev Actions.TurnsOff = p.session.transfer ≡ Ending
-IsActionEnabled i k p dev (Actions.Reads bytes) = IsImaging p.client.stage × ((left : List ℕ) × (p.session.flight ≡ bytes ++ left)) × (bytes ≢ [])
-IsActionEnabled i k p dev (Actions.Finishes status) = IsImaging p.client.stage × (p.session.flight ≡ []) × (p.session.ending ≡ Some status)
+IsActionEnabled i k p dev (Actions.Reads bytes) = IsImaging p.client.stage
+    × ((left : List ℕ) × (p.session.flight ≡ bytes ++ left)) × (bytes ≢ [])
+IsActionEnabled i k p dev (Actions.Finishes status) = IsImaging p.client.stage × (p.session.flight ≡ [])
+    × (p.session.ending ≡ Some status)
 IsActionEnabled i k p dev (Actions.Loses memory) = p.linked ≡ true
 IsActionEnabled i k p dev (Actions.LosesImage memory) = p.image ≡ true
-IsActionEnabled i k p dev (Actions.Breaks memory) = (p.served ≡ true) × MayBreak p.client.stage × (memory ≡ false → p.due ≢ [])
+IsActionEnabled i k p dev (Actions.Breaks memory) = (p.served ≡ true) × MayBreak p.client.stage
+    × (memory ≡ false → p.due ≢ [])
 IsActionEnabled i k p dev Actions.RunsOutOfMemory = IsRunning p.client.stage
 IsActionEnabled i k p dev Actions.Stops = IsUnderWay p.client.stage
 
 -- the steps that may come
 abbrev pub IsEnabled : SystemState → Transition → Type 0
 IsEnabled s (By i x) = IsActionEnabled i (make_for s i) (s.job i) (device_for s i) x
-IsEnabled s (Loads d page) = ((s.device d).listed ≡ true) × ((s.device d).phase ≡ Resting) × (has_room (s.make d).model (s.device d).tray ≡ true) × IsPageShaped page
+IsEnabled s (Loads d page) = ((s.device d).listed ≡ true) × ((s.device d).phase ≡ Resting)
+    × (has_room (s.make d).model (s.device d).tray ≡ true) × IsPageShaped page
 IsEnabled s (Unplugs d) = ((s.device d).listed ≡ true) × ((s.device d).holder ≡ None)
 
 -- **history (`IsHistory`, `after_all`)**: enabled transitions one after another, from any client in any order.

@@ -2,7 +2,9 @@
 use Rattle.std.specs.Prelude.{ℕ, suc, ◌+◌, ◌*◌, ◌-◌, ◌≢◌, List, [], ◌∷◌, Bool, true, false, Option, Some, None, length}
 use Rattle.page_picture.specs.Shows.{Frame}
 use Rattle.system_model.specs.AbstractMessages.{Status, AbstractReply}
-use Rattle.system_model.specs.Client.{AbstractJob, further_pages, ClientView, JobStage, Idle, Running, Done, Ended, AbstractProgress, Greeting, Listing, Opening, Allowing, Describing, Putting, Getting, Starting, Shaping, Imaging}
+use Rattle.system_model.specs.Client.{AbstractJob, further_pages, ClientView, JobStage, Idle, Running, Done, Ended}
+use Rattle.system_model.specs.Client.{AbstractProgress, Greeting, Listing, Opening, Allowing, Describing, Putting}
+use Rattle.system_model.specs.Client.{Getting, Starting, Shaping, Imaging}
 use Rattle.system_model.specs.ClientReplies.{hear_at}
 use Rattle.system_model.specs.AbstractDevices.{AbstractDevice, ScanPhase, Resting, Between, Reading}
 use Rattle.system_model.specs.Daemon.{TransferState, Quiet, Waiting, Streaming, Ending}
@@ -11,7 +13,8 @@ use Rattle.system_model.specs.Actions
 use Rattle.system_model.specs.Actions.{Action}
 use Rattle.system_model.specs.Transitions.{Transition, By, Loads, Unplugs}
 
--- as many bytes as two of the wire's longest messages, each of at most 1,048,576: what one exchange puts on the way at most
+-- as many bytes as two of the wire's longest messages, each of at most 1,048,576: what one exchange puts on the way at
+-- most
 abbrev pub exchange_cost : ℕ
 exchange_cost = 2097152
 
@@ -24,8 +27,9 @@ abbrev pub payload_total : List Frame → ℕ
 payload_total [] = 0
 payload_total (f ∷ more) = length f.payload + payload_total more
 
--- What the bytes of these frames cost, each alone in a record of five bytes that is sent in a turn of its own, and what their exchanges cost:
--- START and GET_PARAMETERS with their replies, the connection, the end record, and the request behind it.
+-- What the bytes of these frames cost, each alone in a record of five bytes that is sent in a turn of its own, and what
+-- their exchanges cost: START and GET_PARAMETERS with their replies, the connection, the end record, and the request
+-- behind it.
 abbrev pub frames_cost : List Frame → ℕ
 frames_cost [] = 0
 frames_cost (f ∷ more) = 6 * length f.payload + (5 * exchange_cost + 10) + frames_cost more
@@ -40,7 +44,8 @@ pages_variant (Reading f rest more) later = 2
 abbrev pub flow_variant : ScanPhase → ℕ → ℕ
 flow_variant Resting later = 2
 flow_variant (Between last more) later = 2
-flow_variant (Reading f rest more) later = 6 * length rest + (exchange_cost + 8) + (frames_cost more + page_cost * later)
+flow_variant (Reading f rest more) later =
+    6 * length rest + (exchange_cost + 8) + (frames_cost more + page_cost * later)
 
 abbrev pub start_variant : ScanPhase → ℕ → ℕ
 start_variant Resting later = page_cost * suc later
@@ -64,8 +69,10 @@ progress_variant Greeting n later ph c e = 8 * exchange_cost + (4 * exchange_cos
 progress_variant Listing n later ph c e = 2 * exchange_cost
 progress_variant Opening n later ph c e = 6 * exchange_cost + (4 * exchange_cost * n + tail_variant later)
 progress_variant (Allowing challenge) n later ph c e = 4 * exchange_cost + (4 * exchange_cost * n + tail_variant later)
-progress_variant (Describing left) n later ph c e = 2 * exchange_cost + (4 * exchange_cost * length left + tail_variant later)
-progress_variant (Putting o v w left) n later ph c e = 4 * exchange_cost + (4 * exchange_cost * length left + tail_variant later)
+progress_variant (Describing left) n later ph c e =
+    2 * exchange_cost + (4 * exchange_cost * length left + tail_variant later)
+progress_variant (Putting o v w left) n later ph c e =
+    4 * exchange_cost + (4 * exchange_cost * length left + tail_variant later)
 progress_variant (Getting o left) n later ph c e = 2 * exchange_cost + 2 * exchange_cost * length left
 progress_variant Starting n later ph c e = start_variant ph later
 progress_variant Shaping n later ph c e = 2 * exchange_cost + (1 + flow_variant ph later)
@@ -82,10 +89,12 @@ abbrev pub later_pages : AbstractJob → ClientView → ℕ
 later_pages job m = further_pages job.task - length m.pages
 
 abbrev pub stage_variant_of : JobStage → SessionView → ClientView → AbstractDevice → ℕ
-stage_variant_of st b m dev = stage_variant st (length b.job.settings) (later_pages b.job m) dev.phase b.transfer b.ending
+stage_variant_of st b m dev =
+    stage_variant st (length b.job.settings) (later_pages b.job m) dev.phase b.transfer b.ending
 
 -- a client that runs: its session is over, its request is on the way, or the reply is
-abbrev pub running_variant : Bool → List AbstractReply → AbstractProgress → SessionView → ClientView → AbstractDevice → ℕ
+abbrev pub running_variant : Bool → List AbstractReply → AbstractProgress → SessionView → ClientView → AbstractDevice
+    → ℕ
 running_variant false due g b m dev = 1
 running_variant true [] g b m dev = stage_variant_of (Running g) b m dev
 running_variant true (r ∷ due) g b m dev = exchange_cost + stage_variant_of (hear_at g b.job m r).stage b m dev
@@ -114,12 +123,13 @@ variant_of p dev = control_variant_of p dev + flight_variant_at p.client.stage p
 abbrev pub control_variant : SystemState → ℕ → ℕ
 control_variant s i = control_variant_of (s.job i) (device_for s i)
 
--- **variant (`job_variant`, `control_variant`, `action_cost`)**: what a running job may still do; each action lowers it by
--- what it puts on the way. At most 2^34 for one page, 2^36 for a batch.
+-- **variant (`job_variant`, `control_variant`, `action_cost`)**: what a running job may still do; each action lowers it
+-- by what it puts on the way. At most 2^34 for one page, 2^36 for a batch.
 abbrev pub job_variant : SystemState → ℕ → ℕ
 job_variant s i = variant_of (s.job i) (device_for s i)
 
--- What an action puts on the way, with the move itself: bytes of a request or a reply, or of a record. The bytes of a piece that is taken are not counted here.
+-- What an action puts on the way, with the move itself: bytes of a request or a reply, or of a record. The bytes of a
+-- piece that is taken are not counted here.
 abbrev pub action_cost : Action → ℕ
 action_cost Actions.Connects = exchange_cost + 1
 action_cost (Actions.Answers challenge fault) = exchange_cost

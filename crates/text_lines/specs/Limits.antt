@@ -4,8 +4,8 @@ use Rattle.text_lines.specs.declared.limits.Limits.{Limits}
 use Rattle.text_lines.specs.declared.limits.LimitFault.{LimitFault}
 use Rattle.text_lines.specs.declared.limits.LimitFault.TheVariants.{TooMany, TooLong}
 
--- **limits of lines**: a line keeps them where its number, from 1, and its length, without what ends it, are at most the
--- limits.
+-- **limits of lines**: a line keeps them where its number, from 1, and its length, without what ends it, are at most
+-- the limits.
 pub record IsWithin (limits : Limits) (number : ℕ) (line : List ℕ) : Type 0 where
   pub count : number ≤ limits.lines
   pub size : length line ≤ limits.bytes

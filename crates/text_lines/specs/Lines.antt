@@ -1,4 +1,5 @@
--- How a text is cut into lines. LF ends a line, and the last line may lack it; a CR right before that LF is no part of the line. After a last LF no further line follows.
+-- How a text is cut into lines. LF ends a line, and the last line may lack it; a CR right before that LF is no part of
+-- the line. After a last LF no further line follows.
 use Rattle.std.specs.Prelude.{ℕ, ◌+◌, ◌≡◌, ◌≢◌, List, [], ◌∷◌, ◌++◌, length, Contains}
 use Rattle.std.specs.Str.Lines.{lines}
 
@@ -37,8 +38,8 @@ AreLines [] text = text ≡ []
 AreLines (line ∷ more) text = (rest : List ℕ) × IsFirstLine text line rest × AreLines more rest
 
 -- **lines of a text (`lines_of`)**: a line is ended by LF, by CR and LF, or, if it has bytes, by the end of the text. A
--- line that LF alone ends does not end in CR, and no line has an LF. The lines of a text are its first line and the lines
--- of the rest; none for the empty text. A text is cut in exactly one way.
+-- line that LF alone ends does not end in CR, and no line has an LF. The lines of a text are its first line and the
+-- lines of the rest; none for the empty text. A text is cut in exactly one way.
 --
 -- the lines of a text, as the standard library computes them
 unfoldable pub lines_of : List ℕ → List (List ℕ)
@@ -49,8 +50,8 @@ abbrev pub AllAfter : (List (List ℕ) → List ℕ → Type 0) → List (List �
 AllAfter Good before [] = Unit {0}
 AllAfter Good before (line ∷ more) = Good before line × AllAfter Good (before ++ line ∷ []) more
 
--- **first faulty line (`IsFirstFaulty`)**: the text's lines are some good ones, each judged after those before it, then one
--- that is not; its number is one more than how many stand before it.
+-- **first faulty line (`IsFirstFaulty`)**: the text's lines are some good ones, each judged after those before it, then
+-- one that is not; its number is one more than how many stand before it.
 pub record IsFirstFaulty (Good Bad : List (List ℕ) → List ℕ → Type 0) (text : List ℕ) (number : ℕ) : Type 0 where
   pub before : List (List ℕ)
   pub line : List ℕ

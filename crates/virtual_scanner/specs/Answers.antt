@@ -8,7 +8,8 @@ use Rattle.scan_frames.specs.declared.setup.Setup.{Setup}
 use Rattle.device_api.specs.State.{read_status_at}
 
 -- the frame gave no byte, for a reason that the status tells
-pub record FrameEndsWith (setup : Setup) (was : FrameAndSource) (status : Status) (now : FrameAndSource) (buf : List ℕ) : Type 0 where
+pub record FrameEndsWith (setup : Setup) (was : FrameAndSource) (status : Status) (now : FrameAndSource)
+    (buf : List ℕ) : Type 0 where
   pub reason : ReadEnd
   pub told : status ≡ end_status reason
   pub ends : ReadsFrame setup was (Err reason) now buf
@@ -25,4 +26,5 @@ AnswersUnless (Some status) setup was result now buf = (result ≡ Err status) �
 
 -- the status that the options tell in place of the first bytes, or what the frame gives
 abbrev pub AnswersRead : Setup → FrameAndSource → Result ℕ Status → FrameAndSource → List ℕ → Type 0
-AnswersRead setup was result now buf = AnswersUnless (read_status_at setup.told (given_in was.frame)) setup was result now buf
+AnswersRead setup was result now buf =
+    AnswersUnless (read_status_at setup.told (given_in was.frame)) setup was result now buf

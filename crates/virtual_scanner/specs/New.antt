@@ -10,10 +10,11 @@ use Rattle.device_api.specs.Values.{defaults}
 use Rattle.sane_fixed.specs.declared.device_info.DeviceInfo.{DeviceInfo}
 
 abbrev pub device_info_of : DeviceKind → List ℕ → DeviceInfo
-device_info_of kind name = record { name = name; vendor = codes "Virtual"; model = model_of kind; class = class_of kind }
+device_info_of kind name =
+    record { name = name; vendor = codes "Virtual"; model = model_of kind; class = class_of kind }
 
--- **a new scanner (`new_device`, `new_scanner`)**: of a kind and a name, at rest, its options at their defaults, with the
--- pages of sources, or with one.
+-- **a new scanner (`new_device`, `new_scanner`)**: of a kind and a name, at rest, its options at their defaults, with
+-- the pages of sources, or with one.
 abbrev pub new_device : DeviceKind → List ℕ → List SourceState → ByteOrder → DeviceState
 new_device kind name sources order = record {
   info = device_info_of kind name;

@@ -3,25 +3,13 @@ use Rattle.std.proofs.Common.{◌≡◌, ◌≢◌, ℕ, List, [], ◌∷◌, �
 use Rattle.std.specs.Prelude.{IfOk, IfErr, IfSome}
 use Rattle.std.proofs.lemmas.List.{append-nil}
 use Rattle.wire_format.specs.declared.fault.Fault.TheVariants as faults
-use Rattle.wire_format.specs.declared.fault.ReadStop.{ReadStop}
-use Rattle.wire_format.specs.declared.fault.ReadStop.TheVariants.{More, Bad}
-use Rattle.wire_format.specs.declared.fault.ReadError.{ReadError}
-use Rattle.wire_format.specs.declared.fault.ReadError.TheVariants as read_errors
-use Rattle.wire_format.specs.Format.{Format, ReadingFails, IsBytes}
+use Rattle.wire_format.specs.Format.{Format, IsBytes}
 use Rattle.wire_format.specs.Lawful.{SpellsFront, ReaderIsExact}
 use Rattle.wire_format.specs.Limit.{limited_format, NeedsMore, IsNoStart}
 use Rattle.wire_format.proofs.ReadLimits.{limited_sound, limited_more, limited_bad, limited_first}
 use Rattle.wire_message.specs.declared.message_fault.WireFault.{WireFault}
 use Rattle.wire_message.specs.declared.message_fault.WireFault.TheVariants as wire
-use Rattle.wire_codec.specs.Decoders.{DecoderState, DecodesTo, Stops, IsFaultOf, with_decoder_fault, TakenMessage, IsSpelled, AreSpelled, HasDecoded}
-
--- an error of reading tells what reading gives
-pub stops_tell : {A : Type 0} (result : Result (Option A) WireFault) (old new : DecoderState) (e : ReadError) (read : Result (A × List ℕ) ReadStop) → Stops result old new e → ReadingFails e read → DecodesTo result old new read
-stops_tell result old new read_errors.Memory read s h = rw s.0 s.1
-stops_tell result old new (read_errors.Stop (More wanted)) read s h = rw s.0 (s.1, (wanted, h))
-stops_tell result old new (read_errors.Stop (Bad faults.BadCode)) read s h = rw s.0 (s.1, h)
-stops_tell result old new (read_errors.Stop (Bad faults.BadValue)) read s h = rw s.0 (s.1, h)
-stops_tell result old new (read_errors.Stop (Bad faults.TooLong)) read s h = rw s.0 (s.1, h)
+use Rattle.wire_codec.specs.Decoders.{DecoderState, DecodesTo, IsFaultOf, TakenMessage, IsSpelled, AreSpelled, HasDecoded}
 
 -- a kept fault is no message, nor the want of one
 pub taken_always : {M : Type 0} (fault : Option WireFault) (result : Result M WireFault) (P : M → Type 0) (Q : WireFault → Type 0) → IfSome fault (λ f. (result ≡ Err f) × Q f) → (fault ≡ None → IfOk result P) → IfOk result P
@@ -54,14 +42,6 @@ tells_first n F f (Err wire.NoMem) old new t = λ other. absurd (other refl)
 tells_first n F f (Err wire.BadCode) old new t = λ other. limited_bad n F f old.rest _ t.1
 tells_first n F f (Err wire.BadValue) old new t = λ other. limited_bad n F f old.rest _ t.1
 tells_first n F f (Err wire.TooLong) old new t = λ other. limited_bad n F f old.rest _ t.1
-
-pub tells_err : {A : Type 0} (result : Result (Option A) WireFault) (old new : DecoderState) (read : Result (A × List ℕ) ReadStop)
-    → DecodesTo result old new read → IfErr result (λ f. new ≡ with_decoder_fault old f)
-tells_err (Ok m) old new read t = tt
-tells_err (Err wire.NoMem) old new read t = t
-tells_err (Err wire.BadCode) old new read t = t.0
-tells_err (Err wire.BadValue) old new read t = t.0
-tells_err (Err wire.TooLong) old new read t = t.0
 
 pub tells_which : {A : Type 0} (n : ℕ) (F : Format A) → ReaderIsExact F → (result : Result (Option A) WireFault) (old new : DecoderState) → IsBytes old.rest
     → DecodesTo result old new ((limited_format n F).read old.rest)

@@ -35,12 +35,6 @@ still_pending rest p fits pending within fewer from =
 pub seen_whole : (rest : List ℕ) (p : Pending) → IsPending rest p → p.seen ≡ length rest → StopsForMore p.procedure rest p.wanted
 seen_whole rest p pending seen = subst (λ (l : List ℕ). StopsForMore p.procedure l p.wanted) (ap (λ (n : ℕ). take n rest) seen ∙ take_all (length rest) rest (omega arith)) pending.stops
 
-pub now_pending : (rest : List ℕ) (procedure : Option Procedure) (wanted : MissingBytes) (seen : ℕ) → seen ≡ length rest → StopsForMore procedure rest wanted → IsPending rest (record { procedure = procedure; wanted = wanted; seen = seen })
-now_pending rest procedure wanted seen is stops = record {
-  within = omega (arith, is);
-  stops = subst (λ (l : List ℕ). StopsForMore procedure l wanted) (sym (ap (λ (n : ℕ). take n rest) is ∙ take_all (length rest) rest (omega arith))) stops;
-}
-
 -- the same of more bytes
 pub pending_more : (rest more : List ℕ) (pending : Option Pending) → IfSome pending (IsPending rest) → IfSome pending (IsPending (rest ++ more))
 pending_more rest more None h = tt

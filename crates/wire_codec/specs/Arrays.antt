@@ -35,10 +35,15 @@ pub record IsReadSoFar (F G : Format Reply) (used : ℕ) (bytes : List ℕ) : Ty
   pub goes : (back : List ℕ) → F.read (take used bytes ++ back) ≡ G.read back
 
 abbrev pub DevicesBegun : List ℕ → Devices → Type 0
-DevicesBegun bytes d = IsReadSoFar (reply procedures.GetDevices) (rest_of_array next_device (devices_end d.status d.count) d.elements.front.items d.elements.left) d.elements.used bytes
+DevicesBegun bytes d =
+    IsReadSoFar (reply procedures.GetDevices)
+    (rest_of_array next_device (devices_end d.status d.count) d.elements.front.items d.elements.left) d.elements.used
+    bytes
 
 abbrev pub OptionsBegun : List ℕ → Elements Descriptor → Type 0
-OptionsBegun bytes e = IsReadSoFar (reply procedures.GetOptionDescriptors) (rest_of_array next_descriptor options_end e.front.items e.left) e.used bytes
+OptionsBegun bytes e =
+    IsReadSoFar (reply procedures.GetOptionDescriptors) (rest_of_array next_descriptor options_end e.front.items e.left)
+    e.used bytes
 
 abbrev pub ArraysAreReadSoFar : List ℕ → ArraysSoFar → Type 0
 ArraysAreReadSoFar bytes b = IfSome b.devices (DevicesBegun bytes) × IfSome b.options (OptionsBegun bytes)

@@ -28,13 +28,17 @@ abbrev pub with_decoder_fault : DecoderState → WireFault → DecoderState
 with_decoder_fault old fault = record { rest = old.rest; fault = Some fault }
 
 -- A call's result is what the reading gives, or that memory ran out. A fault is kept.
-abbrev pub DecodesTo : {A : Type 0} → Result (Option A) WireFault → DecoderState → DecoderState → Result (A × List ℕ) ReadStop → Type 0
+abbrev pub DecodesTo : {A : Type 0} → Result (Option A) WireFault → DecoderState → DecoderState
+    → Result (A × List ℕ) ReadStop → Type 0
 DecodesTo {A = A} (Ok (Some x)) old new read = (new.fault ≡ None) × (read ≡ Ok (x, new.rest))
 DecodesTo {A = A} (Ok None) old new read = (new ≡ old) × ((wanted : MissingBytes) × (read ≡ Err (More wanted)))
 DecodesTo {A = A} (Err wire.NoMem) old new read = new ≡ with_decoder_fault old wire.NoMem
-DecodesTo {A = A} (Err wire.BadCode) old new read = (new ≡ with_decoder_fault old wire.BadCode) × (read ≡ Err (Bad faults.BadCode))
-DecodesTo {A = A} (Err wire.BadValue) old new read = (new ≡ with_decoder_fault old wire.BadValue) × (read ≡ Err (Bad faults.BadValue))
-DecodesTo {A = A} (Err wire.TooLong) old new read = (new ≡ with_decoder_fault old wire.TooLong) × (read ≡ Err (Bad faults.TooLong))
+DecodesTo {A = A} (Err wire.BadCode) old new read = (new ≡ with_decoder_fault old wire.BadCode)
+    × (read ≡ Err (Bad faults.BadCode))
+DecodesTo {A = A} (Err wire.BadValue) old new read = (new ≡ with_decoder_fault old wire.BadValue)
+    × (read ≡ Err (Bad faults.BadValue))
+DecodesTo {A = A} (Err wire.TooLong) old new read = (new ≡ with_decoder_fault old wire.TooLong)
+    × (read ≡ Err (Bad faults.TooLong))
 
 -- the fault is that of the first word or byte at which no spelling stands
 pub record IsFaultOf {A : Type 0} (n : ℕ) (F : Format A) (bytes : List ℕ) (given : WireFault) : Type 0 where
@@ -55,7 +59,8 @@ IsSpelled text (TakenReply procedure r) = (limited_format message_limit (reply p
 -- the text is spellings of the messages, one after the other
 abbrev pub AreSpelled : List TakenMessage → List ℕ → Type 0
 AreSpelled [] text = text ≡ []
-AreSpelled (m ∷ ms) text = (front : List ℕ) × (back : List ℕ) × (text ≡ front ++ back) × IsSpelled front m × AreSpelled ms back
+AreSpelled (m ∷ ms) text = (front : List ℕ) × (back : List ℕ) × (text ≡ front ++ back) × IsSpelled front m
+    × AreSpelled ms back
 
 -- the bytes fed are the spellings of the messages taken, and then the rest
 pub record HasDecoded (fed : List ℕ) (taken : List TakenMessage) (w : DecoderState) : Type 0 where
@@ -67,4 +72,5 @@ pub record HasDecoded (fed : List ℕ) (taken : List TakenMessage) (w : DecoderS
 abbrev pub Stops : {A : Type 0} → Result (Option A) WireFault → DecoderState → DecoderState → ReadError → Type 0
 Stops result old new read_errors.Memory = (result ≡ Err wire.NoMem) × (new ≡ with_decoder_fault old wire.NoMem)
 Stops result old new (read_errors.Stop (More wanted)) = (result ≡ Ok None) × (new ≡ old)
-Stops result old new (read_errors.Stop (Bad fault)) = (result ≡ Err (wire_fault fault)) × (new ≡ with_decoder_fault old (wire_fault fault))
+Stops result old new (read_errors.Stop (Bad fault)) = (result ≡ Err (wire_fault fault))
+    × (new ≡ with_decoder_fault old (wire_fault fault))

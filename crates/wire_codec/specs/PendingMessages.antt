@@ -10,7 +10,8 @@ use Rattle.wire_message.specs.Message.{message_limit, request, reply}
 -- reading the bytes, for a request or for the reply to a procedure, wants more
 abbrev pub StopsForMore : Option Procedure → List ℕ → MissingBytes → Type 0
 StopsForMore None bytes wanted = (limited_format message_limit request).read bytes ≡ Err (More wanted)
-StopsForMore (Some procedure) bytes wanted = (limited_format message_limit (reply procedure)).read bytes ≡ Err (More wanted)
+StopsForMore (Some procedure) bytes wanted =
+    (limited_format message_limit (reply procedure)).read bytes ≡ Err (More wanted)
 
 -- **pending (`IsPending`, `StopsForMore`)**: the front of the rest that was read last, for which message, and what was
 -- wanted then.

@@ -298,6 +298,3 @@ between-kind low high given ordered fits = record {
   less = between_less low high given;
   nothing = between_nothing low high given fits;
 }
-
-pub between_value : (low high : ℕ) (given : Fault) (n x : ℕ) → (between low high given).judge n ≡ Ok x → (low ≤ x) × (x ≤ high)
-between_value low high given n x e = (grind (arith, nat_tests), grind (arith, nat_tests))

@@ -1,5 +1,6 @@
 -- A format: which texts of bytes spell which values, and how it is read from the left.
-use Rattle.std.specs.Prelude.{◌≡◌, ◌⊎◌, ℕ, zero, suc, ◌<◌, ◌≤◌, ◌-◌, Bool, not, ◌||◌, nat_lt, List, [], ◌∷◌, ◌++◌, length, take, drop, slice_index, Result, Ok, Err, if◌then◌else◌}
+use Rattle.std.specs.Prelude.{◌≡◌, ◌⊎◌, ℕ, zero, suc, ◌<◌, ◌≤◌, ◌-◌, Bool, not, ◌||◌, nat_lt, List, [], ◌∷◌, ◌++◌}
+use Rattle.std.specs.Prelude.{length, take, drop, slice_index, Result, Ok, Err, if◌then◌else◌}
 use Rattle.std.specs.List.{list_all, AllByRecursion}
 use Rattle.wire_format.specs.declared.fault.Fault.{Fault}
 use Rattle.wire_format.specs.declared.fault.Fault.TheVariants.{BadValue}
@@ -40,16 +41,24 @@ IsBytes bytes = (i : ℕ) → slice_index bytes i < 256
 -- nothing, for a value that is known
 
 abbrev pub pure_format : {A : Type 0} → A → Format A
-pure_format a = record { spells = λ text b. (text ≡ []) × (b ≡ a); spoils = λ text fault. ⊥; read = λ bytes. Ok (a, bytes) }
+pure_format a =
+    record { spells = λ text b. (text ≡ []) × (b ≡ a); spoils = λ text fault. ⊥; read = λ bytes. Ok (a, bytes) }
 
 -- nothing is spelled, since a fault stands before the first byte
 
 abbrev pub fail_format : {A : Type 0} → Fault → Format A
-fail_format fault = record { spells = λ text a. ⊥; spoils = λ text given. (text ≡ []) × (given ≡ fault); read = λ bytes. Err (Bad fault) }
+fail_format fault =
+    record {
+      spells = λ text a. ⊥;
+      spoils = λ text given. (text ≡ [])
+          × (given ≡ fault);
+      read = λ bytes. Err (Bad fault);
+    }
 
 -- one after another, where the first value may say what stands behind it
 
-pub record Parts {A B : Type 0} (F : List ℕ → A → Type 0) (G : A → List ℕ → B → Type 0) (text : List ℕ) (b : B) : Type 0 where
+pub record Parts {A B : Type 0} (F : List ℕ → A → Type 0) (G : A → List ℕ → B → Type 0) (text : List ℕ)
+    (b : B) : Type 0 where
   pub first : A
   pub front : List ℕ
   pub back : List ℕ
@@ -98,7 +107,8 @@ byte_at low high [] = Err (More one_byte)
 byte_at low high (b ∷ rest) = if nat_lt b low || nat_lt high b then Err (Bad BadValue) else Ok (b, rest)
 
 abbrev pub byte_between : ℕ → ℕ → Format ℕ
-byte_between low high = record { spells = IsByteBetween low high; spoils = IsNoByteBetween low high; read = byte_at low high }
+byte_between low high =
+    record { spells = IsByteBetween low high; spoils = IsNoByteBetween low high; read = byte_at low high }
 
 -- so many bytes, none of them below the least
 

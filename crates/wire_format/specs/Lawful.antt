@@ -25,8 +25,8 @@ pub record HasSpoiledFront {A : Type 0} (F : Format A) (bytes : List ℕ) (fault
   pub whole : bytes ≡ front ++ rest
   pub spoiled : F.spoils front fault
 
--- **wanted (`MissingBytes`, `IsStillWaiting`)**: a number of bytes without which there is no value, and a least byte: until
--- as many have come, only a byte below it changes what reading tells.
+-- **wanted (`MissingBytes`, `IsStillWaiting`)**: a number of bytes without which there is no value, and a least byte:
+-- until as many have come, only a byte below it changes what reading tells.
 --
 -- fewer bytes than are wanted, none of them below the least
 pub record IsStillWaiting (wanted : MissingBytes) (more : List ℕ) : Type 0 where
@@ -46,15 +46,20 @@ pub record ReaderIsExact {A : Type 0} (F : Format A) : Type 0 where
   -- what is spelled is read, whatever follows
   pub complete : (text rest : List ℕ) (a : A) → F.spells text a → F.read (text ++ rest) ≡ Ok (a, rest)
   -- more bytes are wanted only where the bytes begin a spelling
-  pub more : (bytes : List ℕ) (wanted : MissingBytes) → IsBytes bytes → F.read bytes ≡ Err (More wanted) → BeginsSpelling F bytes
+  pub more : (bytes : List ℕ) (wanted : MissingBytes) → IsBytes bytes → F.read bytes ≡ Err (More wanted)
+      → BeginsSpelling F bytes
   -- without as many as are wanted there is no value
-  pub wants : (bytes behind : List ℕ) (wanted : MissingBytes) (a : A) → IsBytes bytes → F.read bytes ≡ Err (More wanted) → F.spells (bytes ++ behind) a → wanted.count ≤ length behind
+  pub wants : (bytes behind : List ℕ) (wanted : MissingBytes) (a : A) → IsBytes bytes → F.read bytes ≡ Err (More wanted)
+      → F.spells (bytes ++ behind) a → wanted.count ≤ length behind
   -- and until they have come nothing else is to be told, unless one is below the least
-  pub waits : (bytes more : List ℕ) (wanted : MissingBytes) → IsBytes (bytes ++ more) → F.read bytes ≡ Err (More wanted) → IsStillWaiting wanted more → F.read (bytes ++ more) ≡ Err (More (still_missing wanted (length more)))
+  pub waits : (bytes more : List ℕ) (wanted : MissingBytes) → IsBytes (bytes ++ more) → F.read bytes ≡ Err (More wanted)
+      → IsStillWaiting wanted more → F.read (bytes ++ more) ≡ Err (More (still_missing wanted (length more)))
   -- a fault is that of the first word or byte at which no spelling stands
-  pub bad : (bytes : List ℕ) (fault : Fault) → IsBytes bytes → F.read bytes ≡ Err (Bad fault) → HasSpoiledFront F bytes fault
+  pub bad : (bytes : List ℕ) (fault : Fault) → IsBytes bytes → F.read bytes ≡ Err (Bad fault)
+      → HasSpoiledFront F bytes fault
   -- and it stands, whatever follows
-  pub spoiled : (text rest : List ℕ) (fault : Fault) → IsBytes (text ++ rest) → F.spoils text fault → F.read (text ++ rest) ≡ Err (Bad fault)
+  pub spoiled : (text rest : List ℕ) (fault : Fault) → IsBytes (text ++ rest) → F.spoils text fault
+      → F.read (text ++ rest) ≡ Err (Bad fault)
   -- spellings are bytes
   pub bytes : (text : List ℕ) (a : A) → F.spells text a → IsBytes text
 

@@ -3,3 +3,4 @@ pub mod WordKinds
 pub mod Lawful
 pub mod Limit
 pub mod Writer
+pub mod Laws

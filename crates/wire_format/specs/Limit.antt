@@ -1,5 +1,6 @@
 -- At most so many bytes.
-use Rattle.std.specs.Prelude.{◌≡◌, ◌⊎◌, ℕ, ◌<◌, ◌≤◌, ◌+◌, Bool, nat_lt, List, ◌++◌, length, take, drop, Result, Ok, Err, if◌then◌else◌}
+use Rattle.std.specs.Prelude.{◌≡◌, ◌⊎◌, ℕ, ◌<◌, ◌≤◌, ◌+◌, Bool, nat_lt, List, ◌++◌, length, take, drop, Result, Ok, Err}
+use Rattle.std.specs.Prelude.{if◌then◌else◌}
 use Rattle.wire_format.specs.declared.fault.Fault.{Fault}
 use Rattle.wire_format.specs.declared.fault.Fault.TheVariants.{TooLong}
 use Rattle.wire_format.specs.declared.fault.ReadStop.{ReadStop}
@@ -22,12 +23,13 @@ abbrev pub on_rest : {A : Type 0} → List ℕ → Bool → Result (A × List �
 on_rest behind past (Ok x) = Ok (x.0, x.1 ++ behind)
 on_rest behind past (Err stop) = Err (past_limit past stop)
 
--- **limit (`limited_format`, `NeedsMore`, `IsNoStart`, `IsFirstFault`)**: the spellings of at most so many bytes; reading
--- looks at no byte behind them; past the limit to want more is `TooLong`.
+-- **limit (`limited_format`, `NeedsMore`, `IsNoStart`, `IsFirstFault`)**: the spellings of at most so many bytes;
+-- reading looks at no byte behind them; past the limit to want more is `TooLong`.
 unfoldable pub limited_format : {A : Type 0} → ℕ → Format A → Format A
 limited_format n F = record {
   spells = λ text a. (length text ≤ n) × F.spells text a;
-  spoils = λ text fault. ((length text ≤ n) × F.spoils text fault) ⊎ ((fault ≡ TooLong) × (length text ≡ n + 1) × BeginsSpelling F (take n text));
+  spoils = λ text fault. ((length text ≤ n) × F.spoils text fault)
+      ⊎ ((fault ≡ TooLong) × (length text ≡ n + 1) × BeginsSpelling F (take n text));
   read = λ bytes. on_rest (drop n bytes) (nat_lt n (length bytes)) (F.read (take n bytes));
 }
 
@@ -53,4 +55,5 @@ IsNoStart n F bytes = NoneStarts (limited_format n F) bytes × ((n < length byte
 
 -- The first word or byte at which no spelling stands makes the fault. Past the limit none stands.
 abbrev pub IsFirstFault : {A : Type 0} → ℕ → Format A → List ℕ → Fault → Type 0
-IsFirstFault n F bytes fault = HasSpoiledFront F (take n bytes) fault ⊎ ((fault ≡ TooLong) × (n < length bytes) × BeginsSpelling F (take n bytes))
+IsFirstFault n F bytes fault = HasSpoiledFront F (take n bytes) fault
+    ⊎ ((fault ≡ TooLong) × (n < length bytes) × BeginsSpelling F (take n bytes))

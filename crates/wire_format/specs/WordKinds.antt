@@ -1,5 +1,6 @@
 -- Words of a kind: four bytes, most significant first, judged inside the word as its bytes come.
-use Rattle.std.specs.Prelude.{◌≡◌, ℕ, ◌<◌, ◌≤◌, ◌^◌, ◌+◌, ◌*◌, ◌||◌, nat_lt, List, [], ◌∷◌, ◌++◌, length, Result, Ok, Err, Option, Some, None, if◌then◌else◌}
+use Rattle.std.specs.Prelude.{◌≡◌, ℕ, ◌<◌, ◌≤◌, ◌^◌, ◌+◌, ◌*◌, ◌||◌, nat_lt, List, [], ◌∷◌, ◌++◌, length, Result, Ok}
+use Rattle.std.specs.Prelude.{Err, Option, Some, None, if◌then◌else◌}
 use Rattle.std.specs.Int.{w32, from_be_bytes, to_be_bytes}
 use Rattle.wire_format.specs.declared.fault.Fault.{Fault}
 use Rattle.wire_format.specs.declared.fault.ReadStop.{ReadStop}
@@ -8,9 +9,9 @@ use Rattle.wire_format.specs.declared.word.Word.{Word}
 use Rattle.wire_format.specs.declared.word.Word.TheVariants as words
 use Rattle.wire_format.specs.Format.{Format, one_byte}
 
--- **word of a kind (`WordKind`, `IsKind`)**: four bytes, most significant first. A kind says the value or the fault of a
--- whole word, and the fault, if any, of fewer bytes, by the least and the most of the words that begin so: a fault stands
--- there only if each of those words has it, and more is wanted only if one of them is good.
+-- **word of a kind (`WordKind`, `IsKind`)**: four bytes, most significant first. A kind says the value or the fault of
+-- a whole word, and the fault, if any, of fewer bytes, by the least and the most of the words that begin so: a fault
+-- stands there only if each of those words has it, and more is wanted only if one of them is good.
 pub record WordKind (A : Type 0) : Type 0 where
   -- the value of a whole word, or its fault
   pub judge : ℕ → Result A Fault
@@ -26,7 +27,8 @@ abbrev pub split_at_word : List ℕ → WordSplit
 split_at_word [] = Part 0 4294967295
 split_at_word (a ∷ []) = Part (from_be_bytes w32 (a ∷ 0 ∷ 0 ∷ 0 ∷ [])) (from_be_bytes w32 (a ∷ 255 ∷ 255 ∷ 255 ∷ []))
 split_at_word (a ∷ b ∷ []) = Part (from_be_bytes w32 (a ∷ b ∷ 0 ∷ 0 ∷ [])) (from_be_bytes w32 (a ∷ b ∷ 255 ∷ 255 ∷ []))
-split_at_word (a ∷ b ∷ c ∷ []) = Part (from_be_bytes w32 (a ∷ b ∷ c ∷ 0 ∷ [])) (from_be_bytes w32 (a ∷ b ∷ c ∷ 255 ∷ []))
+split_at_word (a ∷ b ∷ c ∷ []) =
+    Part (from_be_bytes w32 (a ∷ b ∷ c ∷ 0 ∷ [])) (from_be_bytes w32 (a ∷ b ∷ c ∷ 255 ∷ []))
 split_at_word (a ∷ b ∷ c ∷ d ∷ rest) = Whole (from_be_bytes w32 (a ∷ b ∷ c ∷ d ∷ [])) rest
 
 -- the same, without where the bytes lie in memory
@@ -58,7 +60,8 @@ pub record IsNoWordOf {A : Type 0} (K : WordKind A) (text : List ℕ) (given : F
   pub all : (behind : List ℕ) (n : ℕ) → text ++ behind ≡ to_be_bytes w32 n → n < 2 ^ 32 → K.judge n ≡ Err given
 
 abbrev pub word_of_kind : {A : Type 0} → WordKind A → Format A
-word_of_kind K = record { spells = IsWordOf K; spoils = IsNoWordOf K; read = λ bytes. judged_word K (split_at_word bytes) }
+word_of_kind K =
+    record { spells = IsWordOf K; spoils = IsNoWordOf K; read = λ bytes. judged_word K (split_at_word bytes) }
 
 -- a number of the kind from least to most
 pub record Among {A : Type 0} (K : WordKind A) (least most : ℕ) : Type 0 where
@@ -70,11 +73,15 @@ pub record Among {A : Type 0} (K : WordKind A) (least most : ℕ) : Type 0 where
 
 -- What makes a word of the kind lawful.
 pub record IsKind {A : Type 0} (K : WordKind A) : Type 0 where
-  -- where more bytes are wanted, some number of the kind is among those that begin so; they are 256 at least, from a multiple of 256
-  pub more : (k least most : ℕ) → least ≡ 256 * k → least + 255 ≤ most → most < 2 ^ 32 → K.part least most ≡ None → Among K least most
+  -- where more bytes are wanted, some number of the kind is among those that begin so; they are 256 at least, from a
+  -- multiple of 256
+  pub more : (k least most : ℕ) → least ≡ 256 * k → least + 255 ≤ most → most < 2 ^ 32 → K.part least most ≡ None
+      → Among K least most
   -- where a fault stands, each of them has that fault, and so does each smaller part
-  pub bad : (least most : ℕ) (fault : Fault) → K.part least most ≡ Some fault → (n : ℕ) → least ≤ n → n ≤ most → K.judge n ≡ Err fault
-  pub less : (least most least' most' : ℕ) (fault : Fault) → K.part least most ≡ Some fault → least ≤ least' → least' ≤ most' → most' ≤ most → K.part least' most' ≡ Some fault
+  pub bad : (least most : ℕ) (fault : Fault) → K.part least most ≡ Some fault → (n : ℕ) → least ≤ n → n ≤ most
+      → K.judge n ≡ Err fault
+  pub less : (least most least' most' : ℕ) (fault : Fault) → K.part least most ≡ Some fault → least ≤ least'
+      → least' ≤ most' → most' ≤ most → K.part least' most' ≡ Some fault
   -- nothing yet is no fault
   pub nothing : K.part 0 4294967295 ≡ None
 

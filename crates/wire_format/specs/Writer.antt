@@ -1,5 +1,6 @@
 -- Writing: the one text of a value that is written, or why there is none.
-use Rattle.std.specs.Prelude.{◌≡◌, ℕ, zero, suc, ◌<◌, ◌^◌, Bool, true, false, ◌||◌, ◌&&◌, ◌==◌, nat_lt, List, [], ◌∷◌, ◌++◌, length, Result, Ok, Err, Option, Some, None, if◌then◌else◌}
+use Rattle.std.specs.Prelude.{◌≡◌, ℕ, zero, suc, ◌<◌, ◌^◌, Bool, true, false, ◌||◌, ◌&&◌, ◌==◌, nat_lt, List, [], ◌∷◌}
+use Rattle.std.specs.Prelude.{◌++◌, length, Result, Ok, Err, Option, Some, None, if◌then◌else◌}
 use Rattle.std.specs.List.{list_all}
 use Rattle.std.specs.Int.{w32, to_be_bytes}
 use Rattle.wire_format.specs.declared.fault.Fault.{Fault}
@@ -9,8 +10,8 @@ use Rattle.wire_format.specs.declared.fault.WriteError.TheVariants as errors
 use Rattle.wire_format.specs.Format.{Format, is_from}
 use Rattle.wire_format.specs.WordKinds.{WordKind}
 
--- **writer (`Writer`, `WritesFormat`, `encoding_or_fault`, `IsLong`)**: whether a value passes a limit, and the one text of
--- it that is written, if there is one.
+-- **writer (`Writer`, `WritesFormat`, `encoding_or_fault`, `IsLong`)**: whether a value passes a limit, and the one
+-- text of it that is written, if there is one.
 pub record Writer (A : Type 0) : Type 0 where
   -- whether the value passes a limit
   pub long : A → Bool
@@ -107,7 +108,8 @@ bytes_of_word n (Ok a) = Some (to_be_bytes w32 n)
 bytes_of_word n (Err fault) = None
 
 abbrev pub write_word : {A : Type 0} → WordKind A → (A → ℕ) → Writer A
-write_word K number = record { long = λ a. is_too_long (K.judge (number a)); text = λ a. bytes_of_word (number a) (K.judge (number a)) }
+write_word K number =
+    record { long = λ a. is_too_long (K.judge (number a)); text = λ a. bytes_of_word (number a) (K.judge (number a)) }
 
 -- the number of a value is one of a word that is judged to be the value, if there is any
 pub record IsNumbering {A : Type 0} (K : WordKind A) (number : A → ℕ) : Type 0 where
@@ -117,7 +119,8 @@ pub record IsNumbering {A : Type 0} (K : WordKind A) (number : A → ℕ) : Type
 -- a byte
 
 abbrev pub write_byte : ℕ → ℕ → Writer ℕ
-write_byte low high = record { long = λ b. false; text = λ b. if nat_lt b low || nat_lt high b then None else Some (b ∷ []) }
+write_byte low high =
+    record { long = λ b. false; text = λ b. if nat_lt b low || nat_lt high b then None else Some (b ∷ []) }
 
 -- a run of bytes
 
@@ -125,7 +128,12 @@ abbrev pub may_run : ℕ → ℕ → Bool
 may_run least b = is_from least b && nat_lt b 256
 
 abbrev pub write_run : ℕ → ℕ → Writer (List ℕ)
-write_run least count = record { long = λ bytes. false; text = λ bytes. if list_all (may_run least) bytes && (length bytes == count) then Some bytes else None }
+write_run least count =
+    record {
+      long = λ bytes. false;
+      text =
+          λ bytes. if list_all (may_run least) bytes && (length bytes == count) then Some bytes else None;
+    }
 
 -- at most so many bytes
 

@@ -8,6 +8,7 @@ ghost use Rattle.wire_format.specs.Format.{Format, IsBytes, pure_format, fail_fo
 ghost use Rattle.wire_format.specs.WordKinds.{WordKind, IsKind, word_of_kind, between};
 ghost use Rattle.wire_format.specs.Lawful.{SpellsFront, IsStillWaiting, still_missing, ReaderIsExact, Lawful};
 ghost use Rattle.wire_format.specs.Limit.{limited_format, NeedsMore, IsNoStart, IsFirstFault};
+ghost use Rattle.wire_format.specs.Laws.{WaitsWithinALimit};
 
 use crate::fault::Fault;
 
@@ -121,11 +122,7 @@ pub fn reading_keeps_a_limit<A: Readable>(limit: usize)
         → IsBytes bytes → (limited_format limit A.format).read bytes ≡ Err (More wanted)
         → NeedsMore limit A.format bytes }
     // Until as many bytes as are wanted have come, nothing else is to be told, unless one is below the least.
-    ensures waits { (bytes more : List ℕ) (wanted : AnyWanted)
-        → IsBytes (bytes ++ more) → (limited_format limit A.format).read bytes ≡ Err (More wanted)
-        → IsStillWaiting wanted more
-        → length (bytes ++ more) ≤ limit → (limited_format limit A.format).read (bytes ++ more)
-        ≡ Err (More (still_missing wanted (length more))) }
+    ensures waits { WaitsWithinALimit limit A.format }
     // A fault comes only where no front is a spelling, and the bytes are past the limit or begin none.
     ensures bad { (bytes : List ℕ) (fault : AnyFault) → (limited_format limit A.format).read bytes
         ≡ Err (Bad fault) → IsNoStart limit A.format bytes }

@@ -27,12 +27,14 @@ place n = if nat_lt n 2147483648 then n + 2147483648 else n - 2147483648
 abbrev pub at_least : ℕ → WordKind ℕ
 at_least low = record {
   judge = λ n. if nat_lt (place n) (place low) then Err BadValue else Ok n;
-  part = λ least most. if nat_lt least 2147483648 && nat_lt 2147483647 most then None else if nat_lt (place most) (place low) then Some BadValue else None;
+  part = λ least most. if nat_lt least 2147483648 && nat_lt 2147483647 most then None
+      else if nat_lt (place most) (place low) then Some BadValue else None;
 }
 
 -- 0x1234 for little-endian, 0x4321 for big-endian
 abbrev pub order : WordKind ByteOrder
 order = record {
   judge = λ n. if n == 4660 then Ok Little else if n == 17185 then Ok Big else Err BadValue;
-  part = λ least most. if nat_lt 4660 least || nat_lt most 4660 then (if nat_lt 17185 least || nat_lt most 17185 then Some BadValue else None) else None;
+  part = λ least most. if nat_lt 4660 least || nat_lt most 4660
+      then (if nat_lt 17185 least || nat_lt most 17185 then Some BadValue else None) else None;
 }

@@ -1,5 +1,6 @@
 -- The messages of the control connection, as they are spelled.
-use Rattle.std.specs.Prelude.{ℕ, zero, suc, ◌-◌, ◌/◌, ◌==◌, ℤ, Bool, true, false, List, [], ◌∷◌, ◌++◌, Option, Some, None, if◌then◌else◌}
+use Rattle.std.specs.Prelude.{ℕ, zero, suc, ◌-◌, ◌/◌, ◌==◌, ℤ, Bool, true, false, List, [], ◌∷◌, ◌++◌, Option, Some}
+use Rattle.std.specs.Prelude.{None, if◌then◌else◌}
 use Rattle.std.specs.Int.{w32, cast_signed}
 use Rattle.wire_format.specs.declared.fault.Fault.TheVariants.{BadCode, BadValue, TooLong}
 use Rattle.wire_format.specs.Format.{Format, pure_format, fail_format, after, map_format, places, byte_between, run}
@@ -128,7 +129,10 @@ string = after (up_to 1024) text_format_of
 -- ---- devices
 
 unfoldable pub device : Format DeviceInfo
-device = after string (λ name. after string (λ vendor. after string (λ model. map_format (λ class. record { name = name; vendor = vendor; model = model; class = class }) string)))
+device = after string (λ name.
+    after string (λ vendor.
+    after string (λ model.
+    map_format (λ class. record { name = name; vendor = vendor; model = model; class = class }) string)))
 
 -- a pointer that is not NULL, and its device
 unfoldable pub next_device : Format DeviceInfo
@@ -154,11 +158,14 @@ devices = after (up_to 1024) devices_of
 -- a pointer that is not NULL, and min, max and quant: max is no smaller than min, quant not negative
 unfoldable pub range : Format Bounds
 range = after (from_to 0 0) (λ pointer. after word (λ min. after (word_of_kind (at_least min)) (λ max.
-    map_format (λ quant. record { min = cast_signed w32 min; max = cast_signed w32 max; quant = cast_signed w32 quant }) (from_to 0 2147483647))))
+    map_format (λ quant.
+    record { min = cast_signed w32 min; max = cast_signed w32 max; quant = cast_signed w32 quant })
+    (from_to 0 2147483647))))
 
 -- an array of words, the first of which is how many stand behind it, at least one
 unfoldable pub word_list : Format (List ℤ)
-word_list = after (word_of_kind (length_from 2)) (λ n. after (from_to (n - 1) (n - 1)) (λ count. places count signed_word))
+word_list =
+    after (word_of_kind (length_from 2)) (λ n. after (from_to (n - 1) (n - 1)) (λ count. places count signed_word))
 
 -- a string of a list, which is not the NULL string
 unfoldable pub entry : Format (List ℕ)
@@ -197,7 +204,9 @@ last_of Either = last_entry
 
 -- an array of strings, at least one of them not NULL, and at most 1,023
 unfoldable pub string_list : Format (List (List ℕ))
-string_list = after (word_of_kind (length_from 1)) (λ n. after (places (n - 1) entry) (λ front. map_format (λ last. front ++ last) (last_of (last_in n))))
+string_list =
+    after (word_of_kind (length_from 1)) (λ n.
+    after (places (n - 1) entry) (λ front. map_format (λ last. front ++ last) (last_of (last_in n))))
 
 abbrev pub constraint_of : ℕ → Format Constraint
 constraint_of zero = pure_format constraints.Free
@@ -211,8 +220,22 @@ constraint = after (from_to 0 3) constraint_of
 -- ---- descriptors
 
 unfoldable pub descriptor : Format Descriptor
-descriptor = after string (λ name. after string (λ title. after string (λ about. after (from_to 0 5) (λ k. after (from_to 0 6) (λ u. after word (λ size. after word (λ caps.
-    map_format (λ c. record { name = name; title = title; about = about; kind = kind_at k; unit = unit_at u; size = size; caps = record { 0 = caps }; constraint = c }) constraint)))))))
+descriptor =
+    after string (λ name.
+    after string (λ title.
+    after string (λ about. after (from_to 0 5) (λ k. after (from_to 0 6) (λ u. after word (λ size. after word (λ caps.
+    map_format (λ c.
+    record {
+      name = name;
+      title = title;
+      about = about;
+      kind = kind_at k;
+      unit = unit_at u;
+      size = size;
+      caps =
+          record { 0 = caps };
+      constraint = c;
+    }) constraint)))))))
 
 unfoldable pub next_descriptor : Format Descriptor
 next_descriptor = after (from_to 0 0) (λ pointer. descriptor)
@@ -224,11 +247,15 @@ descriptors = after (up_to 1024) (λ n. places n next_descriptor)
 
 -- an array of words whose length times 4 is the size
 unfoldable pub words_value : Format WireValue
-words_value = after (word_of_kind words_size) (λ size. after (from_to (size / 4) (size / 4)) (λ count. map_format (λ words. values.Words words) (places count word)))
+words_value =
+    after (word_of_kind words_size) (λ size.
+    after (from_to (size / 4) (size / 4)) (λ count. map_format (λ words. values.Words words) (places count word)))
 
 -- an array of bytes whose length is the size
 unfoldable pub bytes_value : Format WireValue
-bytes_value = after (up_to 1024) (λ size. after (from_to size size) (λ count. map_format (λ bytes. values.Bytes bytes) (run 0 count)))
+bytes_value =
+    after (up_to 1024) (λ size.
+    after (from_to size size) (λ count. map_format (λ bytes. values.Bytes bytes) (run 0 count)))
 
 abbrev pub value_of : Kind → Format WireValue
 value_of kinds.Bool = words_value
@@ -261,12 +288,16 @@ arguments procedures.GetDevices = pure_format requests.GetDevices
 arguments procedures.Open = map_format (λ name. requests.Open name) string
 arguments procedures.Close = map_format (λ device. requests.Close device) word
 arguments procedures.GetOptionDescriptors = map_format (λ device. requests.GetOptionDescriptors device) word
-arguments procedures.ControlOption = after word (λ device. after word (λ option. after (from_to 0 1) (λ action. after (from_to 0 3) (λ kind.
-    map_format (λ value. requests.ControlOption device option (action_at action) (kind_at kind) value) (value_of (kind_at kind))))))
+arguments procedures.ControlOption =
+    after word (λ device. after word (λ option. after (from_to 0 1) (λ action. after (from_to 0 3) (λ kind.
+    map_format (λ value.
+    requests.ControlOption device option (action_at action) (kind_at kind) value) (value_of (kind_at kind))))))
 arguments procedures.GetParameters = map_format (λ device. requests.GetParameters device) word
 arguments procedures.Start = map_format (λ device. requests.Start device) word
 arguments procedures.Cancel = map_format (λ device. requests.Cancel device) word
-arguments procedures.Authorize = after string (λ resource. after string (λ user. map_format (λ password. requests.Authorize resource user password) string))
+arguments procedures.Authorize =
+    after string (λ resource.
+    after string (λ user. map_format (λ password. requests.Authorize resource user password) string))
 arguments procedures.Exit = pure_format requests.Exit
 
 -- **spelling of a message (`request`, `reply`)**: the formats of each request and each reply to a procedure.
@@ -276,19 +307,34 @@ request = after (word_of_kind (between 0 10 BadCode)) (λ code. arguments (proce
 -- ---- replies
 
 unfoldable pub params : Format Params
-params = after (from_to 0 4) (λ format. after word (λ last. after word (λ bytes. after word (λ pixels. after word (λ lines.
-    map_format (λ depth. record { format = frame_at format; last_frame = is_set last; bytes_per_line = bytes; pixels_per_line = pixels; lines = lines_at lines; depth = depth }) word)))))
+params = after (from_to 0 4) (λ format.
+    after word (λ last. after word (λ bytes. after word (λ pixels. after word (λ lines.
+    map_format (λ depth.
+    record {
+      format = frame_at format;
+      last_frame = is_set last;
+      bytes_per_line = bytes;
+      pixels_per_line =
+          pixels;
+      lines = lines_at lines;
+      depth = depth;
+    }) word)))))
 
 unfoldable pub reply : Procedure → Format Reply
 reply procedures.Init = after status (λ s. map_format (λ version. replies.Init s version) word)
 reply procedures.GetDevices = after status (λ s. map_format (λ all. replies.GetDevices s all) devices)
-reply procedures.Open = after status (λ s. after word (λ device. map_format (λ resource. replies.Open s device resource) string))
+reply procedures.Open =
+    after status (λ s. after word (λ device. map_format (λ resource. replies.Open s device resource) string))
 reply procedures.Close = map_format (λ ignored. replies.Close) word
 reply procedures.GetOptionDescriptors = map_format (λ all. replies.GetOptionDescriptors all) descriptors
-reply procedures.ControlOption = after status (λ s. after word (λ info. after (from_to 0 3) (λ kind. after (value_of (kind_at kind)) (λ value.
+reply procedures.ControlOption =
+    after status (λ s. after word (λ info. after (from_to 0 3) (λ kind. after (value_of (kind_at kind)) (λ value.
     map_format (λ resource. replies.ControlOption s (record { 0 = info }) (kind_at kind) value resource) string))))
 reply procedures.GetParameters = after status (λ s. map_format (λ p. replies.GetParameters s p) params)
-reply procedures.Start = after status (λ s. after (from_to 0 65535) (λ port. after (word_of_kind order) (λ o. map_format (λ resource. replies.Start s port o resource) string)))
+reply procedures.Start =
+    after status (λ s.
+    after (from_to 0 65535) (λ port.
+    after (word_of_kind order) (λ o. map_format (λ resource. replies.Start s port o resource) string)))
 reply procedures.Cancel = map_format (λ ignored. replies.Cancel) word
 reply procedures.Authorize = map_format (λ ignored. replies.Authorize) word
 reply procedures.Exit = fail_format BadCode

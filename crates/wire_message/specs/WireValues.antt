@@ -6,8 +6,8 @@ use Rattle.option_desc.specs.declared.value.Value.TheVariants.{Flag, Int, Fixed,
 use Rattle.wire_message.specs.declared.message.WireValue.{WireValue}
 use Rattle.wire_message.specs.declared.message.WireValue.TheVariants as wire
 
--- **value on the wire (`wire_of`, `text_in`)**: an option's value as words, or as bytes with its NUL; the text of bytes, up
--- to their first NUL.
+-- **value on the wire (`wire_of`, `text_in`)**: an option's value as words, or as bytes with its NUL; the text of
+-- bytes, up to their first NUL.
 abbrev pub wire_of : Value → WireValue
 wire_of (Flag b) = wire.Words ((if b then 1 else 0) ∷ [])
 wire_of (Int n) = wire.Words (cast_unsigned w32 n ∷ [])

@@ -92,9 +92,6 @@ code_value text n s = value s.n s.is
     value : (m : ℕ) → (between 0 10 BadCode).judge m ≡ Ok n → n ≤ 10
     value m e = grind (arith, nat_tests)
 
-write_code : Writer ℕ
-write_code = write_word (between 0 10 BadCode) (λ n. n)
-
 -- a code and its arguments
 behind_code : (code : ℕ) (V : Writer Request) (r : Request) → number_of (procedure_of r) ≡ code → WritesFormat (arguments (procedure_at code)) V r
     → WritesFormat request (write_after (λ (q : Request). code) (write_word (between 0 10 BadCode) (λ n. n)) (λ n. V)) r

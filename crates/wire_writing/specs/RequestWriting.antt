@@ -1,5 +1,6 @@
 -- The one way of writing each message.
-use Rattle.std.specs.Prelude.{ℕ, zero, suc, ◌*◌, ◌||◌, nat_lt, Bool, false, List, [], ◌∷◌, length, Option, Some, None, if◌then◌else◌}
+use Rattle.std.specs.Prelude.{ℕ, zero, suc, ◌*◌, ◌||◌, nat_lt, Bool, false, List, [], ◌∷◌, length, Option, Some, None}
+use Rattle.std.specs.Prelude.{if◌then◌else◌}
 use Rattle.std.specs.Prelude.{Result, Ok, Err, ◌≡◌}
 use Rattle.std.specs.Int.{w32, to_be_bytes}
 use Rattle.wire_format.specs.declared.fault.Fault.{Fault}
@@ -7,7 +8,8 @@ use Rattle.wire_message.specs.declared.message_fault.WireFault.{WireFault}
 use Rattle.wire_message.specs.declared.message_fault.WireFault.TheVariants as wire
 use Rattle.wire_format.specs.declared.fault.Fault.TheVariants.{BadCode, BadValue, TooLong}
 use Rattle.wire_format.specs.WordKinds.{between}
-use Rattle.wire_format.specs.Writer.{Writer, append_text, write_nothing, write_after, write_by, write_places, write_word, write_byte, write_run}
+use Rattle.wire_format.specs.Writer.{Writer, append_text, write_nothing, write_after, write_by, write_places}
+use Rattle.wire_format.specs.Writer.{write_word, write_byte, write_run}
 use Rattle.sane_fixed.specs.declared.kind.Kind.{Kind}
 use Rattle.sane_fixed.specs.declared.kind.Kind.TheVariants as kinds
 use Rattle.sane_fixed.specs.Kind.{kind_code}
@@ -58,13 +60,15 @@ value_long (values.Bytes bytes) = nat_lt 1024 (length bytes)
 -- a size, a length, and the words or the bytes
 abbrev pub words_text : WireValue → Option (List ℕ)
 words_text (values.Words words) = if nat_lt 1024 (length words) then None else
-    append_text (Some (to_be_bytes w32 (length words * 4))) (append_text (Some (to_be_bytes w32 (length words))) ((write_places (length words) write_any).text words))
+    append_text (Some (to_be_bytes w32 (length words * 4)))
+    (append_text (Some (to_be_bytes w32 (length words))) ((write_places (length words) write_any).text words))
 words_text (values.Bytes bytes) = None
 
 abbrev pub bytes_text : WireValue → Option (List ℕ)
 bytes_text (values.Words words) = None
 bytes_text (values.Bytes bytes) = if nat_lt 1024 (length bytes) then None else
-    append_text (Some (to_be_bytes w32 (length bytes))) (append_text (Some (to_be_bytes w32 (length bytes))) ((write_run 0 (length bytes)).text bytes))
+    append_text (Some (to_be_bytes w32 (length bytes)))
+    (append_text (Some (to_be_bytes w32 (length bytes))) ((write_run 0 (length bytes)).text bytes))
 
 -- by the kind of the value
 abbrev pub value_text : Kind → WireValue → Option (List ℕ)
@@ -94,7 +98,8 @@ request_long (requests.ControlOption device option action kind value) = value_lo
 request_long (requests.GetParameters device) = false
 request_long (requests.Start device) = false
 request_long (requests.Cancel device) = false
-request_long (requests.Authorize resource user password) = write_resource.long resource || write_string.long user || write_string.long password
+request_long (requests.Authorize resource user password) =
+    write_resource.long resource || write_string.long user || write_string.long password
 request_long requests.Exit = false
 
 -- a code and a word
@@ -102,21 +107,28 @@ abbrev pub code_and_word_text : ℕ → ℕ → Option (List ℕ)
 code_and_word_text code n = append_text (code_text code) (write_any.text n)
 
 abbrev pub request_text : Request → Option (List ℕ)
-request_text (requests.Init version user) = append_text (code_text 0) (append_text (write_any.text version) (write_string.text user))
+request_text (requests.Init version user) =
+    append_text (code_text 0) (append_text (write_any.text version) (write_string.text user))
 request_text requests.GetDevices = code_text 1
 request_text (requests.Open name) = append_text (code_text 2) (write_string.text name)
 request_text (requests.Close device) = code_and_word_text 3 device
 request_text (requests.GetOptionDescriptors device) = code_and_word_text 4 device
 request_text (requests.ControlOption device option action kind value) =
-    append_text (code_text 5) (append_text (write_any.text device) (append_text (write_any.text option) (append_text (code_text (action_code action)) (append_text (code_text (kind_code kind)) (value_text kind value)))))
+    append_text (code_text 5)
+    (append_text (write_any.text device)
+    (append_text (write_any.text option)
+    (append_text (code_text (action_code action))
+    (append_text (code_text (kind_code kind)) (value_text kind value)))))
 request_text (requests.GetParameters device) = code_and_word_text 6 device
 request_text (requests.Start device) = code_and_word_text 7 device
 request_text (requests.Cancel device) = code_and_word_text 8 device
-request_text (requests.Authorize resource user password) = append_text (code_text 9) (append_text (write_resource.text resource) (append_text (write_string.text user) (write_string.text password)))
+request_text (requests.Authorize resource user password) =
+    append_text (code_text 9)
+    (append_text (write_resource.text resource) (append_text (write_string.text user) (write_string.text password)))
 request_text requests.Exit = code_text 10
 
--- **the text of a request or a reply (`write_request`, `write_reply`, `replied_procedure`)**: the one way of writing it,
--- and whether it passes a limit; the procedure that a reply answers.
+-- **the text of a request or a reply (`write_request`, `write_reply`, `replied_procedure`)**: the one way of writing
+-- it, and whether it passes a limit; the procedure that a reply answers.
 abbrev pub write_request : Writer Request
 write_request = record { long = request_long; text = request_text }
 

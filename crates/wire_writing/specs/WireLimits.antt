@@ -41,7 +41,8 @@ constraint_passes (constraints.Words words) = is_long_list (length words)
 constraint_passes (constraints.Strings entries) = is_long_list (length entries) || any_passes is_long_text entries
 
 abbrev pub descriptor_passes : Descriptor → Bool
-descriptor_passes d = is_long_text d.name || is_long_text d.title || is_long_text d.about || constraint_passes d.constraint
+descriptor_passes d =
+    is_long_text d.name || is_long_text d.title || is_long_text d.about || constraint_passes d.constraint
 
 -- a string or an array of the message passes its limit
 abbrev pub request_passes : Request → Bool
@@ -54,7 +55,8 @@ request_passes (requests.ControlOption device option action kind value) = value_
 request_passes (requests.GetParameters device) = false
 request_passes (requests.Start device) = false
 request_passes (requests.Cancel device) = false
-request_passes (requests.Authorize resource user password) = is_long_text resource || is_long_text user || is_long_text password
+request_passes (requests.Authorize resource user password) =
+    is_long_text resource || is_long_text user || is_long_text password
 request_passes requests.Exit = false
 
 abbrev pub reply_passes : Reply → Bool
@@ -62,7 +64,8 @@ reply_passes (replies.Init status version) = false
 reply_passes (replies.GetDevices status devices) = is_long_list (length devices) || any_passes device_passes devices
 reply_passes (replies.Open status device resource) = is_long_text resource
 reply_passes replies.Close = false
-reply_passes (replies.GetOptionDescriptors descriptors) = is_long_array (length descriptors) || any_passes descriptor_passes descriptors
+reply_passes (replies.GetOptionDescriptors descriptors) =
+    is_long_array (length descriptors) || any_passes descriptor_passes descriptors
 reply_passes (replies.ControlOption status info kind value resource) = value_passes value || is_long_text resource
 reply_passes (replies.GetParameters status params) = false
 reply_passes (replies.Start status port order resource) = is_long_text resource
@@ -70,8 +73,8 @@ reply_passes replies.Cancel = false
 reply_passes replies.Authorize = false
 reply_passes replies.Exit = false
 
--- **passes a limit (`PassesLimit`, `request_passes`, `reply_passes`)**: a string of the message has more than 1,023 bytes
--- beside its NUL, or an array more than 1,024 elements with what ends it; or the whole text that is written has more than
--- 1,048,576 bytes.
+-- **passes a limit (`PassesLimit`, `request_passes`, `reply_passes`)**: a string of the message has more than 1,023
+-- bytes beside its NUL, or an array more than 1,024 elements with what ends it; or the whole text that is written has
+-- more than 1,048,576 bytes.
 abbrev pub PassesLimit : Bool → Option (List ℕ) → Type 0
 PassesLimit part text = (part ≡ true) ⊎ ((whole : List ℕ) × (text ≡ Some whole) × (1048576 < length whole))

@@ -20,9 +20,10 @@ pub record GivesFile (scan : Bool) (old : ClientState) (bytes : List ℕ) (new :
   pub gave : given_by gives ≡ bytes
   pub out : GivesOut scan false old gives new
 
--- **round (`IsCallRound`)**: a client writes all that is to go out, 1 to 4,096 bytes; the daemon is fed it, and the session
--- stands; the replies are taken, 1 to 4,096 bytes, and the client hears them; and then no replies wait.
-pub record IsCallRound (scan : Bool) (d : Core) (c : ClientState) (bytes : List ℕ) (e : Core) (after : ClientState) : Type 0 where
+-- **round (`IsCallRound`)**: a client writes all that is to go out, 1 to 4,096 bytes; the daemon is fed it, and the
+-- session stands; the replies are taken, 1 to 4,096 bytes, and the client hears them; and then no replies wait.
+pub record IsCallRound (scan : Bool) (d : Core) (c : ClientState) (bytes : List ℕ) (e : Core)
+    (after : ClientState) : Type 0 where
   pub piece : IsPiece c.out
   pub fed : Core
   pub feeds : Feeds 0 d c.out Standing fed
@@ -44,7 +45,8 @@ pub record IsDialledOnce (d : Core) (c : ClientState) (e : Core) (after : Client
 
 -- **record (`IsRecord`)**: one record, or the end record, is taken of the daemon, at most 4,096 bytes, and taken by the
 -- client.
-pub record IsRecord (scan : Bool) (d : Core) (c : ClientState) (step : DataStep) (bytes : List ℕ) (e : Core) (after : ClientState) : Type 0 where
+pub record IsRecord (scan : Bool) (d : Core) (c : ClientState) (step : DataStep) (bytes : List ℕ) (e : Core)
+    (after : ClientState) : Type 0 where
   pub piece : List ℕ
   pub is_piece : IsPiece piece
   pub turns : IsTurned d 0 65483 step piece e

@@ -9,14 +9,15 @@ use Rattle.saned_core.specs.DaemonStates.{Core}
 use Rattle.saned_serve.specs.ConnectionTraces.{lost_in, trace_bytes_read, trace_bytes_written}
 use Rattle.saned_serve.specs.ListenerTraces.{ListenerTrace}
 use Rattle.saned_serve.specs.Journal.{JournalLeads, SessionProjection, has_asked, open_sessions, projection_of}
-use Rattle.interleaving.specs.Interleavings.{bytes_heard, bytes_sent, bytes_taken, connections_accepted, connections_made, job_journal, server_journal}
+use Rattle.interleaving.specs.Interleavings.{bytes_heard, bytes_sent, bytes_taken, connections_accepted}
+use Rattle.interleaving.specs.Interleavings.{connections_made, job_journal, server_journal}
 use Rattle.interleaving.specs.HandingOn.{HandsOn}
 use Rattle.programs_refine.specs.Programs.{Acts, LostBringNoMore}
 use Rattle.programs_refine.specs.StepTraffic.{traffic_of}
 use Rattle.programs_refine.specs.WorkedRuns.{owned_by_first}
 
--- what was done so far: the job's session in the server's journal, whether a connection was asked for in this turn, and what
--- passed over the job's connections
+-- what was done so far: the job's session in the server's journal, whether a connection was asked for in this turn, and
+-- what passed over the job's connections
 pub record View : Type 0 where
   pub projection : SessionProjection
   pub asked : Bool
@@ -38,8 +39,8 @@ pub record HasView (acts : Acts) (v : View) : Type 0 where
   pub accepted : connections_accepted 0 (server_journal acts) ≡ v.accepted
   pub given : given_by_steps (job_journal 0 acts) ≡ v.given
 
--- **under way (`IsRunUnderWay`, `View`)**: acts of a server and of one job, from a new client on, that led from the one daemon
--- and this client to these, over connections that hand on; what was done by them is seen by a view.
+-- **under way (`IsRunUnderWay`, `View`)**: acts of a server and of one job, from a new client on, that led from the one
+-- daemon and this client to these, over connections that hand on; what was done by them is seen by a view.
 pub record IsRunUnderWay (job : Job) (start d : Core) (c : ClientState) (v : View) : Type 0 where
   pub acts : Acts
   pub view : HasView acts v
@@ -98,8 +99,8 @@ pub record IsClientOf (job : Job) (c : ClientState) : Type 0 where
   pub serves : ClientRepresents past c
   pub target : c.target ≡ target_of job
 
--- **at rest (`IsAtRest`, `IsAtData`)**: under way, with this file, between two turns of the server, or in one of them where
--- the data are to have their part.
+-- **at rest (`IsAtRest`, `IsAtData`)**: under way, with this file, between two turns of the server, or in one of them
+-- where the data are to have their part.
 pub record IsAtRest (imaging : Bool) (job : Job) (start d : Core) (c : ClientState) (file : List ℕ) : Type 0 where
   pub v : View
   pub under_way : IsRunUnderWay job start d c v

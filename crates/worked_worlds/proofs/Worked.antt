@@ -33,7 +33,7 @@ use Rattle.scan_world.specs.Worlds.{HasFaultAmong, IsFitJob, WorldCore}
 use Rattle.scan_world.specs.declared.world_fault.WorldFault.{WorldFault}
 use Rattle.scan_world.specs.declared.world_fault.WorldFault.TheVariants as faults
 use Rattle.world_refines.specs.GhostStates.{backend_of, is_allowed_for, is_guarded}
-use Rattle.world_contract.specs.Calls.{IsJobAt, KeepsOutcome, KeepsPage, KeepsRunning, KeepsScanFile, outcome_at, starved_at}
+use Rattle.world_contract.specs.Calls.{ForEach, IsJobAt, KeepsPage, RunsOut, outcome_at, starved_at}
 use Rattle.world_contract.specs.Clear.{AllAreListed, ClearsUp, PlainIsClear}
 use Rattle.world_contract.specs.Examples.{IsScanOf}
 use Rattle.world_contract.specs.Endings.{AnswerIsExplained, HadNoPage, HasPassed, NamesStatus}
@@ -41,7 +41,7 @@ use Rattle.world_contract.specs.Sessions.{Asked, IsAtOpen}
 use Rattle.world_contract.specs.Histories.{History, LedTo, and_then, begun, history_up_to}
 use Rattle.world_contract.specs.Page.{CameInTime, IsScan, IsSteady, Settled}
 use Rattle.world_contract.specs.Page.CameInTime.{FromFirst, AsItRan}
-use Rattle.world_contract.specs.Promise.{JobIsDone}
+use Rattle.world_contract.specs.Promise.{FileIsKept, JobIsDone, OutcomeIsKept}
 use Rattle.world_contract.specs.Reports.{AreOptionsShown}
 use Rattle.world_contract.specs.Settings.{AreSettingsPut}
 use Rattle.world_contract.proofs.Lists.{In, in_list, in_split}
@@ -66,7 +66,7 @@ quiet_in (m ∷ ms) e all (inl same) = subst LoadsNothing (sym same) all.0
 quiet_in (m ∷ ms) e all (inr among) = quiet_in ms e all.1 among
 
 -- by next moves alone
-pub moved : (devices : List DeviceState) (users : List Entry) (job : Job) (old new : WorldCore) → LedTo (begun devices users (job ∷ [])) old → KeepsRunning old new → Moved devices users job new
+pub moved : (devices : List DeviceState) (users : List Entry) (job : Job) (old new : WorldCore) → LedTo (begun devices users (job ∷ [])) old → ((h : History) → LedTo h old → RunsOut h old new) → Moved devices users job new
 moved devices users job old new led ran =
     let out = ran (begun devices users (job ∷ [])) led in
     let quiet = quiet_moves out.moves old new out.next in
@@ -76,7 +76,7 @@ moved devices users job old new led ran =
     }
 
 -- by one event and then next moves
-pub moved_behind : (devices : List DeviceState) (users : List Entry) (job : Job) (old mid new : WorldCore) (taken : List ℕ) (events : List Event) → LedTo (begun devices users (job ∷ [])) old → events ≡ Unplug taken ∷ [] → ((h : History) → LedTo h old → LedTo (and_then h events) mid) → KeepsRunning mid new → Came devices users job new
+pub moved_behind : (devices : List DeviceState) (users : List Entry) (job : Job) (old mid new : WorldCore) (taken : List ℕ) (events : List Event) → LedTo (begun devices users (job ∷ [])) old → events ≡ Unplug taken ∷ [] → ((h : History) → LedTo h old → LedTo (and_then h events) mid) → ((h : History) → LedTo h mid → RunsOut h mid new) → Came devices users job new
 moved_behind devices users job old mid new taken events led are run ran =
     let first = and_then (begun devices users (job ∷ [])) events in
     let out = ran first (run (begun devices users (job ∷ [])) led) in
@@ -104,17 +104,11 @@ at_there devices users job new c = record { led = c.led; job_at = refl }
 
 -- ---- a job that is done
 
-pub says_done : (w : WorldCore) (given : Outcome) (reports : Reports) → given ≡ Done reports → Some given ≡ outcome_at w 0 → KeepsOutcome w 0 (Some given) → SaysDone w
-says_done w given reports is at kept h job j =
-    let k = kept h job j in
-    let same : k.0 ≡ given = (let both : Some given ≡ Some k.0 = k.1 in cc) in
-    (reports, sym at ∙ ap (λ (o : Outcome). Some o) is, k.2.done reports (same ∙ is))
+pub says_done : (w : WorldCore) (given : Outcome) (reports : Reports) → given ≡ Done reports → Some given ≡ outcome_at w 0 → ForEach w 0 (λ h job. OutcomeIsKept h w 0 job (starved_at w 0) given) → SaysDone w
+says_done w given reports is at kept h job j = (reports, sym at ∙ ap (λ (o : Outcome). Some o) is, (kept h job j).done reports is)
 
-pub says_answered : (w : WorldCore) (given : Outcome) (status : Status) → given ≡ Ended status Answer → KeepsOutcome w 0 (Some given) → SaysAnswered w status
-says_answered w given status is kept h job j =
-    let k = kept h job j in
-    let same : k.0 ≡ given = (let both : Some given ≡ Some k.0 = k.1 in cc) in
-    (k.2.ended status Answer (same ∙ is)).2
+pub says_answered : (w : WorldCore) (given : Outcome) (status : Status) → given ≡ Ended status Answer → ForEach w 0 (λ h job. OutcomeIsKept h w 0 job (starved_at w 0) given) → SaysAnswered w status
+says_answered w given status is kept h job j = ((kept h job j).ended status Answer is).2
 
 abbrev done_from : (devices : List DeviceState) (users : List Entry) (job : Job) (new : WorldCore) → Came devices users job new → SaysDone new → DoneFrom devices users job
 done_from devices users job new c told =
@@ -238,10 +232,10 @@ steady_in (page ∷ pages) held (inl same) = ap (λ (x : HeldPage). x.steady) sa
 steady_in (page ∷ pages) held (inr among) = steady_in pages held among
 
 steady_tray : (name : List ℕ) (pages : List PageView) (users : List Entry) (job : Job) (new : WorldCore) (c : Came (feeder_with name pages ∷ []) users job new) → IsSteady (history_of (feeder_with name pages ∷ []) users job new c) new 0 job.device
-steady_tray name pages users job new c held (FromFirst device there named among) =
+steady_tray name pages users job new c held (FromFirst device there named among) taken =
     let same : feeder_with name pages ≡ device = only_one (feeder_with name pages) device there in
     steady_in pages held (in_list (map held_from (map memory_source pages)) held (subst (λ (d : DeviceState). Contains d.pages held) (sym same) among))
-steady_tray name pages users job new c held (AsItRan laid at ran is) = absurd (c.unladen job.device laid (in_list c.events (Load job.device laid) (in_split c.events at.front at.back (Load job.device laid) at.split)))
+steady_tray name pages users job new c held (AsItRan laid at ran is) taken = absurd (c.unladen job.device laid (in_list c.events (Load job.device laid) (in_split c.events at.front at.back (Load job.device laid) at.split)))
 
 pub are_scans : (name : List ℕ) (pages : List PageView) (users : List Entry) (job : Job) (new : WorldCore) (first second : List ℕ) → Moved (feeder_with name pages ∷ []) users job new → KeepsPage new 0 1 (Some first) → KeepsPage new 0 2 (Some second) → AreScans (feeder_with name pages ∷ []) users job first second
 are_scans name pages users job new first second m one two =
@@ -254,9 +248,9 @@ are_scans name pages users job new first second m one two =
 -- ---- a scan that surely gives a file
 
 steady_flatbed : (name : List ℕ) (page : PageView) (users : List Entry) (job : Job) (new : WorldCore) (c : Came (flatbed_with name page ∷ []) users job new) → IsSteady (history_of (flatbed_with name page ∷ []) users job new c) new 0 job.device
-steady_flatbed name page users job new c held came = ap (λ (x : HeldPage). x.steady) (sym (page_is name page users job new c held came))
+steady_flatbed name page users job new c held came taken = ap (λ (x : HeldPage). x.steady) (sym (page_is name page users job new c held came))
 
-pub scan_of : (name : List ℕ) (page : PageView) (users : List Entry) (job : Job) (new : WorldCore) (reports : Reports) (bytes : List ℕ) → Moved (flatbed_with name page ∷ []) users job new → KeepsScanFile new 0 (Some bytes) → outcome_at new 0 ≡ Some (Done reports) → job.task ≡ tasks.Scan → IsScanOf page job bytes
+pub scan_of : (name : List ℕ) (page : PageView) (users : List Entry) (job : Job) (new : WorldCore) (reports : Reports) (bytes : List ℕ) → Moved (flatbed_with name page ∷ []) users job new → ForEach new 0 (λ h job. (o : Outcome) → outcome_at new 0 ≡ Some o → FileIsKept h new 0 job (starved_at new 0) o (Some bytes)) → outcome_at new 0 ≡ Some (Done reports) → job.task ≡ tasks.Scan → IsScanOf page job bytes
 scan_of name page users job new reports bytes m file is scan =
     let devices = flatbed_with name page ∷ [] in
     let h = history_of devices users job new m.came in
@@ -324,5 +318,5 @@ are_copies name pages users job new file other first second is is_too m one two 
     subst (λ (x : List ℕ). AreScans (feeder_with name pages ∷ []) users job x second) (sym is)
     (subst (λ (x : List ℕ). AreScans (feeder_with name pages ∷ []) users job file x) (sym is_too) (are_scans name pages users job new file other m one two))
 
-pub scan_copied : (name : List ℕ) (page : PageView) (users : List Entry) (job : Job) (new : WorldCore) (reports : Reports) (file bytes : List ℕ) → bytes ≡ file → Moved (flatbed_with name page ∷ []) users job new → KeepsScanFile new 0 (Some file) → outcome_at new 0 ≡ Some (Done reports) → job.task ≡ tasks.Scan → IsScanOf page job bytes
+pub scan_copied : (name : List ℕ) (page : PageView) (users : List Entry) (job : Job) (new : WorldCore) (reports : Reports) (file bytes : List ℕ) → bytes ≡ file → Moved (flatbed_with name page ∷ []) users job new → ForEach new 0 (λ h job. (o : Outcome) → outcome_at new 0 ≡ Some o → FileIsKept h new 0 job (starved_at new 0) o (Some file)) → outcome_at new 0 ≡ Some (Done reports) → job.task ≡ tasks.Scan → IsScanOf page job bytes
 scan_copied name page users job new reports file bytes same m kept is scan = subst (IsScanOf page job) (sym same) (scan_of name page users job new reports file m kept is scan)

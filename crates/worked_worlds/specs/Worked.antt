@@ -35,11 +35,12 @@ use Rattle.world_contract.specs.Settings.{AreSettingsPut}
 
 -- ---- the devices
 
--- **worked worlds (`memory_source`, `flatbed_with`, `feeder_with`, `LedFrom`, `DoneFrom`, `SaysDone`, `SaysAnswered`, `ListsAll`, `ShowsOptions`, `WasPassed`,
--- `IsUnlisted`, `IsDisallowed`, `IsPlainScan`, `HasBrokenOff`, `AreScans`)**: a flatbed with a page in memory, and a feeder with some; a history of these devices, users and one job, and a world
--- to which it led; that the job is done there, and right; a list of all devices; a show of a flatbed's options; that the password
--- was allowed for a challenge; a device that was not listed, a password that is not allowed; a scan in whose way nothing
--- stands, and one that broke off; the files of a batch's first two pages.
+-- **worked worlds (`memory_source`, `flatbed_with`, `feeder_with`, `LedFrom`, `DoneFrom`, `SaysDone`, `SaysAnswered`,
+-- `ListsAll`, `ShowsOptions`, `WasPassed`, `IsUnlisted`, `IsDisallowed`, `IsPlainScan`, `HasBrokenOff`, `AreScans`)**:
+-- a flatbed with a page in memory, and a feeder with some; a history of these devices, users and one job, and a world
+-- to which it led; that the job is done there, and right; a list of all devices; a show of a flatbed's options; that
+-- the password was allowed for a challenge; a device that was not listed, a password that is not allowed; a scan in
+-- whose way nothing stands, and one that broke off; the files of a batch's first two pages.
 --
 -- a page in memory: at each pass the same, and it cannot fail
 abbrev pub memory_source : PageView → SourceState
@@ -71,14 +72,16 @@ pub record DoneFrom (devices : List DeviceState) (users : List Entry) (job : Job
 
 -- ---- what is met there
 
--- of whatever history led to the world, and has this job alone: that it is done, and right; and what explains its answer
+-- of whatever history led to the world, and has this job alone: that it is done, and right; and what explains its
+-- answer
 abbrev pub SaysDone : WorldCore → Type 0
 SaysDone w =
     (h : History) (job : Job) → IsJobAt h w 0 job
     → (reports : Reports) × (outcome_at w 0 ≡ Some (Done reports)) × JobIsDone h w 0 job reports
 
 abbrev pub SaysAnswered : WorldCore → Status → Type 0
-SaysAnswered w status = (h : History) (job : Job) → IsJobAt h w 0 job → IsEndingExplained h w 0 job (starved_at w 0) status Answer
+SaysAnswered w status = (h : History) (job : Job) → IsJobAt h w 0 job
+    → IsEndingExplained h w 0 job (starved_at w 0) status Answer
 
 -- it lists all devices, once, in their order
 abbrev pub ListsAll : List DeviceState → List Entry → Job → Type 0
@@ -89,7 +92,8 @@ ListsAll devices users job =
 abbrev pub ShowsOptions : List DeviceState → List Entry → Job → Type 0
 ShowsOptions devices users job =
     (done : DoneFrom devices users job) × (setup : Setup) × (placed : List Placement)
-    × AreSettingsPut (defaults Flatbed Little) job.settings.items placed setup × AreOptionsShown setup done.reports.options
+    × AreSettingsPut (defaults Flatbed Little) job.settings.items placed setup
+    × AreOptionsShown setup done.reports.options
 
 -- its user and password are allowed for a challenge, or no line of the users names its backend
 abbrev pub WasPassed : List DeviceState → List Entry → Job → Type 0
@@ -106,8 +110,8 @@ IsUnlisted h w i job = (asked : Asked h w i IsAtOpen) × (find_name job.device a
 abbrev pub IsDisallowed : History → WorldCore → ℕ → Job → Type 0
 IsDisallowed h w i job = (asked : Asked h w i IsAtOpen) × HasPassed h asked.at.before i job false
 
--- it scans, without settings, on this flatbed, whose page means a picture at its defaults, and its password is right, if a
--- line of the users names its backend
+-- it scans, without settings, on this flatbed, whose page means a picture at its defaults, and its password is right,
+-- if a line of the users names its backend
 pub record IsPlainScan (name : List ℕ) (page : PageView) (users : List Entry) (job : Job) : Type 0 where
   pub named : job.device ≡ name
   pub scan : job.task ≡ tasks.Scan

@@ -45,7 +45,7 @@ use Rattle.scan_world.specs.FileDraining.{HasFiles, KeepsFile}
 use Rattle.system_model.specs.Client.{AbstractJob as RuledJob}
 use Rattle.world_refines.specs.WorldRefinement.{KeepsFiles, is_laid}
 use Rattle.world_refines.proofs.job_events.Constant.{Fixed, all_fixed}
-use Rattle.world_contract.proofs.InTime.{end_file, end_outcome, end_there, explained_in_time, scan_on, steady_on}
+use Rattle.world_contract.proofs.InTime.{end_file, end_job, end_outcome, end_there, explained_in_time, scan_on, steady_on}
 use Rattle.world_contract.proofs.Ended.{comes_there, first_here, laws_of, steps_of_one}
 use Rattle.world_contract.proofs.moments.Listed.{list_kept}
 use Rattle.world_contract.proofs.moments.Unfiled.{empty_file}
@@ -143,7 +143,7 @@ opened_there below h w i job endpoint reports j done list =
     let t = at_first h w job j.led in
     let u = k.ghost_then in
     let promise : KeepsPromise u i reports = subst (IsOutcome u i) done (below.outcomes u w i endpoint k.stands j.endpoint_at) in
-    let task : (job_state u i).session.job.task ≡ task_of job.task = ap (λ (x : RuledJob). x.task) (k.stands.endpoints i endpoint j.endpoint_at).job_is ∙ ap (λ (x : Job). task_of x.task) (job_of below h w job j.led i j.job_at) in
+    let task : (job_state u i).session.job.task ≡ task_of job.task = ap (λ (x : RuledJob). x.task) (k.stands.endpoints i endpoint j.endpoint_at).job_is ∙ ap (λ (x : Job). task_of x.task) (job_of h w job j.led (sources_of h) k i j.job_at) in
     was_opened (laws_of below) h w i job k.steps t.system (first_here below h w i job j.led j.job_at) (steps_of_one below h w job j.led) k.answered k.legal (tt, tt)
     (subst (λ (s : SystemState). (s.job i).client.stage ≡ rules.Done) k.rules_are promise.stage)
     (λ same. list (list_only job.task (sym task ∙ subst (λ (s : SystemState). (s.job i).session.job.task ≡ rules.List_) (sym k.rules_are) same)))
@@ -290,7 +290,7 @@ scan_kept : Below → (h : History) (w : WorldCore) (i : ℕ) (job : Job) (p : E
 scan_kept below h w i job p reports file j steady scan done is =
     let e = end_there below h w i job p j in
     scan_on h w i e.until job 0 file
-    (scan_right below (history_up_to h e.until.front) e.until.at i job e.endpoint reports file e.is (steady_on h w i e.until job.device steady) scan (end_outcome h w i job p j e ∙ done) (end_file h w i job p j e ∙ is))
+    (scan_right below (history_up_to h e.until.front) e.until.at i job e.endpoint reports file (end_job h w i job e) (steady_on h w i e.until job steady) scan (end_outcome h w i job p j e ∙ done) (end_file h w i job p j e ∙ is))
 
 pub file_kept : Below → (h : History) (w : WorldCore) (i : ℕ) (job : Job) (p : Endpoint) → IsJob h w i job p → FileIsKept h w i job p.out_of_memory p.client.outcome p.file
 file_kept below h w i job p j =
@@ -305,10 +305,10 @@ file_kept below h w i job p j =
 page_scanned : Below → (h : History) (w : WorldCore) (i k : ℕ) (job : Job) (p : Endpoint) (file : List ℕ) → IsJob h w i job p → IsSteady h w i job.device → finished_page p k ≡ Some file → IsScan h w i job (k - 1) file
 page_scanned below h w i k job p file j steady f =
     let e = end_there below h w i job p j in
-    let same : finished_page e.endpoint k ≡ finished_page p k = sym (ap (option_and_then (λ (q : Endpoint). finished_page q k)) e.is.endpoint_at) ∙ (sym (e.until.stays.pages k) ∙ ap (option_and_then (λ (q : Endpoint). finished_page q k)) j.endpoint_at) in
+    let same : finished_page e.endpoint k ≡ finished_page p k = sym (ap (option_and_then (λ (q : Endpoint). finished_page q k)) e.endpoint_at) ∙ (sym (e.until.stays.pages k) ∙ ap (option_and_then (λ (q : Endpoint). finished_page q k)) j.endpoint_at) in
     let page = page_there e.endpoint k file (same ∙ f) in
     scan_on h w i e.until job (k - 1) file
-    (page_right below (history_up_to h e.until.front) e.until.at i (k - 1) job e.endpoint file e.is (steady_on h w i e.until job.device steady) page.low page.at)
+    (page_right below (history_up_to h e.until.front) e.until.at i (k - 1) job e.endpoint file (end_job h w i job e) (steady_on h w i e.until job steady) page.low page.at)
 
 pub page_kept : Below → (h : History) (w : WorldCore) (i k : ℕ) (job : Job) (p : Endpoint) → IsJob h w i job p → PageIsKept h w i job p.out_of_memory (min p.finished 16) k (finished_page p k)
 page_kept below h w i k job p j = record {

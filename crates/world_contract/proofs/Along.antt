@@ -18,14 +18,13 @@ use Rattle.system_model.specs.Transitions.{By, IsEnabled, Loads, Transition, Unp
 use Rattle.system_model.specs.Marks.{DeviceView, MarksLead, marks, device_view, touched_device}
 use Rattle.system_model.specs.ModelPromises.{CausesAreGrounded, HistoriesKeepInvariant, MarksAreEnabled, OutcomesLast}
 use Rattle.system_model.specs.Invariants.{Invariant}
-use Rattle.world_refines.specs.NewWorlds.{make_of}
+use Rattle.world_refines.specs.NewWorlds.{PageSources, make_of}
 use Rattle.world_refines.specs.WorldRefinement.{HaveDifferentNames}
 use Rattle.world_refines.specs.GhostStates.{name_at, place_named, abstract_job}
 use Rattle.world_refines.proofs.state.Infos.{place_is}
 use Rattle.daemon_refines.proofs.Moved.{own}
 use Rattle.world_contract.specs.Histories.{History}
 use Rattle.world_contract.specs.Page.{Settled}
-use Rattle.world_contract.proofs.Sources.{sources_of, make_at}
 use Rattle.world_contract.proofs.Lists.{contains_at}
 use Rattle.world_contract.proofs.Marked.{Slotted, slotted_then}
 use Rattle.world_contract.proofs.Asked.{AsksGuarded}
@@ -34,6 +33,7 @@ use Rattle.world_contract.proofs.Pages.{HasDevice, IsOfDevice, IsOfOne, loads_if
 use Rattle.world_contract.proofs.Options.{IsForced}
 use Rattle.world_contract.proofs.Nearest.{nearest_for}
 use Rattle.world_contract.proofs.Scanned.{infos_of, name_of}
+use Rattle.world_contract.proofs.Sources.{CanFail}
 
 -- ---- devices
 
@@ -41,9 +41,15 @@ use Rattle.world_contract.proofs.Scanned.{infos_of, name_of}
 abbrev pub place_of : History → Job → ℕ → ℕ
 place_of h job j = place_named (infos_of h) (slice_index_or h.jobs j job).device
 
+-- its sources, and that a page which can fail came for it where they may
+pub record Made (h : History) (d : ℕ) (make : Make) : Type 0 where
+  pub sources : PageSources
+  pub is : make ≡ make_of sources (slice_get h.devices d)
+  pub fails : sources.fallible ≡ true → (device : DeviceState) → slice_get h.devices d ≡ Some device → CanFail h device.info.name
+
 -- each device is so
 pub record Fine (h : History) (job : Job) (s : SystemState) : Type 0 where
-  pub makes : s.make ≡ make_at h
+  pub makes : (d : ℕ) → Made h d (s.make d)
   pub places : (j : ℕ) → wanted_place s j ≡ place_of h job j
   pub slots : (d : ℕ) → Slotted (HasDevice h d) (IsOfDevice h d) (device_view (s.make d) (s.device d))
 
@@ -75,7 +81,7 @@ slots_then legal h job s x sound l of f d true e =
 
 pub fine_then : MarksAreEnabled → (h : History) (job : Job) (s : SystemState) (x : Transition) → Invariant s → IsEnabled s x → IsOfOne h x → Fine h job s → Fine h job (after_transition s x)
 fine_then legal h job s x sound l of f = record {
-  makes = make_stays s x ∙ f.makes;
+  makes = λ d. record { sources = (f.makes d).sources; is = ap (λ (m : ℕ → Make). m d) (make_stays s x) ∙ (f.makes d).is; fails = (f.makes d).fails };
   places = λ j. wants_same s x j ∙ f.places j;
   slots = λ d. slots_then legal h job s x sound l of f d (eqb d (touched_device s x)) refl;
 }
@@ -119,8 +125,9 @@ settled_by h i job s o f is mine forced =
     let place : wanted_place s i ≡ d = f.places i ∙ own_place h i job o.at in
     let there : HasDevice h d = subst (HasDevice h) place ((f.slots (wanted_place s i)).held i mine) in
     let device = there.0 in
-    let b = sources_of h d in
-    let make : make_for s i ≡ make_of b (Some device) = ap (λ (m : ℕ → Make). m (wanted_place s i)) f.makes ∙ (ap (make_at h) place ∙ ap (make_of b) there.1) in
+    let known = f.makes (wanted_place s i) in
+    let b = known.sources in
+    let make : make_for s i ≡ make_of b (Some device) = known.is ∙ ap (make_of b) (ap (slice_get h.devices) place ∙ there.1) in
     let ruled : abstract_in_force (make_of b (Some device)) (map requested_setting job.settings.items) ≡ Some (record { options = (device_for s i).options; reports = forced.0 }) =
     subst (λ (k : Make). abstract_in_force k (map requested_setting job.settings.items) ≡ Some (record { options = (device_for s i).options; reports = forced.0 })) make
     (ap (λ (j : RuledJob). abstract_in_force (make_for s i) j.settings) (sym is) ∙ forced.1) in
@@ -153,7 +160,7 @@ pub record Here (h : History) (i : ℕ) (job : Job) (s : SystemState) : Type 0 w
   pub sound : Invariant s
 
 abbrev pub NotForced : History → Job → Type 0
-NotForced h job = abstract_in_force (make_at h (place_named (infos_of h) job.device)) (map requested_setting job.settings.items) ≡ None
+NotForced h job = (b : PageSources) × (abstract_in_force (make_of b (slice_get h.devices (place_named (infos_of h) job.device))) (map requested_setting job.settings.items) ≡ None)
 
 pub record Laws : Type 0 where
   pub legal : MarksAreEnabled

@@ -1,22 +1,17 @@
 -- The starts of a job are those of its marks.
 use Rattle.std.specs.Prelude.{cond, eqb}
-use Rattle.std.specs.List.{AllByRecursion}
 use Rattle.std.proofs.Common.{◌≡◌, ◌∙◌, ℕ, List, [], ◌∷◌, Bool, true, false, Option, refl, sym, ap, subst, eqb-true}
 use Rattle.system_model.specs.AbstractMessages.{Challenge, AbstractRequest}
 use Rattle.system_model.specs.Client.{AbstractJob}
 use Rattle.system_model.specs.Devices.{Make}
-use Rattle.system_model.specs.AbstractDevices.{Begin, AbstractDevice}
+use Rattle.system_model.specs.AbstractDevices.{AbstractDevice}
 use Rattle.system_model.specs.Daemon.{FailureCounts}
 use Rattle.system_model.specs.SystemStates.{JobState, SystemState, listed_devices, make_for, device_for, wanted_place}
 use Rattle.system_model.specs.Actions
 use Rattle.system_model.specs.Actions.{Action, answer_next, job_after_action}
 use Rattle.system_model.specs.Transitions.{By, Loads, Transition, Unplugs, after_transition, after_all}
-use Rattle.system_model.specs.Marks.{marks, starts_in}
-use Rattle.system_model.specs.MoveRuns.{all_marks, marks_at}
-use Rattle.system_model.specs.ModelPromises.{NotesAreTrue}
+use Rattle.system_model.specs.Marks.{marks}
 use Rattle.daemon_refines.proofs.Moved.{own}
-use Rattle.world_contract.proofs.Lists.{all_back, all_front, all_then}
-use Rattle.world_contract.proofs.Marked.{StartsIt, starts_all}
 
 -- ---- a job stays what it is
 
@@ -64,34 +59,6 @@ job_same s (Unplugs d) i = refl
 
 pub wants_same : (s : SystemState) (x : Transition) (i : ℕ) → wanted_place (after_transition s x) i ≡ wanted_place s i
 wants_same s x i = ap (λ (job : AbstractJob). job.wants) (job_same s x i)
-
--- ---- the starts
-
-abbrev pub Begun : (ℕ → Begin → Type 0) → SystemState → ℕ → Type 0
-Begun Q s i = AllByRecursion (Q (wanted_place s i)) (s.job i).session.started
-
-own_marks : (s : SystemState) (j : ℕ) (x : Action) → marks_at (wanted_place s j) s (By j x) ≡ marks s (By j x)
-own_marks s j x = ap (λ (b : Bool). cond b (marks s (By j x)) []) (own (wanted_place s j))
-
-one_begun : NotesAreTrue → (Q : ℕ → Begin → Type 0) (s : SystemState) (j : ℕ) (x : Action) → AllByRecursion (StartsIt (Q (wanted_place s j))) (marks s (By j x)) → ((i : ℕ) → Begun Q s i) → (i : ℕ) (b : Bool) → eqb i j ≡ b → AllByRecursion (Q (wanted_place s i)) ((after_transition s (By j x)).job i).session.started
-one_begun notes Q s j x a h i false e = subst (λ (p : JobState). AllByRecursion (Q (wanted_place s i)) p.session.started) (sym (party_stays s j x i e)) (h i)
-one_begun notes Q s j x a h i true e =
-    let same : i ≡ j = eqb-true i j e in
-    subst (λ (n : ℕ). AllByRecursion (Q (wanted_place s n)) ((after_transition s (By j x)).job n).session.started) (sym same)
-    (subst (AllByRecursion (Q (wanted_place s j))) (sym (notes s j x).0) (all_then (Q (wanted_place s j)) (s.job j).session.started (starts_in (marks s (By j x))) (h j) (starts_all (Q (wanted_place s j)) (marks s (By j x)) a)))
-
-step_begun : NotesAreTrue → (Q : ℕ → Begin → Type 0) (s : SystemState) (x : Transition) → ((d : ℕ) → AllByRecursion (StartsIt (Q d)) (marks_at d s x)) → ((i : ℕ) → Begun Q s i) → (i : ℕ) → Begun Q (after_transition s x) i
-step_begun notes Q s (By j x) a h i =
-    subst (λ (d : ℕ). AllByRecursion (Q d) ((after_transition s (By j x)).job i).session.started) (sym (wants_same s (By j x) i))
-    (one_begun notes Q s j x (subst (AllByRecursion (StartsIt (Q (wanted_place s j)))) (own_marks s j x) (a (wanted_place s j))) h i (eqb i j) refl)
-step_begun notes Q s (Loads d page) a h i = h i
-step_begun notes Q s (Unplugs d) a h i = h i
-
-pub all_begun : NotesAreTrue → (Q : ℕ → Begin → Type 0) (xs : List Transition) (s : SystemState) → ((d : ℕ) → AllByRecursion (StartsIt (Q d)) (all_marks d s xs)) → ((i : ℕ) → Begun Q s i) → (i : ℕ) → Begun Q (after_all s xs) i
-all_begun notes Q [] s a h i = h i
-all_begun notes Q (x ∷ xs) s a h i =
-    all_begun notes Q xs (after_transition s x) (λ d. all_back (StartsIt (Q d)) (marks_at d s x) (all_marks d (after_transition s x) xs) (a d))
-    (step_begun notes Q s x (λ d. all_front (StartsIt (Q d)) (marks_at d s x) (all_marks d (after_transition s x) xs) (a d)) h) i
 
 pub wants_all : (xs : List Transition) (s : SystemState) (i : ℕ) → wanted_place (after_all s xs) i ≡ wanted_place s i
 wants_all [] s i = refl

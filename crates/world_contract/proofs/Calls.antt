@@ -1,7 +1,6 @@
 -- What each call promises, and what all of them do.
-use Rattle.std.specs.Prelude.{◌^◌, cond, if◌then◌else◌, ◌<◌, ◌≤◌, ◌≢◌, All, min, length, map, option_map, option_and_then, slice_get}
+use Rattle.std.specs.Prelude.{◌^◌, cond, if◌then◌else◌, ◌<◌, ◌≤◌, ◌≢◌, All, IfSome, IsSome, min, map, option_map, option_and_then, slice_get}
 use Rattle.std.proofs.Common.{arith, ◌≡◌, ◌∙◌, ℕ, zero, suc, List, [], ◌∷◌, Option, Some, None, Bool, true, false, refl, sym, ap, subst, ◌⊎◌, inl, inr}
-use Rattle.std.proofs.lemmas.Option.{slice_get_within}
 use Rattle.std.proofs.lemmas.List.Elements.{All-map}
 use Rattle.std.specs.List.{AllByRecursion}
 use Rattle.page_picture.specs.SourceView.{source_state}
@@ -25,12 +24,11 @@ use Rattle.scan_world.specs.Worlds.{AreNew, IsInitialWorld, MayRun, WorldCore}
 use Rattle.world_refines.specs.MainTheorem.{AreTrueLoads, IsTrueLoad}
 use Rattle.world_contract.specs.Histories.{History, LedTo, and_then, begun}
 use Rattle.world_contract.specs.Promise.{CountIsKept, FileIsKept, MoveIsKept, MovesAreKept, OutcomeIsKept, PageIsKept}
-use Rattle.world_contract.specs.Calls.{IsJobAt, IsMoveAt, KeepsPageCount, KeepsScanFile, KeepsMemory, KeepsMove, KeepsMoves, KeepsOutcome, KeepsPage, KeepsRunning, MovesNext, file_answered, finished_at, finished_by, is_starved, left_at, moves_answered, outcome_at, page_answered, starved_at}
+use Rattle.world_contract.specs.Calls.{ForEach, IsGoodMove, IsMoveAt, MovesNext, RunsOut, file_answered, finished_at, finished_by, is_starved, left_at, moves_answered, outcome_at, page_answered, starved_at}
 use Rattle.world_contract.specs.Laws.{AllFollow, Below}
 use Rattle.world_contract.proofs.Led.{led_then}
 use Rattle.world_contract.proofs.NextMoves.{quiet_loads, quiet_moves, rounds_moves}
-use Rattle.world_contract.proofs.Scanned.{at_first, kept_by}
-use Rattle.world_refines.proofs.job_events.Constant.{Fixed, all_fixed}
+use Rattle.world_contract.proofs.Scanned.{kept_by}
 use Rattle.world_contract.proofs.AllKept.{count_kept, file_kept, move_kept, moves_kept, outcome_kept, page_kept}
 use Rattle.world_contract.proofs.Ended.{loss_kept}
 use Rattle.world_contract.proofs.There.{endpoint_there, outcome_there}
@@ -94,15 +92,27 @@ move_is d i (Some p) at event e some none = some p e
 
 -- ---- what they promise
 
-pub outcome_call : Below → (w : WorldCore) (i : ℕ) (given : Option Outcome) → given ≡ outcome_at w i → KeepsOutcome w i given
-outcome_call below w i given is h job at =
+-- there is one, and it is right
+pub outcome_call : Below → (w : WorldCore) (i : ℕ) → ForEach w i (λ h job. (o : Outcome) × (outcome_at w i ≡ Some o) × OutcomeIsKept h w i job (starved_at w i) o)
+outcome_call below w i h job at =
     let p = endpoint_there below h w i job at in (
       p.0.client.outcome,
-      is ∙ ap (option_map (λ (x : Endpoint). x.client.outcome)) p.1.endpoint_at,
+      ap (option_map (λ (x : Endpoint). x.client.outcome)) p.1.endpoint_at,
       subst (λ (b : Bool). OutcomeIsKept h w i job b p.0.client.outcome) (sym (ap is_starved p.1.endpoint_at)) (outcome_kept below h w i job p.0 p.1),
     )
 
-pub file_call : Below → (w : WorldCore) (i : ℕ) (given : Option (List ℕ)) → given ≡ file_answered w i → KeepsScanFile w i given
+pub outcome_given : {X : Type 0} (read : X → Outcome) (given : Option X) → Below → (w : WorldCore) (i : ℕ) → option_map read given ≡ outcome_at w i → IfSome given (λ (x : X). ForEach w i (λ h job. OutcomeIsKept h w i job (starved_at w i) (read x)))
+outcome_given read None below w i is = tt
+outcome_given read (Some x) below w i is = λ h job at.
+    let o = outcome_call below w i h job at in
+    let same : o.0 ≡ read x = (let both : Some (read x) ≡ Some o.0 = is ∙ o.1 in cc) in
+    subst (OutcomeIsKept h w i job (starved_at w i)) same o.2
+
+pub outcome_there_is : {X : Type 0} (read : X → Outcome) (given : Option X) → Below → (w : WorldCore) (i : ℕ) → option_map read given ≡ outcome_at w i → ForEach w i (λ h job. IsSome given)
+outcome_there_is read None below w i is h job at = let o = outcome_call below w i h job at in let clash : None ≡ Some o.0 = is ∙ o.1 in absurd (cc)
+outcome_there_is read (Some x) below w i is h job at = refl
+
+pub file_call : Below → (w : WorldCore) (i : ℕ) (given : Option (List ℕ)) → given ≡ file_answered w i → ForEach w i (λ h job. (o : Outcome) → outcome_at w i ≡ Some o → FileIsKept h w i job (starved_at w i) o given)
 file_call below w i given is h job at outcome there =
     let p = endpoint_there below h w i job at in
     let as_file : FileIsKept h w i job p.0.out_of_memory p.0.client.outcome given =
@@ -111,7 +121,7 @@ file_call below w i given is h job at outcome there =
     subst (λ (b : Bool). FileIsKept h w i job b p.0.client.outcome given) (sym (ap is_starved p.1.endpoint_at)) as_file in
     subst (λ (o : Outcome). FileIsKept h w i job (starved_at w i) o given) (outcome_there w.endpoints i p.0 outcome p.1.endpoint_at there) as_starved
 
-pub page_call : Below → (w : WorldCore) (i k : ℕ) (given : Option (List ℕ)) → given ≡ page_answered w i k → KeepsPage w i k given
+pub page_call : Below → (w : WorldCore) (i k : ℕ) (given : Option (List ℕ)) → given ≡ page_answered w i k → ForEach w i (λ h job. PageIsKept h w i job (starved_at w i) (finished_at w i) k given)
 page_call below w i k given is h job at =
     let p = endpoint_there below h w i job at in
     let as_file : PageIsKept h w i job p.0.out_of_memory (min p.0.finished 16) k given =
@@ -120,25 +130,29 @@ page_call below w i k given is h job at =
     subst (λ (b : Bool). PageIsKept h w i job b (min p.0.finished 16) k given) (sym (ap is_starved p.1.endpoint_at)) as_file in
     subst (λ (n : ℕ). PageIsKept h w i job (starved_at w i) n k given) (sym (ap finished_by p.1.endpoint_at)) as_starved
 
-pub count_call : Below → (w : WorldCore) (i : ℕ) (given : ℕ) → given ≡ finished_at w i → KeepsPageCount w i given
+pub count_call : Below → (w : WorldCore) (i : ℕ) (given : ℕ) → given ≡ finished_at w i → ForEach w i (λ h job. (o : Outcome) → outcome_at w i ≡ Some o → CountIsKept h w i job o given)
 count_call below w i given is h job at outcome there =
     let p = endpoint_there below h w i job at in
     let own : CountIsKept h w i job outcome (min p.0.finished 16) = subst (λ (o : Outcome). CountIsKept h w i job o (min p.0.finished 16)) (outcome_there w.endpoints i p.0 outcome p.1.endpoint_at there) (count_kept below h w i job p.0 p.1) in
     subst (CountIsKept h w i job outcome) (sym (is ∙ ap finished_by p.1.endpoint_at)) own
 
-pub memory_call : Below → (w : WorldCore) (i : ℕ) (given : Bool) → given ≡ starved_at w i → KeepsMemory w i given
-memory_call below w i given is h job at enough =
+-- where it is told as none that is out of memory, no file is missing
+pub file_there : Below → (w : WorldCore) (i : ℕ) (given : Bool) → given ≡ starved_at w i → ForEach w i (λ h job. given ≡ false → file_answered w i ≢ None)
+file_there below w i given is h job at enough none =
     let p = endpoint_there below h w i job at in
     let had : p.0.out_of_memory ≡ false = sym (is ∙ ap is_starved p.1.endpoint_at) ∙ enough in
-    let file = file_kept below h w i job p.0 p.1 in (
-      λ none. absurd (let clash : true ≡ false = sym (file.missing (ap (option_and_then (λ (x : Endpoint). x.file)) (sym p.1.endpoint_at) ∙ none)) ∙ had in cc),
-      λ k some within none.
-          let page = page_kept below h w i k job p.0 p.1 in
-          let most : k ≤ min p.0.finished 16 = subst (λ (n : ℕ). k ≤ n) (ap finished_by p.1.endpoint_at) within in
-          absurd (let clash : true ≡ false = sym (page.missing some most (ap (option_and_then (λ (x : Endpoint). finished_page x k)) (sym p.1.endpoint_at) ∙ none)) ∙ had in cc),
-    )
+    let file = file_kept below h w i job p.0 p.1 in
+    let clash : true ≡ false = sym (file.missing (ap (option_and_then (λ (x : Endpoint). x.file)) (sym p.1.endpoint_at) ∙ none)) ∙ had in absurd (cc)
 
-pub move_call : Below → (w : WorldCore) (i : ℕ) (given : Option Event) → IsMoveAt w i given → KeepsMove w i given
+pub pages_there : Below → (w : WorldCore) (i : ℕ) (given : Bool) → given ≡ starved_at w i → ForEach w i (λ h job. given ≡ false → (k : ℕ) → 0 < k → k ≤ finished_at w i → page_answered w i k ≢ None)
+pages_there below w i given is h job at enough k some within none =
+    let p = endpoint_there below h w i job at in
+    let had : p.0.out_of_memory ≡ false = sym (is ∙ ap is_starved p.1.endpoint_at) ∙ enough in
+    let page = page_kept below h w i k job p.0 p.1 in
+    let most : k ≤ min p.0.finished 16 = subst (λ (n : ℕ). k ≤ n) (ap finished_by p.1.endpoint_at) within in
+    let clash : true ≡ false = sym (page.missing some most (ap (option_and_then (λ (x : Endpoint). finished_page x k)) (sym p.1.endpoint_at) ∙ none)) ∙ had in absurd (cc)
+
+pub move_call : Below → (w : WorldCore) (i : ℕ) (given : Option Event) → IsMoveAt w i given → ForEach w i (λ h job. IsGoodMove h w i job given)
 move_call below w i given is h job at =
     let p = endpoint_there below h w i job at in
     let next : IsNextMove w.daemon i p.0 given = subst (λ (o : Option Endpoint). MovesNext w.daemon i o given) p.1.endpoint_at is in
@@ -151,7 +165,7 @@ move_call below w i given is h job at =
     by_loss a b same (inl out) = inl (same ∙ out)
     by_loss a b same (inr unsaid) = inr unsaid
 
-pub moves_call : Below → (w : WorldCore) (i : ℕ) (given : ℕ) → given ≡ left_at w i → KeepsMoves w i given
+pub moves_call : Below → (w : WorldCore) (i : ℕ) (given : ℕ) → given ≡ left_at w i → ForEach w i (λ h job. (o : Outcome) → outcome_at w i ≡ Some o → MovesAreKept o given)
 moves_call below w i given is h job at outcome there =
     let p = endpoint_there below h w i job at in
     let own : MovesAreKept outcome (moves_left_of p.0) = subst (λ (o : Outcome). MovesAreKept o (moves_left_of p.0)) (outcome_there w.endpoints i p.0 outcome p.1.endpoint_at there) (moves_kept below h w i job p.0 p.1) in
@@ -162,7 +176,7 @@ moves_call below w i given is h job at outcome there =
 runs_no_more : (o : Outcome) → is_running o ≡ false → o ≢ Running
 runs_no_more o off e = absurd (let clash : true ≡ false = sym (ap is_running e) ∙ off in cc)
 
-pub ran_out : Below → (w v : WorldCore) → RoundsRunOut source_state w v → KeepsRunning w v
+pub ran_out : Below → (w v : WorldCore) → RoundsRunOut source_state w v → (h : History) → LedTo h w → RunsOut h w v
 ran_out below w v out h l =
     let moves = all_made out.rounds in
     let next = rounds_moves out.rounds w v out.goes in

@@ -1,11 +1,11 @@
 -- A job in whose way nothing stands is done, or is told as out of memory, or its session broke off.
-use Rattle.std.specs.Prelude.{Contains, length, option_map, slice_get, slice_index_or, ◌<◌}
+use Rattle.std.specs.Prelude.{Contains, map, option_map, slice_get, ◌<◌}
 use Rattle.std.specs.List.{AllByRecursion}
-use Rattle.std.proofs.Common.{◌≡◌, ◌≢◌, ◌∙◌, ◌⊎◌, ℕ, zero, suc, List, [], ◌∷◌, ◌++◌, Bool, true, false, Option, Some, None, inl, inr, refl, sym, ap, subst, arith}
+use Rattle.std.proofs.Common.{◌≡◌, ◌≢◌, ◌∙◌, ◌⊎◌, ℕ, List, [], ◌∷◌, ◌++◌, Bool, true, false, Option, Some, None, inl, inr, refl, sym, ap, subst}
 use Rattle.page_picture.specs.SourceView.{source_state}
 use Rattle.sane_fixed.specs.declared.status.Status.{Status}
 use Rattle.sane_fixed.specs.declared.status.Status.TheVariants as statuses
-use Rattle.device_api.specs.State.{DeviceState, HeldPage, is_infallible}
+use Rattle.device_api.specs.State.{DeviceState, HeldPage, feeds, is_at_rest}
 use Rattle.saned_core.specs.DaemonStates.{Core}
 use Rattle.client_replies.specs.ProtocolStates.{is_running, scans}
 use Rattle.scan_job.specs.declared.job.Job.{Job}
@@ -23,16 +23,17 @@ use Rattle.scan_world.specs.JobEvents.{job_event_of}
 use Rattle.scan_world.specs.JobMoves.{IsFirstMove, IsNext, IsNextMove, in_order}
 use Rattle.scan_world.specs.Rounds.{RoundsRunOut}
 use Rattle.scan_world.specs.Worlds.{Leads, Runs, WorldCore}
-use Rattle.world_contract.specs.Calls.{AreNextMoves, IsMoveAt, MovesNext, is_starved, outcome_at, starved_at}
-use Rattle.world_contract.specs.Clear.{BrokeOff, ClearsBy, ClearsUp, ComesTo, IsClear, IsEither, SharesClear}
-use Rattle.world_contract.specs.Endings.{AnswerIsExplained, DeviceFailed, IsEndingExplained, NamesStatus}
+use Rattle.world_contract.specs.Calls.{AreNextMoves, IsJobAt, IsMoveAt, MovesNext, is_starved, starved_at}
+use Rattle.world_contract.specs.Clear.{BrokeOff, ClearsBy, ClearsUp, ComesTo, IsClear, IsEither, IsSupplied, SharesClear}
+use Rattle.world_contract.specs.Endings.{AnswerIsExplained, IsEndingExplained, NamesStatus}
 use Rattle.world_contract.specs.Histories.{History, LedTo, Moment, and_then, history_up_to}
 use Rattle.world_contract.specs.Laws.{Below}
 use Rattle.world_contract.specs.Page.{CameFor, CameInTime, Settled}
 use Rattle.world_contract.specs.Page.CameFor.{AtFirst, WithEvent}
 use Rattle.world_contract.specs.Page.CameInTime.{FromFirst, AsItRan}
 use Rattle.world_contract.specs.Promise.{OutcomeIsKept}
-use Rattle.world_contract.specs.Sessions.{Has}
+use Rattle.world_contract.specs.Sessions.{Asked, AtJob, Has, IsAtStart}
+use Rattle.world_contract.specs.Trays.{OwnTray}
 use Rattle.world_contract.proofs.Calls.{outcome_call, ran_out}
 use Rattle.world_contract.proofs.Ended.{loss_kept}
 use Rattle.world_contract.proofs.Led.{led_then}
@@ -42,7 +43,8 @@ use Rattle.world_contract.proofs.Refused.{cancel_next}
 use Rattle.world_contract.proofs.There.{endpoint_there, outcome_there}
 use Rattle.world_contract.proofs.moments.Beside.{Pair, not_both}
 use Rattle.world_contract.proofs.moments.Entries.{unsome}
-use Rattle.world_contract.proofs.Unhindered.{IsOf, firm_here, has_own, is_of, listed_here, some_page}
+use Rattle.world_contract.proofs.Unhindered.{IsOf, has_own, is_of, listed_here, some_page}
+use Rattle.world_contract.proofs.TrayPages.{trays_are_taken}
 
 -- ---- events
 
@@ -90,6 +92,12 @@ old_events h ms front back e quiet split x among = elim (in_either h.events ms x
   | inr there ↦ inl (quiet_in ms x quiet there)
 ]
 
+all_old : (h : History) (ms : List Event) → AllByRecursion LoadsNothing ms → AreOld h (h.events ++ ms)
+all_old h ms quiet e among = elim (in_either h.events ms e among) [
+  | inl here ↦ inr here
+  | inr there ↦ inl (quiet_in ms e quiet there)
+]
+
 -- ---- what histories of one world have
 
 settled_back : (h : History) (es : List Event) (job : Job) → Settled (history_up_to h es) job → Settled h job
@@ -122,14 +130,28 @@ unlisted_not below h es v i job led old clear among = elim (old (Unplug job.devi
 clear_of : {Q : ℕ → Type 0} → (below : Below) (h : History) (es : List Event) (v : WorldCore) (i : ℕ) (job : Job) (led : LedTo (history_up_to h es) v) (clear : IsClear h i job Q) (d : DeviceState) → Has v i job.device d → IsOf (history_up_to h es) clear.device d
 clear_of below h es v i job led clear d has = is_of below (history_up_to h es) v job led clear.device clear.is_there i d (subst (λ (n : List ℕ). Has v i n d) (sym clear.named) has)
 
-paged : {Q : ℕ → Type 0} → Below → (h : History) (es : List Event) (v : WorldCore) (i : ℕ) (job : Job) → LedTo (history_up_to h es) v → IsClear h i job Q → scans job.task ≡ true → (d : DeviceState) → Has v i job.device d → d.pages ≡ [] → ⊥
-paged below h es v i job led clear scanning d has none = some_page (history_up_to h es) clear.device d (clear_of below h es v i job led clear d has) (clear.plain scanning) none
+-- a feeder in the way of which nothing stands is its job's own
+own_tray : {Q : ℕ → Type 0} → (h : History) (ms : List Event) (i : ℕ) (job : Job) → AllByRecursion LoadsNothing ms → (clear : IsClear h i job Q) → feeds clear.device ≡ true → IsSupplied h i job clear.device Q → OwnTray (and_then h ms) i job
+own_tray h ms i job quiet clear feeder supplied = record {
+  device = clear.device;
+  is_there = clear.is_there;
+  named = clear.named;
+  feeder = feeder;
+  alone = λ j other at named. supplied.only j (clear.alone j other at named);
+  unladen = λ source among. elim (in_either h.events ms (Load job.device source) (in_list (h.events ++ ms) (Load job.device source) among)) [
+    | inl here ↦ supplied.unladen source (contains_in h.events (Load job.device source) here)
+    | inr there ↦ quiet_in ms (Load job.device source) quiet there
+  ];
+}
 
-firm : {Q : ℕ → Type 0} → Below → (h : History) (es : List Event) (v x : WorldCore) (i : ℕ) (job : Job) → LedTo (history_up_to h es) v → AreOld h es → IsClear h i job Q → scans job.task ≡ true → DeviceFailed v x i job.device → ⊥
-firm below h es v x i job led old clear scanning failed =
-    let sure : is_infallible failed.device ≡ true = firm_here (history_up_to h es) clear.device failed.device (clear_of below h es v i job led clear failed.device failed.has) (clear.plain scanning)
-    (λ held came. clear.firm scanning held (subst (λ (n : List ℕ). CameFor h n held) clear.named (came_back h es old clear.device.info.name held came))) in
-    let clash : true ≡ false = sym sure ∙ failed.stopped.can_fail in cc
+paged : {Q : ℕ → Type 0} → Below → (h : History) (ms : List Event) (v : WorldCore) (i : ℕ) (job : Job) → AllByRecursion LoadsNothing ms → IsJobAt (and_then h ms) v i job → (clear : IsClear h i job Q) → scans job.task ≡ true → (asked : Asked (and_then h ms) v i IsAtStart) → AtJob asked.at.before i (λ p. p.finished ≡ 0) → (d : DeviceState) → Has asked.at.before i job.device d → is_at_rest d.phase ≡ true → d.pages ≡ [] → (b : Bool) → feeds clear.device ≡ b → ⊥
+unfolding own_tray
+paged below h ms v i job quiet at clear scanning asked finished d has rests none false plain =
+    some_page (history_up_to h asked.at.front) clear.device d (clear_of below h asked.at.front asked.at.before i job asked.at.led_before clear d has) plain none
+paged below h ms v i job quiet at clear scanning asked finished d has rests none true feeder =
+    let supplied = clear.supplied scanning feeder in
+    let left = (trays_are_taken below (and_then h ms) v i 0 job at (own_tray h ms i job quiet clear feeder supplied) asked finished d has rests).0 in
+    supplied.some (sym left ∙ ap (λ (pages : List HeldPage). map (λ (held : HeldPage). held.page) pages) none)
 
 -- ---- what the daemon answers
 
@@ -137,35 +159,30 @@ firm below h es v x i job led old clear scanning failed =
 abbrev Held : (ℕ → Type 0) → ℕ → Status → Type 0
 Held Q i status = (status ≡ statuses.DeviceBusy) × ((j : ℕ) × (j ≢ i) × Q j)
 
-answered : {Q : ℕ → Type 0} → Below → (h : History) (ms : List Event) (v : WorldCore) (i : ℕ) (job : Job) → AllByRecursion LoadsNothing ms → IsClear h i job Q → (status : Status) → AnswerIsExplained (and_then h ms) v i job status → Held Q i status
+answered : {Q : ℕ → Type 0} → Below → (h : History) (ms : List Event) (v : WorldCore) (i : ℕ) (job : Job) → AllByRecursion LoadsNothing ms → IsJobAt (and_then h ms) v i job → IsClear h i job Q → (status : Status) → AnswerIsExplained (and_then h ms) v i job status → Held Q i status
 unfolding settled_back
-answered below h ms v i job quiet clear statuses.Good x = absurd x
-answered below h ms v i job quiet clear statuses.Unsupported x = absurd x
-answered below h ms v i job quiet clear statuses.Cancelled x = absurd x
-answered below h ms v i job quiet clear statuses.DeviceBusy (asked, j, d, other, has) =
+answered below h ms v i job quiet at clear statuses.Good x = absurd x
+answered below h ms v i job quiet at clear statuses.Unsupported x = absurd x
+answered below h ms v i job quiet at clear statuses.Cancelled x = absurd x
+answered below h ms v i job quiet at clear statuses.DeviceBusy (asked, j, d, other, has) =
     let own = has_own below (history_up_to h asked.at.front) asked.at.before job asked.at.led_before j job.device d has in
     (refl, (j, other, clear.alone j own.0 own.1 own.2))
-answered below h ms v i job quiet clear statuses.Inval (inl unforced) = absurd (clear.forced (λ s. unforced (settled_more h (h.events ++ ms) job s)))
-answered below h ms v i job quiet clear statuses.Inval (inr (inr (asked, none))) =
+answered below h ms v i job quiet at clear statuses.Inval (inl unforced) = absurd (clear.forced (λ s. unforced (settled_more h (h.events ++ ms) job s)))
+answered below h ms v i job quiet at clear statuses.Inval (inr (inr (asked, none))) =
     let old = old_events h ms asked.at.front asked.at.back _ quiet asked.at.split in
     absurd (listed_here below (history_up_to h asked.at.front) asked.at.before job asked.at.led_before clear.device clear.is_there clear.named
     (λ among. unlisted_not below h asked.at.front asked.at.before i job asked.at.led_before old clear among) none)
-answered below h ms v i job quiet clear statuses.Inval (inr (inl none)) =
-    let old : AreOld h (h.events ++ ms) = λ e among. elim (in_either h.events ms e among) [
-      | inl here ↦ inr here
-      | inr there ↦ inl (quiet_in ms e quiet there)
-    ] in
-    absurd (clear.meant none.scanning (settled_back h (h.events ++ ms) job none.settled) none.held (came_back h (h.events ++ ms) old job.device none.held (came_ever (and_then h ms) v i job.device none.held none.came)) none.none)
-answered below h ms v i job quiet clear statuses.Eof x = absurd x
-answered below h ms v i job quiet clear statuses.Jammed x = absurd x
-answered below h ms v i job quiet clear statuses.NoDocs (scanning, asked, finished, (d, has, none)) = absurd (paged below h asked.at.front asked.at.before i job asked.at.led_before clear scanning d has none)
-answered below h ms v i job quiet clear statuses.CoverOpen x = absurd x
-answered below h ms v i job quiet clear statuses.IoError (scanning, inl (asked, failed)) =
-    absurd (firm below h asked.at.front asked.at.before asked.at.behind i job asked.at.led_before (old_events h ms asked.at.front asked.at.back _ quiet asked.at.split) clear scanning failed)
-answered below h ms v i job quiet clear statuses.IoError (scanning, inr (turn, failed, sent)) =
-    absurd (firm below h turn.0.front turn.0.before turn.0.behind i job turn.0.led_before (old_events h ms turn.0.front turn.0.back _ quiet turn.0.split) clear scanning failed)
-answered below h ms v i job quiet clear statuses.NoMem x = absurd x
-answered below h ms v i job quiet clear statuses.AccessDenied (asked, judged) = absurd (let clash : true ≡ false = sym (clear.allowed judged.sent.resource judged.guarded) ∙ judged.is in cc)
+answered below h ms v i job quiet at clear statuses.Inval (inr (inl none)) =
+    absurd (clear.meant none.scanning (settled_back h (h.events ++ ms) job none.settled) none.held (came_back h (h.events ++ ms) (all_old h ms quiet) job.device none.held (came_ever (and_then h ms) v i job.device none.held none.came)) none.none)
+answered below h ms v i job quiet at clear statuses.Eof x = absurd x
+answered below h ms v i job quiet at clear statuses.Jammed x = absurd x
+answered below h ms v i job quiet at clear statuses.NoDocs (scanning, asked, finished, (d, has, rests, none)) = absurd (paged below h ms v i job quiet at clear scanning asked finished d has rests none (feeds clear.device) refl)
+answered below h ms v i job quiet at clear statuses.CoverOpen x = absurd x
+answered below h ms v i job quiet at clear statuses.IoError (scanning, (held, came, able), failed) =
+    let firm = clear.firm scanning held (came_back h (h.events ++ ms) (all_old h ms quiet) job.device held (came_ever (and_then h ms) v i job.device held came)) in
+    absurd (let clash : true ≡ false = sym firm ∙ able in cc)
+answered below h ms v i job quiet at clear statuses.NoMem x = absurd x
+answered below h ms v i job quiet at clear statuses.AccessDenied (asked, judged) = absurd (let clash : true ≡ false = sym (clear.allowed judged.sent.resource judged.guarded) ∙ judged.is in cc)
 
 unnamed : {Q : ℕ → Type 0} → (h : History) (ms : List Event) (v : WorldCore) (i : ℕ) (job : Job) (status : Status) → IsClear h i job Q → NamesStatus (and_then h ms) v i job status → ⊥
 unfolding settled_back
@@ -330,9 +347,12 @@ not_cancelled h ms old new i job way among = elim (in_either h.events ms (Cancel
   | inr there ↦ (let s = split_in ms (Cancel i) there in let n = next_in h ms s.0 s.1 (Cancel i) old new s.2 way.next in cancel_next n.between.daemon n.j i (slice_get n.between.endpoints n.j) n.next)
 ]
 
+job_then : {Q : ℕ → Type 0} → (h : History) (ms : List Event) (old new : WorldCore) (i : ℕ) (job : Job) → Way h ms old new i job Q → IsJobAt (and_then h ms) new i job
+job_then h ms old new i job way = record { led = led_then h ms old new way.led (quiet_loads ms way.quiet) (moves_run ms old new way.next); job_at = way.job_at }
+
 ended : {Q : ℕ → Type 0} → (h : History) (ms : List Event) (old new : WorldCore) (i : ℕ) (job : Job) → Way h ms old new i job Q → (status : Status) (why : Why) → IsEndingExplained (and_then h ms) new i job (starved_at new i) status why → ComesTo (and_then h ms) new i job (Ended status why) ⊎ ((why ≡ whys.Answer) × Held Q i status)
 ended h ms old new i job way status whys.Answer (inl (other, named)) = absurd (unnamed h ms new i job status way.clear named)
-ended h ms old new i job way status whys.Answer (inr x) = inr (refl, answered way.below h ms new i job way.quiet way.clear status x)
+ended h ms old new i job way status whys.Answer (inr x) = inr (refl, answered way.below h ms new i job way.quiet (job_then h ms old new i job way) way.clear status x)
 ended h ms old new i job way status whys.Cancelled (same, among) = absurd (not_cancelled h ms old new i job way among)
 ended h ms old new i job way status whys.Lost (same, inl (inl happened)) = inl (inr (inr (lost h ms old new i job way happened.0)))
 ended h ms old new i job way status whys.Lost (same, inl (inr happened)) = absurd (no_image_lost h ms old new i job way happened.0)
@@ -366,7 +386,7 @@ comes h ms old new i job way (Ended status why) runs kept = busy_or (ended h ms 
 pub clears_up : Below → (w v : WorldCore) → RoundsRunOut source_state w v → ClearsUp w v
 clears_up below w v rounds h led i job at clear =
     let out = ran_out below w v rounds h led in
-    let o = outcome_call below v i (outcome_at v i) refl (and_then h out.moves) job (record { led = out.led; job_at = at }) in
+    let o = outcome_call below v i (and_then h out.moves) job (record { led = out.led; job_at = at }) in
     let way : Way h out.moves w v i job (λ (j : ℕ). j ≡ i) = record { below = below; led = led; job_at = at; clear = clear; next = out.next; quiet = quiet_moves out.moves w v out.next } in
     record { out = out; outcome = o.0; is = o.1; comes = only_clear (comes h out.moves w v i job way o.0 (out.over i job o.0 at o.1) o.2) }
 
@@ -374,7 +394,7 @@ pub clears_by : Below → (events : List Event) (w v : WorldCore) → ClearsBy e
 clears_by below events w v h led next i job at clear outcome is over =
     let quiet = quiet_moves events w v next in
     let on = led_then h events w v led (quiet_loads events quiet) (moves_run events w v next) in
-    let o = outcome_call below v i (outcome_at v i) refl (and_then h events) job (record { led = on; job_at = at }) in
+    let o = outcome_call below v i (and_then h events) job (record { led = on; job_at = at }) in
     let way : Way h events w v i job (λ (j : ℕ). j ≡ i) = record { below = below; led = led; job_at = at; clear = clear; next = next; quiet = quiet } in
     let same : o.0 ≡ outcome = unsome o.0 outcome (sym o.1 ∙ is) in
     only_clear (comes h events w v i job way outcome over (subst (OutcomeIsKept (and_then h events) v i job (starved_at v i)) same o.2))
@@ -392,8 +412,8 @@ shares_clear below w v rounds h led i j a b apart at there named clear clear_too
     let quiet = quiet_moves out.moves w v out.next in
     let p = endpoint_there below (and_then h out.moves) v i a (record { led = out.led; job_at = at }) in
     let q = endpoint_there below (and_then h out.moves) v j b (record { led = out.led; job_at = there }) in
-    let o = outcome_call below v i (outcome_at v i) refl (and_then h out.moves) a (record { led = out.led; job_at = at }) in
-    let r = outcome_call below v j (outcome_at v j) refl (and_then h out.moves) b (record { led = out.led; job_at = there }) in
+    let o = outcome_call below v i (and_then h out.moves) a (record { led = out.led; job_at = at }) in
+    let r = outcome_call below v j (and_then h out.moves) b (record { led = out.led; job_at = there }) in
     let way : Way h out.moves w v i a (IsEither i j) = record { below = below; led = led; job_at = at; clear = clear; next = out.next; quiet = quiet } in
     let way_too : Way h out.moves w v j b (IsEither i j) = record { below = below; led = led; job_at = there; clear = clear_too; next = out.next; quiet = quiet } in
     let pair : Pair (and_then h out.moves) a i j a b = record {

@@ -29,33 +29,35 @@ use Rattle.system_model.specs.AbstractInForce.{SettingsResult, abstract_in_force
 use Rattle.system_model.specs.Causes.{Cause, Explains, GaveUp, LinkLost, LinkOutOfMemory, SourceFailed, NamesEof, Names, Unforced, WasUnlisted, HadNoPicture, WasHeld, Disallowed, TrayWasEmpty, TrayRanOut, ClientOutOfMemory, IsCauseAmong, WasUnsaid}
 use Rattle.system_model.specs.Client as rules
 use Rattle.system_model.specs.Client.{JobStage, Idle, Running, Done, Ended, ClientView}
-use Rattle.system_model.specs.Devices.{abstract_status}
+use Rattle.system_model.specs.Devices.{Make, abstract_status}
 use Rattle.system_model.specs.SystemStates.{SystemState}
 use Rattle.system_model.specs.Transitions.{IsUnderWay, Transition, after_transition}
 use Rattle.scan_world.specs.declared.endpoint.Endpoint.{Endpoint}
+use Rattle.scan_world.specs.declared.event.Event.{Event}
 use Rattle.scan_world.specs.declared.event.Event.TheVariants.{LoseControl}
 use Rattle.scan_world.specs.JobMoves.{IsNextMove}
 use Rattle.scan_world.specs.Worlds.{WorldCore}
 use Rattle.world_refines.specs.FailedSources.{AllAlong}
-use Rattle.world_refines.specs.GhostStates.{job_state, place_named, place_of_info, abstract_job}
-use Rattle.world_refines.specs.NewWorlds.{make_of}
+use Rattle.world_refines.specs.GhostStates.{job_state, place_of_info, abstract_job}
+use Rattle.world_refines.specs.NewWorlds.{HaveSourcesAt, PageSources, make_of}
 use Rattle.world_refines.specs.WorldRefinement.{client_at_greeting}
 use Rattle.world_contract.specs.Calls.{HadUnsaidReply}
 use Rattle.world_contract.specs.Endings.{IsUnforced, NamesStatus}
-use Rattle.world_contract.specs.Histories.{History, LedTo, history_up_to}
+use Rattle.world_contract.specs.Histories.{History, LedTo, Moment, history_up_to}
 use Rattle.world_contract.specs.Laws.{Below}
 use Rattle.world_contract.proofs.Along.{Here, Laws, NotForced, Own, device_named, forced_there}
-use Rattle.world_contract.proofs.Connected.{all_behind}
 use Rattle.world_contract.proofs.Jobs.{IsJob}
+use Rattle.world_contract.proofs.Lists.{all_each, in_list, in_split}
 use Rattle.world_contract.proofs.Nearest.{none_nearest}
 use Rattle.world_contract.proofs.OfJobs.{all_of_jobs}
 use Rattle.world_contract.proofs.Rows.{AnswerEver, EndingEver}
 use Rattle.world_contract.proofs.Pages.{IsOfOne, all_of_one, first_slot}
-use Rattle.world_contract.proofs.Scanned.{at_first, fresh_there, infos_of, untouched_at_first}
-use Rattle.world_contract.proofs.Sources.{have_sources, loads_fit, sources_of}
-use Rattle.world_contract.proofs.Traced.{each_of, traced}
+use Rattle.world_contract.proofs.Scanned.{at_first, ghost_by, infos_of, untouched_by}
+use Rattle.world_contract.proofs.Sources.{can_fail_at, event_fits, have_sources, make_at, sources_of}
+use Rattle.world_contract.proofs.Taken.{FitsTaken, OnRun, fits_all, on_all}
+use Rattle.world_contract.proofs.Traced.{IsOfSome, each_of, traced}
 use Rattle.world_contract.proofs.moments.Judged.{EndedBy, Evid, Judged, JudgedAt, all_judged, among_met}
-use Rattle.world_contract.proofs.moments.Moments.{AnsweredSo, Comes, HappenedSo, come}
+use Rattle.world_contract.proofs.moments.Moments.{AnsweredSo, Comes, HappenedSo, come, in_part}
 
 -- ---- the words of the rules, and those of the clients
 
@@ -138,8 +140,8 @@ unforced : (h : History) (i : ℕ) (job : Job) → Own h i job → NotForced h j
 unforced h i job o none s =
     let device = s.device in
     let at = device_named h job.device device o.apart s.is_there s.named in
-    let b = sources_of h (place_named (infos_of h) job.device) in
-    let ruled : abstract_in_force (make_of b (Some device)) (map requested_setting job.settings.items) ≡ None = subst (λ (x : Option DeviceState). abstract_in_force (make_of b x) (map requested_setting job.settings.items) ≡ None) at none in
+    let b = none.0 in
+    let ruled : abstract_in_force (make_of b (Some device)) (map requested_setting job.settings.items) ≡ None = subst (λ (x : Option DeviceState). abstract_in_force (make_of b x) (map requested_setting job.settings.items) ≡ None) at none.1 in
     none_nearest device.setup.scene.kind device.setup.order job.settings.items (none_by (devices.in_force device.setup.scene.kind device.setup.order job.settings.items) (sym (forced_there o.same (make_of b (Some device)) job) ∙ ap (option_map (λ (f : SettingsResult). f.options)) ruled)) s.placed s.setup s.in_force
 
 -- ---- the table
@@ -196,38 +198,53 @@ both_along : (P Q : SystemState → Transition → Type 0) (s : SystemState) (xs
 both_along P Q s [] a b = tt
 both_along P Q s (x ∷ xs) a b = ((a.0, b.0), both_along P Q (after_transition s x) xs a.1 b.1)
 
--- all steps, each with the moment of its event
+-- what never changes of the devices, where their sources are such as these
+abbrev pub make_by : History → (ℕ → PageSources) → ℕ → Make
+make_by h sources d = make_of (sources d) (slice_get h.devices d)
+
+-- all steps, each with the moment of its event, where so much is known of the pages that the daemon takes in them
+pub comes_by : (below : Below) (h : History) (w : WorldCore) (job : Job) (l : LedTo h w) (sources : ℕ → PageSources) (Is : WorldCore → Type 0) → HaveSourcesAt sources h.devices → ((e : Event) (m : Moment h w e) → Is m.before → FitsTaken (infos_of h) (make_by h sources) e m.before) → OnRun Is h.events l.first w l.runs → Comes h w job h.events (ghost_by h w job l sources)
+comes_by below h w job l sources Is haves fits ran =
+    let t = ghost_by h w job l sources in
+    let new = below.new sources h.jobs job h.devices l.first l.endpoints l.daemon l.names l.limits haves l.fit in
+    let first : LedTo (history_up_to h []) l.first = record { first = l.first; endpoints = l.endpoints; daemon = l.daemon; users_are = l.users_are; names = l.names; limits = l.limits; fit = l.fit; loads = tt; runs = refl } in
+    come below.follows below.histories below.last below.kept h w job (make_by h sources) Is fits h.events [] t l.first refl first l.loads l.runs ran new (ap (λ (users : List Entry). (users, infos_of h, length h.jobs, λ (k : ℕ). slice_index_or h.jobs k job)) l.users_are) refl
+
 pub comes_there : (below : Below) (h : History) (w : WorldCore) (job : Job) (l : LedTo h w) → Comes h w job h.events (at_first h w job l)
 comes_there below h w job l =
-    let t = at_first h w job l in
-    let new = below.new (sources_of h) h.jobs job h.devices l.first l.endpoints l.daemon l.names l.limits (have_sources h) l.fit in
-    let first : LedTo (history_up_to h []) l.first = record { first = l.first; endpoints = l.endpoints; daemon = l.daemon; users_are = l.users_are; names = l.names; limits = l.limits; fit = l.fit; loads = tt; runs = refl } in
-    come below.follows below.histories below.last below.kept h w job h.events [] t l.first refl first l.loads (loads_fit h) l.runs new (ap (λ (users : List Entry). (users, infos_of h, length h.jobs, λ (k : ℕ). slice_index_or h.jobs k job)) l.users_are)
+    comes_by below h w job l (sources_of h) (λ (u : WorldCore). Unit {0}) (have_sources h)
+    (λ e m is. fits_all (infos_of h) (make_at h) e m.before (event_fits h e (in_list h.events e (in_split h.events m.front m.back e m.split))))
+    (on_all (λ (u : WorldCore). Unit {0}) (λ u. tt) h.events l.first w l.runs)
 
 pub laws_of : Below → Laws
 laws_of below = record { legal = below.marks; sound = below.histories; last = below.last; grounds = below.grounds }
 
 -- what the first step of it needs
-pub first_here : (below : Below) (h : History) (w : WorldCore) (i : ℕ) (job : Job) (l : LedTo h w) → slice_get h.jobs i ≡ Some job → Here h i job (at_first h w job l).system
-first_here below h w i job l job_at =
-    let t = at_first h w job l in
-    let new = below.new (sources_of h) h.jobs job h.devices l.first l.endpoints l.daemon l.names l.limits (have_sources h) l.fit in
+pub first_by : (below : Below) (h : History) (w : WorldCore) (i : ℕ) (job : Job) (l : LedTo h w) (sources : ℕ → PageSources) → HaveSourcesAt sources h.devices → ((d : ℕ) → (sources d).fallible ≡ (sources_of h d).fallible) → slice_get h.jobs i ≡ Some job → Here h i job (ghost_by h w job l sources).system
+first_by below h w i job l sources haves fails job_at =
+    let t = ghost_by h w job l sources in
+    let new = below.new sources h.jobs job h.devices l.first l.endpoints l.daemon l.names l.limits haves l.fit in
     record {
       own_job = record { at = job_at; apart = new.is_of.apart; same = below.same };
-      fine = record { makes = refl; places = λ n. refl; slots = λ d. first_slot h (t.system.make d) d };
+      fine = record { makes = λ d. record { sources = sources d; is = refl; fails = λ able device at. can_fail_at h d device at (sym (fails d) ∙ able) }; places = λ n. refl; slots = λ d. first_slot h (t.system.make d) d };
       is = ap (λ (users : List Entry). abstract_job users (infos_of h) (slice_index_or h.jobs i job)) l.users_are ∙ ap (λ (x : Job). abstract_job h.users (infos_of h) x) (get_or_from_slice_get h.jobs i job job job_at);
       asks = λ c is. absurd (let clash : None ≡ Some c = is in cc);
       sound = new.sound;
     }
 
+pub first_here : (below : Below) (h : History) (w : WorldCore) (i : ℕ) (job : Job) (l : LedTo h w) → slice_get h.jobs i ≡ Some job → Here h i job (at_first h w job l).system
+first_here below h w i job l job_at = first_by below h w i job l (sources_of h) (have_sources h) (λ d. refl) job_at
+
+pub steps_by : (h : History) (w : WorldCore) (job : Job) (l : LedTo h w) (sources : ℕ → PageSources) (k : Comes h w job h.events (ghost_by h w job l sources)) → AllByRecursion (IsOfOne h) k.steps
+steps_by h w job l sources k =
+    let t = ghost_by h w job l sources in
+    let of = each_of (infos_of h) k.kept k.steps (traced k.kept t k.steps k.ghost_then k.comes) in
+    all_of_one h k.steps
+    (all_each (IsOfSome (infos_of h) k.kept) (IsOfSome (infos_of h) h.events) k.steps (λ x o. record { event = o.event; among = in_part k.kept h.events o.event k.part o.among; is = o.is }) of)
+    (all_of_jobs k.kept t k.steps k.ghost_then (untouched_by h w job l sources) k.comes)
+
 pub steps_of_one : (below : Below) (h : History) (w : WorldCore) (job : Job) (l : LedTo h w) → AllByRecursion (IsOfOne h) (comes_there below h w job l).steps
-steps_of_one below h w job l =
-    let k = comes_there below h w job l in
-    let t = at_first h w job l in
-    let u = k.ghost_then in
-    let steps = k.steps in
-    let behind = all_behind (infos_of h) h.events steps t.system (fresh_there h w job l) (traced h.events t steps u k.comes) k.legal in
-    all_of_one h steps (each_of t.infos h.events steps (traced h.events t steps u k.comes)) (all_of_jobs h.events t steps u (untouched_at_first h w job l) k.comes) behind
+steps_of_one below h w job l = steps_by h w job l (sources_of h) (comes_there below h w job l)
 
 -- each cause that a job met that is under way has its evidence, and its ending has its own
 pub judged_there : (below : Below) (h : History) (w : WorldCore) (i : ℕ) (job : Job) (l : LedTo h w) → slice_get h.jobs i ≡ Some job → JudgedAt h w i job (comes_there below h w job l).ghost_then.system

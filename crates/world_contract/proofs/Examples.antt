@@ -1,7 +1,7 @@
 -- What the worked examples come to.
 use Rattle.std.specs.Prelude.{All, map, Contains, ◌<◌, length, slice_get, slice_index_or, ◌≢◌, ◌⊎◌}
 use Rattle.std.specs.List.{AllByRecursion}
-use Rattle.std.proofs.Common.{◌≡◌, inl, inr, ◌∙◌, ℕ, zero, suc, arith, List, [], ◌∷◌, Option, Some, true, false, refl, sym, ap, subst}
+use Rattle.std.proofs.Common.{◌≡◌, inl, inr, ◌∙◌, ℕ, zero, suc, arith, List, [], ◌∷◌, Some, true, false, refl, sym, ap, subst}
 use Rattle.sane_fixed.specs.declared.byte_order.ByteOrder.TheVariants.{Little}
 use Rattle.page_picture.specs.Page.{PageView}
 use Rattle.page_picture.specs.Meaning.{meaning_of}
@@ -30,8 +30,8 @@ use Rattle.world_contract.specs.Histories.{History, LedTo, and_then, begun}
 use Rattle.world_contract.specs.Settings.{AreSettingsPut}
 use Rattle.world_contract.specs.Page.{AreInForce, CameInTime, IsScan, IsSteady}
 use Rattle.world_contract.specs.Page.CameInTime.{FromFirst, AsItRan}
-use Rattle.world_contract.specs.Promise.{FileIsKept}
-use Rattle.world_contract.specs.Calls.{IsJobAt, KeepsScanFile, KeepsOutcome, KeepsRunning, outcome_at, starved_at}
+use Rattle.world_contract.specs.Promise.{FileIsKept, OutcomeIsKept}
+use Rattle.world_contract.specs.Calls.{ForEach, IsJobAt, RunsOut, file_answered, outcome_at, starved_at}
 use Rattle.world_contract.specs.Examples.{HasExplanation, IsScanOf, until_busy}
 use Rattle.world_contract.proofs.Along.{get_at}
 use Rattle.world_contract.proofs.Lists.{all_then, at_all, in_split}
@@ -113,14 +113,18 @@ done_reports (Ended status why) e = absurd (let clash : false ≡ true = e in cc
 
 -- the pages of the flatbed, where events bring none, are that of its source
 steady_for_all : (h : History) (w : WorldCore) (i : ℕ) (name other : List ℕ) (source : SourceState) → IsOnly h.devices name source other → source.steady ≡ true → AllByRecursion LoadsNothing h.events → IsSteady h w i other
-steady_for_all h w i name other source only steady quiet held came = ap (λ (x : HeldPage). x.steady) (sym (page_is h w i name other source held only quiet came)) ∙ steady
+steady_for_all h w i name other source only steady quiet held came taken = ap (λ (x : HeldPage). x.steady) (sym (page_is h w i name other source held only quiet came)) ∙ steady
 
 both_quiet : (events : List Event) → events ≡ until_busy → AllByRecursion LoadsNothing events
 both_quiet events are = subst (AllByRecursion LoadsNothing) (sym are) (tt, (tt, (tt, (tt, (tt, (tt, (tt, (tt, (tt, tt)))))))))
 
+-- the file is the one that was given
+pub given_file : (w : WorldCore) (bytes : List ℕ) → Some bytes ≡ file_answered w 0 → ForEach w 0 (λ h job. (o : Outcome) → outcome_at w 0 ≡ Some o → FileIsKept h w 0 job (starved_at w 0) o (file_answered w 0)) → ForEach w 0 (λ h job. (o : Outcome) → outcome_at w 0 ≡ Some o → FileIsKept h w 0 job (starved_at w 0) o (Some bytes))
+given_file w bytes is kept h job at o there = subst (FileIsKept h w 0 job (starved_at w 0) o) (sym is) (kept h job at o there)
+
 pub once : (old new : WorldCore) (name : List ℕ) (source : SourceState) (states : List DeviceState) (users : List Entry) (job : Job) (jobs : List Job) (outcome : Outcome) (bytes : List ℕ) →
-    (HaveOwnNames states → IsOnly states name source job.device) → jobs ≡ job ∷ [] → source.steady ≡ true → LedTo (begun states users jobs) old → KeepsRunning old new →
-    outcome_at new 0 ≡ Some outcome → is_done outcome ≡ true → KeepsScanFile new 0 (Some bytes) → job.task ≡ tasks.Scan → IsScanOf source.page job bytes
+    (HaveOwnNames states → IsOnly states name source job.device) → jobs ≡ job ∷ [] → source.steady ≡ true → LedTo (begun states users jobs) old → ((h : History) → LedTo h old → RunsOut h old new) →
+    outcome_at new 0 ≡ Some outcome → is_done outcome ≡ true → ForEach new 0 (λ h job. (o : Outcome) → outcome_at new 0 ≡ Some o → FileIsKept h new 0 job (starved_at new 0) o (Some bytes)) → job.task ≡ tasks.Scan → IsScanOf source.page job bytes
 once old new name source states users job jobs outcome bytes only own steady led ran there done file scan =
     let out = ran (begun states users jobs) led in
     let h = and_then (begun states users jobs) out.moves in
@@ -132,8 +136,8 @@ once old new name source states users job jobs outcome bytes only own steady led
     scan_of_one h new 0 0 job bytes name source this quiet (kept.scanned reports.0 bytes (steady_for_all h new 0 name job.device source this steady quiet) scan reports.1 refl)
 
 pub beside : (old mid new : WorldCore) (name : List ℕ) (source : SourceState) (states : List DeviceState) (users : List Entry) (first second : Job) (jobs : List Job) (outcome : Outcome) (bytes : List ℕ) (events : List Event) →
-    states ≡ new_scanner Flatbed name source Little ∷ [] → jobs ≡ first ∷ second ∷ [] → source.steady ≡ true → LedTo (begun states users jobs) old → events ≡ until_busy → ((h : History) → LedTo h old → LedTo (and_then h events) mid) → KeepsRunning mid new →
-    outcome_at new 0 ≡ Some outcome → is_done outcome ≡ true → KeepsScanFile new 0 (Some bytes) → first.task ≡ tasks.Scan → IsScanOf source.page first bytes
+    states ≡ new_scanner Flatbed name source Little ∷ [] → jobs ≡ first ∷ second ∷ [] → source.steady ≡ true → LedTo (begun states users jobs) old → events ≡ until_busy → ((h : History) → LedTo h old → LedTo (and_then h events) mid) → ((h : History) → LedTo h mid → RunsOut h mid new) →
+    outcome_at new 0 ≡ Some outcome → is_done outcome ≡ true → ForEach new 0 (λ h job. (o : Outcome) → outcome_at new 0 ≡ Some o → FileIsKept h new 0 job (starved_at new 0) o (Some bytes)) → first.task ≡ tasks.Scan → IsScanOf source.page first bytes
 beside old mid new name source states users first second jobs outcome bytes events devices own steady led are run ran there done file scan =
     let asked = and_then (begun states users jobs) events in
     let out = ran asked (run (begun states users jobs) led) in
@@ -145,17 +149,15 @@ beside old mid new name source states users first second jobs outcome bytes even
     let this : IsOnly states name source first.device = only_device states name first.device source devices in
     scan_of_one h new 0 0 first bytes name source this quiet (kept.scanned reports.0 bytes (steady_for_all h new 0 name first.device source this steady quiet) scan reports.1 refl)
 
-pub busy : (old mid new : WorldCore) (name : List ℕ) (source : SourceState) (states : List DeviceState) (users : List Entry) (first second : Job) (jobs : List Job) (outcome : Outcome) (given : Option Outcome) (events : List Event) →
-    states ≡ new_scanner Flatbed name source Little ∷ [] → jobs ≡ first ∷ second ∷ [] → source.steady ≡ true → LedTo (begun states users jobs) old → events ≡ until_busy → ((h : History) → LedTo h old → LedTo (and_then h events) mid) → KeepsRunning mid new →
-    given ≡ Some outcome → KeepsOutcome new 1 given → outcome ≡ Ended DeviceBusy Answer → HasExplanation first second
-busy old mid new name source states users first second jobs outcome given events devices own steady led are run ran is kept told =
+pub busy : (old mid new : WorldCore) (name : List ℕ) (source : SourceState) (states : List DeviceState) (users : List Entry) (first second : Job) (jobs : List Job) (outcome : Outcome) (events : List Event) →
+    states ≡ new_scanner Flatbed name source Little ∷ [] → jobs ≡ first ∷ second ∷ [] → source.steady ≡ true → LedTo (begun states users jobs) old → events ≡ until_busy → ((h : History) → LedTo h old → LedTo (and_then h events) mid) → ((h : History) → LedTo h mid → RunsOut h mid new) →
+    ForEach new 1 (λ h job. OutcomeIsKept h new 1 job (starved_at new 1) outcome) → outcome ≡ Ended DeviceBusy Answer → HasExplanation first second
+busy old mid new name source states users first second jobs outcome events devices own steady led are run ran kept told =
     let asked = and_then (begun states users jobs) events in
     let out = ran asked (run (begun states users jobs) led) in
     let h = and_then asked out.moves in
     let at : IsJobAt h new 1 second = record { led = out.led; job_at = ap (λ (js : List Job). slice_get js 1) own } in
-    let o = kept h second at in
-    let same : o.0 ≡ outcome = (let both : Some o.0 ≡ Some outcome = sym o.1 ∙ is in cc) in
-    record { history = h; jobs = own; world = new; led = out.led; starved = starved_at new 1; caused = (o.2.ended DeviceBusy Answer (same ∙ told)).2 }
+    record { history = h; jobs = own; world = new; led = out.led; starved = starved_at new 1; caused = ((kept h second at).ended DeviceBusy Answer told).2 }
 
 -- ---- the same of boxes
 
@@ -163,7 +165,7 @@ one_state : {D : Type 0} (state : D → DeviceState) (items : List D) (x : D) (s
 one_state state items x s own is = ap (map state) own ∙ ap (λ (y : DeviceState). y ∷ []) is
 
 pub once_boxed : {D : Type 0} (state : D → DeviceState) (items : List D) (box : D) (users : List Entry) (jobs : List Job) (job : Job) (old new : WorldCore) (name : List ℕ) (source : SourceState) (page : PageView) (outcome : Outcome) (file bytes : List ℕ) →
-    LedTo (begun (map state items) users jobs) old → KeepsRunning old new → KeepsScanFile new 0 (Some file) → items ≡ box ∷ [] → state box ≡ new_scanner Flatbed name source Little → jobs ≡ job ∷ [] → source.steady ≡ true → source.page ≡ page →
+    LedTo (begun (map state items) users jobs) old → ((h : History) → LedTo h old → RunsOut h old new) → ForEach new 0 (λ h job. (o : Outcome) → outcome_at new 0 ≡ Some o → FileIsKept h new 0 job (starved_at new 0) o (Some file)) → items ≡ box ∷ [] → state box ≡ new_scanner Flatbed name source Little → jobs ≡ job ∷ [] → source.steady ≡ true → source.page ≡ page →
     outcome_at new 0 ≡ Some outcome → is_done outcome ≡ true → file ≡ bytes → job.task ≡ tasks.Scan → IsScanOf page job bytes
 once_boxed state items box users jobs job old new name source page outcome file bytes led ran kept alone is own steady on there done same scan =
     subst (λ (p : PageView). IsScanOf p job bytes) on
@@ -174,7 +176,7 @@ two_states : {D : Type 0} (state : D → DeviceState) (items : List D) (x y : D)
 two_states state items x y s own is = ap (map state) own ∙ ap (λ (d : DeviceState). d ∷ state y ∷ []) is
 
 pub with_other_boxed : {D : Type 0} (state : D → DeviceState) (items : List D) (box other : D) (users : List Entry) (jobs : List Job) (job : Job) (old new : WorldCore) (name : List ℕ) (source : SourceState) (page : PageView) (outcome : Outcome) (file bytes : List ℕ) →
-    LedTo (begun (map state items) users jobs) old → KeepsRunning old new → KeepsScanFile new 0 (Some file) → items ≡ box ∷ other ∷ [] → state box ≡ new_scanner Flatbed name source Little → jobs ≡ job ∷ [] → source.steady ≡ true → source.page ≡ page →
+    LedTo (begun (map state items) users jobs) old → ((h : History) → LedTo h old → RunsOut h old new) → ForEach new 0 (λ h job. (o : Outcome) → outcome_at new 0 ≡ Some o → FileIsKept h new 0 job (starved_at new 0) o (Some file)) → items ≡ box ∷ other ∷ [] → state box ≡ new_scanner Flatbed name source Little → jobs ≡ job ∷ [] → source.steady ≡ true → source.page ≡ page →
     outcome_at new 0 ≡ Some outcome → is_done outcome ≡ true → file ≡ bytes → job.device ≡ name → job.task ≡ tasks.Scan → IsScanOf page job bytes
 with_other_boxed state items box other users jobs job old new name source page outcome file bytes led ran kept both is own steady on there done same named scan =
     let are : map state items ≡ new_scanner Flatbed name source Little ∷ state other ∷ [] = two_states state items box other (new_scanner Flatbed name source Little) both is in
@@ -183,7 +185,7 @@ with_other_boxed state items box other users jobs job old new name source page o
     (once old new name source (map state items) users job jobs outcome file (only_of_two (map state items) name job.device source (state other) are named) own steady led ran there done kept scan))
 
 pub beside_boxed : {D : Type 0} (state : D → DeviceState) (items : List D) (box : D) (users : List Entry) (jobs : List Job) (first second : Job) (events : List Event) (old mid new : WorldCore) (name : List ℕ) (source : SourceState) (page : PageView) (outcome : Outcome) (file bytes : List ℕ) →
-    LedTo (begun (map state items) users jobs) old → ((h : History) → LedTo h old → LedTo (and_then h events) mid) → KeepsRunning mid new → KeepsScanFile new 0 (Some file) → items ≡ box ∷ [] → state box ≡ new_scanner Flatbed name source Little → jobs ≡ first ∷ second ∷ [] → source.steady ≡ true → source.page ≡ page → events ≡ until_busy →
+    LedTo (begun (map state items) users jobs) old → ((h : History) → LedTo h old → LedTo (and_then h events) mid) → ((h : History) → LedTo h mid → RunsOut h mid new) → ForEach new 0 (λ h job. (o : Outcome) → outcome_at new 0 ≡ Some o → FileIsKept h new 0 job (starved_at new 0) o (Some file)) → items ≡ box ∷ [] → state box ≡ new_scanner Flatbed name source Little → jobs ≡ first ∷ second ∷ [] → source.steady ≡ true → source.page ≡ page → events ≡ until_busy →
     outcome_at new 0 ≡ Some outcome → is_done outcome ≡ true → file ≡ bytes → first.task ≡ tasks.Scan → IsScanOf page first bytes
 beside_boxed state items box users jobs first second events old mid new name source page outcome file bytes led run ran kept alone is own steady on are there done same scan =
     subst (λ (p : PageView). IsScanOf p first bytes) on
@@ -191,7 +193,7 @@ beside_boxed state items box users jobs first second events old mid new name sou
     (beside old mid new name source (map state items) users first second jobs outcome file events (one_state state items box (new_scanner Flatbed name source Little) alone is) own steady led are run ran there done kept scan))
 
 pub busy_boxed : {D : Type 0} (state : D → DeviceState) (items : List D) (box : D) (users : List Entry) (jobs : List Job) (first second : Job) (events : List Event) (old mid new : WorldCore) (name : List ℕ) (source : SourceState) (outcome : Outcome) →
-    LedTo (begun (map state items) users jobs) old → ((h : History) → LedTo h old → LedTo (and_then h events) mid) → KeepsRunning mid new → KeepsOutcome new 1 (Some outcome) → items ≡ box ∷ [] → state box ≡ new_scanner Flatbed name source Little → jobs ≡ first ∷ second ∷ [] → source.steady ≡ true → events ≡ until_busy →
+    LedTo (begun (map state items) users jobs) old → ((h : History) → LedTo h old → LedTo (and_then h events) mid) → ((h : History) → LedTo h mid → RunsOut h mid new) → ForEach new 1 (λ h job. OutcomeIsKept h new 1 job (starved_at new 1) outcome) → items ≡ box ∷ [] → state box ≡ new_scanner Flatbed name source Little → jobs ≡ first ∷ second ∷ [] → source.steady ≡ true → events ≡ until_busy →
     outcome ≡ Ended DeviceBusy Answer → HasExplanation first second
 busy_boxed state items box users jobs first second events old mid new name source outcome led run ran kept alone is own steady are told =
-    busy old mid new name source (map state items) users first second jobs outcome (Some outcome) events (one_state state items box (new_scanner Flatbed name source Little) alone is) own steady led are run ran refl kept told
+    busy old mid new name source (map state items) users first second jobs outcome events (one_state state items box (new_scanner Flatbed name source Little) alone is) own steady led are run ran kept told

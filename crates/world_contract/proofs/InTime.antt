@@ -1,6 +1,6 @@
 -- What came before a job was over: a history has a front behind which the job shows what it shows in the end, and of whose events each
 -- came as it ran.
-use Rattle.std.specs.Prelude.{◌≢◌, Contains, IsSome, option_map, option_and_then, slice_get, slice_set}
+use Rattle.std.specs.Prelude.{◌≢◌, IsSome, option_map, option_and_then, slice_get}
 use Rattle.std.proofs.Common.{◌≡◌, ◌∙◌, ◌⊎◌, ℕ, List, [], ◌∷◌, ◌++◌, Bool, true, false, Option, Some, None, inl, inr, refl, sym, ap, subst, append_assoc}
 use Rattle.page_picture.specs.Page.{PageView}
 use Rattle.page_picture.specs.SourceView.{source_state}
@@ -8,7 +8,7 @@ use Rattle.page_picture.specs.declared.sources.kinds.Source.{Source}
 use Rattle.sane_fixed.specs.declared.status.Status.{Status}
 use Rattle.sane_fixed.specs.declared.status.Status.TheVariants as statuses
 use Rattle.data_records.specs.Records.{end_record}
-use Rattle.device_api.specs.State.{DeviceState, HeldPage}
+use Rattle.device_api.specs.State.{HeldPage, held_from}
 use Rattle.client_replies.specs.ProtocolStates.{is_lost_by}
 use Rattle.client_replies.specs.declared.progress.Link.TheVariants as links
 use Rattle.client_replies.specs.declared.progress.Progress.{Progress}
@@ -34,24 +34,26 @@ use Rattle.scan_world.proofs.Events.{linked_by}
 use Rattle.world_refines.specs.FailedSources.{FailedIn}
 use Rattle.world_refines.specs.MainTheorem.{AllIsKept, AreTrueLoads}
 use Rattle.world_refines.specs.WorldPromises.{IsOutcome}
-use Rattle.world_contract.specs.Calls.{IsJobAt, JobStays, file_answered, outcome_at}
-use Rattle.world_contract.specs.Endings.{AnswerIsExplained, DeviceFailed, HadFailed, HadNoPage, HadNoPicture, HasPassed, IsEndingExplained, NamesStatus, SendsFailure}
+use Rattle.world_contract.specs.Calls.{IsJobAt, JobStays, outcome_at}
+use Rattle.world_contract.specs.Endings.{AnswerIsExplained, CanFail, DeviceFailed, HadFailed, HadNoPicture, HasPassed, IsEndingExplained, NamesStatus, SendsFailure}
 use Rattle.world_contract.specs.Histories.{History, LedTo, Moment, history_up_to}
 use Rattle.world_contract.specs.Laws.{Below}
 use Rattle.world_contract.specs.Page.{CameFor, CameInTime, IsScan, IsSteady, Settled, StartedOn}
 use Rattle.world_contract.specs.Page.CameFor.{AtFirst, WithEvent}
 use Rattle.world_contract.specs.Page.CameInTime.{FromFirst, AsItRan}
 use Rattle.world_contract.specs.Sessions.{Asked, AtJob, Happened}
-use Rattle.world_contract.proofs.Connected.{in_front}
 use Rattle.world_contract.proofs.Ended.{at_end}
 use Rattle.world_contract.proofs.Jobs.{IsJob}
 use Rattle.world_contract.proofs.Led.{first_runs, led_then, runs_then}
 use Rattle.world_contract.proofs.Lists.{In, in_list}
 use Rattle.world_contract.proofs.Over.{at_own, lost_runs, over_stays}
-use Rattle.world_contract.proofs.Rows.{AnswerEver, EndingEver, HadNoPictureEver, IsScanEver, IsSteadyEver, MayHaveFailed, RunsAt, SendsOrLoses, image_at}
+use Rattle.world_contract.proofs.Rows.{AnswerEver, EndingEver, HadNoPictureEver, IsScanEver, MayHaveFailed, RunsAt, SendsOrLoses, image_at}
 use Rattle.world_contract.proofs.Scanned.{kept_by}
+use Rattle.world_contract.proofs.Sources as rows
+use Rattle.world_contract.proofs.Taken.{OnRun}
 use Rattle.world_contract.proofs.There.{endpoint_there}
 use Rattle.world_contract.proofs.moments.Entries.{set_here, unsome}
+use Rattle.world_contract.proofs.moments.Filed.{SteadyRun}
 use Rattle.world_contract.proofs.moments.ImageLost.{counts_there}
 
 -- ---- up to the event behind which the job is over
@@ -66,6 +68,8 @@ pub record Until (h : History) (w : WorldCore) (i : ℕ) : Type 0 where
   pub split : h.events ≡ front ++ back
   pub at : WorldCore
   pub led : LedTo (history_up_to h front) at
+  -- it ran in front of each of them
+  pub ran : OnRun (λ (u : WorldCore). RunsAt u i) front led.first at led.runs
   pub rest : Runs source_state back at w
   pub stays : JobStays at w i
   pub came : CameSo h w i front
@@ -73,56 +77,93 @@ pub record Until (h : History) (w : WorldCore) (i : ℕ) : Type 0 where
 stays_same : (w : WorldCore) (i : ℕ) → JobStays w w i
 stays_same w i = record { outcome = refl; file = refl; finished = refl; pages = λ k. refl }
 
-came_more : (h : History) (w : WorldCore) (i : ℕ) (seen : List Event) (e : Event) (m : Moment h w e) → RunsAt m.before i → CameSo h w i seen → CameSo h w i (seen ++ e ∷ [])
-came_more h w i seen e m ran came name source among = by_case (in_front (Load name source) e seen among)
-  where
-    by_case : In (Load name source) seen ⊎ (Load name source ≡ e) → (at : Moment h w (Load name source)) × RunsAt at.before i
-    by_case (inl there) = came name source there
-    by_case (inr is) = subst (λ (x : Event). (at : Moment h w x) × RunsAt at.before i) (sym is) (m, ran)
+-- from a world on: events in front of which the job runs, and then those behind which it is over
+record From (h : History) (w : WorldCore) (i : ℕ) (es : List Event) (u : WorldCore) : Type 0 where
+  front : List Event
+  back : List Event
+  split : es ≡ front ++ back
+  at : WorldCore
+  loads : AreTrueLoads source_state front
+  run : Runs source_state front u at
+  ran : OnRun (λ (x : WorldCore). RunsAt x i) front u at run
+  rest : Runs source_state back at w
+  stays : JobStays at w i
+  came : CameSo h w i front
+
+came_more : (h : History) (w : WorldCore) (i : ℕ) (e : Event) (es : List Event) (m : Moment h w e) → RunsAt m.before i → CameSo h w i es → CameSo h w i (e ∷ es)
+came_more h w i e es m ran came name source (inl is) = subst (λ (x : Event). (at : Moment h w x) × RunsAt at.before i) (sym is) (m, ran)
+came_more h w i e es m ran came name source (inr there) = came name source there
 
 outcome_is : (w : WorldCore) (i : ℕ) (p : Endpoint) (o : Outcome) → slice_get w.endpoints i ≡ Some p → p.client.outcome ≡ o → outcome_at w i ≡ Some o
 outcome_is w i p o at is = ap (option_map (λ (q : Endpoint). q.client.outcome)) at ∙ ap (λ (x : Outcome). Some x) is
 
-here_over : (h : History) (w u : WorldCore) (i : ℕ) (es seen : List Event) (o : Outcome) → h.events ≡ seen ++ es → LedTo (history_up_to h seen) u → Runs source_state es u w → CameSo h w i seen → outcome_at u i ≡ Some o → o ≢ Running → Until h w i
-here_over h w u i es seen o split led run came is over = record { front = seen; back = es; split = split; at = u; led = led; rest = run; stays = over_stays es u w run i o is over; came = came }
+here_over : (h : History) (w u : WorldCore) (i : ℕ) (es : List Event) (o : Outcome) → Runs source_state es u w → outcome_at u i ≡ Some o → o ≢ Running → From h w i es u
+here_over h w u i es o run is over = record { front = []; back = es; split = refl; at = u; loads = tt; run = refl; ran = tt; rest = run; stays = over_stays es u w run i o is over; came = λ name source none. absurd none }
 
-until_from : Below → (h : History) (w : WorldCore) (i : ℕ) (job : Job) → slice_get h.jobs i ≡ Some job → (es seen : List Event) (u : WorldCore) → h.events ≡ seen ++ es → LedTo (history_up_to h seen) u → AreTrueLoads source_state es → Runs source_state es u w → CameSo h w i seen → (p : Endpoint) → slice_get u.endpoints i ≡ Some p → (o : Outcome) → p.client.outcome ≡ o → Until h w i
-until_from below h w i job at [] seen u split led loads run came p there o is = record { front = seen; back = []; split = split; at = u; led = led; rest = run; stays = subst (λ (x : WorldCore). JobStays u x i) (sym run) (stays_same u i); came = came }
-until_from below h w i job at (e ∷ es) seen u split led loads run came p there (Done reports) is = here_over h w u i (e ∷ es) seen (Done reports) split led run came (outcome_is u i p (Done reports) there is) (λ r. cc)
-until_from below h w i job at (e ∷ es) seen u split led loads run came p there (Ended status why) is = here_over h w u i (e ∷ es) seen (Ended status why) split led run came (outcome_is u i p (Ended status why) there is) (λ r. cc)
-until_from below h w i job at (e ∷ es) seen u split led loads (v, leads, rest) came p there Running is =
+from_here : Below → (h : History) (w : WorldCore) (i : ℕ) (job : Job) → slice_get h.jobs i ≡ Some job → (es seen : List Event) (u : WorldCore) → h.events ≡ seen ++ es → LedTo (history_up_to h seen) u → AreTrueLoads source_state es → Runs source_state es u w → (p : Endpoint) → slice_get u.endpoints i ≡ Some p → (o : Outcome) → p.client.outcome ≡ o → From h w i es u
+from_here below h w i job at [] seen u split led loads run p there o is = record { front = []; back = []; split = refl; at = u; loads = tt; run = refl; ran = tt; rest = run; stays = subst (λ (x : WorldCore). JobStays u x i) (sym run) (stays_same u i); came = λ name source none. absurd none }
+from_here below h w i job at (e ∷ es) seen u split led loads run p there (Done reports) is = here_over h w u i (e ∷ es) (Done reports) run (outcome_is u i p (Done reports) there is) (λ r. cc)
+from_here below h w i job at (e ∷ es) seen u split led loads run p there (Ended status why) is = here_over h w u i (e ∷ es) (Ended status why) run (outcome_is u i p (Ended status why) there is) (λ r. cc)
+from_here below h w i job at (e ∷ es) seen u split led loads (v, leads, rest) p there Running is =
     let on : LedTo (history_up_to h (seen ++ e ∷ [])) v = led_then (history_up_to h seen) (e ∷ []) u v led (loads.0, tt) (v, leads, refl) in
     let m : Moment h w e = record { front = seen; back = es; split = split; before = u; led_before = led; behind = v; leads = (v, leads, refl); rest = rest } in
     let q = endpoint_there below (history_up_to h (seen ++ e ∷ [])) v i job (record { led = on; job_at = at }) in
-    until_from below h w i job at es (seen ++ e ∷ []) v (split ∙ sym (append_assoc seen (e ∷ []) es)) on loads.1 rest (came_more h w i seen e m (p, there, is) came) q.0 q.1.endpoint_at q.0.client.outcome refl
+    let r = from_here below h w i job at es (seen ++ e ∷ []) v (split ∙ sym (append_assoc seen (e ∷ []) es)) on loads.1 rest q.0 q.1.endpoint_at q.0.client.outcome refl in
+    record {
+      front = e ∷ r.front;
+      back = r.back;
+      split = ap (λ (xs : List Event). e ∷ xs) r.split;
+      at = r.at;
+      loads = (loads.0, r.loads);
+      run = (v, leads, r.run);
+      ran = ((p, there, is), r.ran);
+      rest = r.rest;
+      stays = r.stays;
+      came = came_more h w i e r.front m (p, there, is) r.came;
+    }
 
 pub until_there : Below → (h : History) (w : WorldCore) (i : ℕ) (job : Job) → IsJobAt h w i job → Until h w i
 until_there below h w i job at =
     let l = at.led in
     let first : LedTo (history_up_to h []) l.first = record { first = l.first; endpoints = l.endpoints; daemon = l.daemon; users_are = l.users_are; names = l.names; limits = l.limits; fit = l.fit; loads = tt; runs = refl } in
     let q = endpoint_there below (history_up_to h []) l.first i job (record { led = first; job_at = at.job_at }) in
-    until_from below h w i job at.job_at h.events [] l.first refl first l.loads l.runs (λ name source none. absurd none) q.0 q.1.endpoint_at q.0.client.outcome refl
+    let r = from_here below h w i job at.job_at h.events [] l.first refl first l.loads l.runs q.0 q.1.endpoint_at q.0.client.outcome refl in
+    record {
+      front = r.front;
+      back = r.back;
+      split = r.split;
+      at = r.at;
+      led = record { first = l.first; endpoints = l.endpoints; daemon = l.daemon; users_are = l.users_are; names = l.names; limits = l.limits; fit = l.fit; loads = r.loads; runs = r.run };
+      ran = r.ran;
+      rest = r.rest;
+      stays = r.stays;
+      came = r.came;
+    }
 
 -- the job of its endpoint there
 pub record AtEnd (h : History) (w : WorldCore) (i : ℕ) (job : Job) : Type 0 where
   pub until : Until h w i
   pub endpoint : Endpoint
-  pub is : IsJob (history_up_to h until.front) until.at i job endpoint
+  pub job_at : slice_get h.jobs i ≡ Some job
+  pub endpoint_at : slice_get until.at.endpoints i ≡ Some endpoint
+
+abbrev pub end_job : (h : History) (w : WorldCore) (i : ℕ) (job : Job) (e : AtEnd h w i job) → IsJob (history_up_to h e.until.front) e.until.at i job e.endpoint
+end_job h w i job e = record { led = e.until.led; job_at = e.job_at; endpoint_at = e.endpoint_at }
 
 pub end_there : Below → (h : History) (w : WorldCore) (i : ℕ) (job : Job) (p : Endpoint) → IsJob h w i job p → AtEnd h w i job
 end_there below h w i job p j =
     let u = until_there below h w i job (record { led = j.led; job_at = j.job_at }) in
     let q = endpoint_there below (history_up_to h u.front) u.at i job (record { led = u.led; job_at = j.job_at }) in
-    record { until = u; endpoint = q.0; is = q.1 }
+    record { until = u; endpoint = q.0; job_at = j.job_at; endpoint_at = q.1.endpoint_at }
 
 same_some : {X : Type 0} (x y : X) (a b : Option X) → a ≡ Some x → b ≡ Some y → a ≡ b → x ≡ y
 same_some x y a b is other same = unsome x y (sym is ∙ (same ∙ other))
 
 pub end_outcome : (h : History) (w : WorldCore) (i : ℕ) (job : Job) (p : Endpoint) (j : IsJob h w i job p) (e : AtEnd h w i job) → e.endpoint.client.outcome ≡ p.client.outcome
-end_outcome h w i job p j e = same_some e.endpoint.client.outcome p.client.outcome (outcome_at e.until.at i) (outcome_at w i) (outcome_is e.until.at i e.endpoint e.endpoint.client.outcome e.is.endpoint_at refl) (outcome_is w i p p.client.outcome j.endpoint_at refl) (sym e.until.stays.outcome)
+end_outcome h w i job p j e = same_some e.endpoint.client.outcome p.client.outcome (outcome_at e.until.at i) (outcome_at w i) (outcome_is e.until.at i e.endpoint e.endpoint.client.outcome e.endpoint_at refl) (outcome_is w i p p.client.outcome j.endpoint_at refl) (sym e.until.stays.outcome)
 
 pub end_file : (h : History) (w : WorldCore) (i : ℕ) (job : Job) (p : Endpoint) (j : IsJob h w i job p) (e : AtEnd h w i job) → e.endpoint.file ≡ p.file
-end_file h w i job p j e = sym (ap (option_and_then (λ (q : Endpoint). q.file)) e.is.endpoint_at) ∙ (sym e.until.stays.file ∙ ap (option_and_then (λ (q : Endpoint). q.file)) j.endpoint_at)
+end_file h w i job p j e = sym (ap (option_and_then (λ (q : Endpoint). q.file)) e.endpoint_at) ∙ (sym e.until.stays.file ∙ ap (option_and_then (λ (q : Endpoint). q.file)) j.endpoint_at)
 
 -- ---- what was so up to it is so of all
 
@@ -157,8 +198,12 @@ came_on : (h : History) (w : WorldCore) (i : ℕ) (u : Until h w i) (name : List
 came_on h w i u name held (AtFirst device there named among) = FromFirst device there named among
 came_on h w i u name held (WithEvent source among is) = let m = u.came name source (in_list u.front (Load name source) among) in AsItRan source m.0 m.1 is
 
-pub steady_on : (h : History) (w : WorldCore) (i : ℕ) (u : Until h w i) (name : List ℕ) → IsSteady h w i name → IsSteadyEver (history_up_to h u.front) name
-steady_on h w i u name steady held came = steady held (came_on h w i u name held came)
+pub steady_on : (h : History) (w : WorldCore) (i : ℕ) (u : Until h w i) (job : Job) → IsSteady h w i job.device → SteadyRun (history_up_to h u.front) u.at i job u.led
+steady_on h w i u job steady = record {
+  ran = u.ran;
+  first = λ device there named held among. steady held (FromFirst device there named among) tt;
+  later = λ source m ran taken. steady (held_from (source_state source)) (AsItRan source (moment_on h w i u (Load job.device source) m) ran refl) taken;
+}
 
 started_on : (h : History) (w : WorldCore) (i : ℕ) (u : Until h w i) (job : Job) (count : ℕ) (page : PageView) → StartedOn (history_up_to h u.front) u.at i job count page → StartedOn h w i job count page
 started_on h w i u job count page s = record { asked = asked_on h w i u _ s.asked; finished = s.finished; device = s.device; has = s.has; rests = s.rests; first = s.first }
@@ -273,10 +318,14 @@ sends_by all h other w i status m ran ended (sent, was, inr none) =
     let stays = (over_stays m.back m.behind w m.rest i (Ended statuses.IoError whys.Lost) lost (λ r. cc)).outcome in
     absurd (let clash : ◌≡◌ {A = Option Outcome} (Some (Ended status whys.Answer)) (Some (Ended statuses.IoError whys.Lost)) = sym ended ∙ (stays ∙ lost) in cc)
 
+can_on : (h : History) (w : WorldCore) (i : ℕ) (u : Until h w i) (job : Job) → rows.CanFail (history_up_to h u.front) job.device → CanFail h w i job
+can_on h w i u job (held, came, able) = (held, came_on h w i u job.device held came, able)
+
 failed_on : AllIsKept → (h : History) (w : WorldCore) (i : ℕ) (u : Until h w i) (job : Job) (status : Status) → outcome_at u.at i ≡ Some (Ended status whys.Answer) → MayHaveFailed (history_up_to h u.front) u.at i job → HadFailed h w i job
-failed_on all h w i u job status ended (scanning, inl (asked, failed)) = (scanning, inl (asked_on h w i u _ asked, device_failed asked.at.before asked.at.behind i job.device failed))
-failed_on all h w i u job status ended (scanning, inr (turn, failed, sent)) = (
+failed_on all h w i u job status ended (scanning, can, inl (asked, failed)) = (scanning, can_on h w i u job can, inl (asked_on h w i u _ asked, device_failed asked.at.before asked.at.behind i job.device failed))
+failed_on all h w i u job status ended (scanning, can, inr (turn, failed, sent)) = (
   scanning,
+  can_on h w i u job can,
   inr (happened_on h w i u (DataTurn i) turn, device_failed turn.0.before turn.0.behind i job.device failed, sends_by all (history_up_to h u.front) job u.at i status turn.0 turn.1.0 ended sent),
 )
 
@@ -318,5 +367,5 @@ pub explained_in_time : Below → (h : History) (w : WorldCore) (i : ℕ) (job :
 explained_in_time below h w i job p status why j is = by_why h w i job p.out_of_memory status why (at_end below h w i job p status why j is) (λ answer.
     let e = end_there below h w i job p j in
     let ended : e.endpoint.client.outcome ≡ Ended status whys.Answer = end_outcome h w i job p j e ∙ (is ∙ ap (λ (y : Why). Ended status y) answer) in
-    answered_on below.kept h w i e.until job e.endpoint.out_of_memory p.out_of_memory status (outcome_is e.until.at i e.endpoint (Ended status whys.Answer) e.is.endpoint_at ended)
-    (at_end below (history_up_to h e.until.front) e.until.at i job e.endpoint status whys.Answer e.is ended))
+    answered_on below.kept h w i e.until job e.endpoint.out_of_memory p.out_of_memory status (outcome_is e.until.at i e.endpoint (Ended status whys.Answer) e.endpoint_at ended)
+    (at_end below (history_up_to h e.until.front) e.until.at i job e.endpoint status whys.Answer (end_job h w i job e) ended))

@@ -8,10 +8,10 @@ pub mod Begun
 pub mod Asked
 pub mod Traced
 pub mod OfJobs
-pub mod Connected
 pub mod Pages
 pub mod Sources
 pub mod Settings
+pub mod Taken
 pub mod Nearest
 pub mod Scanned
 pub mod Options
@@ -28,11 +28,14 @@ pub mod AllKept
 pub mod NextMoves
 pub mod Calls
 pub mod Over
+pub mod Starved
 pub mod Timely
 pub mod Examples
 pub mod moments
 pub mod Refused
 pub mod Unhindered
 pub mod Listing
+pub mod OwnTrays
+pub mod TrayPages
 pub mod Clear
 pub mod PlainJob

@@ -1,5 +1,5 @@
 -- Where no event took a device out, all are listed, once, in their order.
-use Rattle.std.specs.Prelude.{Contains, if◌then◌else◌, map, option_map, slice_get}
+use Rattle.std.specs.Prelude.{if◌then◌else◌, map, option_map, slice_get}
 use Rattle.std.proofs.Common.{◌≡◌, ◌∙◌, ℕ, zero, suc, List, [], ◌∷◌, Bool, true, false, Option, Some, None, refl, sym, ap, subst}
 use Rattle.sane_fixed.specs.declared.device_info.DeviceInfo.{DeviceInfo}
 use Rattle.page_picture.specs.SourceView.{source_state}
@@ -14,7 +14,7 @@ use Rattle.daemon_refines.specs.Cores.{fresh_device}
 use Rattle.scan_job.specs.declared.job.Job.{Job}
 use Rattle.system_model.specs.AbstractDevices.{AbstractDevice}
 use Rattle.system_model.specs.Devices.{Make}
-use Rattle.system_model.specs.Marks.{DeviceView, device_view}
+use Rattle.system_model.specs.Marks.{device_view}
 use Rattle.system_model.specs.MoveRuns.{all_marks}
 use Rattle.system_model.specs.SystemStates.{SystemState}
 use Rattle.system_model.specs.Transitions.{after_all}
@@ -29,7 +29,7 @@ use Rattle.world_contract.specs.Laws.{Below}
 use Rattle.world_contract.proofs.Lists.{In, contains_in}
 use Rattle.world_contract.proofs.OfJobs.{all_of_jobs}
 use Rattle.world_contract.proofs.Pages.{all_of_one, name_there}
-use Rattle.world_contract.proofs.Scanned.{at_first, behind_there, infos_of, kept_by, untouched_at_first}
+use Rattle.world_contract.proofs.Scanned.{at_first, infos_of, kept_by, untouched_at_first}
 use Rattle.world_contract.proofs.Sources.{named_at}
 use Rattle.world_contract.proofs.Traced.{each_of, traced}
 use Rattle.world_contract.proofs.Unhindered.{all_stay, listed_stays}
@@ -43,7 +43,7 @@ listed_at below h w job l d device at none =
     let u = k.run.ghost_then in
     let steps = k.run.steps in
     let is : name_at (infos_of h) d ≡ Some device.info.name = name_there h.devices d device at in
-    let of = all_of_one h steps (each_of t.infos h.events steps (traced h.events t steps u k.run.comes)) (all_of_jobs h.events t steps u (untouched_at_first h w job l) k.run.comes) (behind_there h w job l k.run) in
+    let of = all_of_one h steps (each_of t.infos h.events steps (traced h.events t steps u k.run.comes)) (all_of_jobs h.events t steps u (untouched_at_first h w job l) k.run.comes) in
     let first : (t.system.device d).listed ≡ true = ap (λ (o : Option DeviceState). (fresh_device o).listed) at in
     let on : ((after_all t.system steps).device d).listed ≡ true = listed_stays (all_marks d t.system steps) (device_view (t.system.make d) (t.system.device d)) (device_view (t.system.make d) ((after_all t.system steps).device d)) (k.run.marks d) (all_stay h d device.info.name steps t.system is none of) first in
     subst (λ (s : SystemState). (s.device d).listed ≡ true) (sym k.run.rules_are) on

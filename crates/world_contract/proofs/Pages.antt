@@ -10,9 +10,8 @@ use Rattle.device_api.specs.Kinds.{Page}
 use Rattle.system_model.specs.Devices.{Make}
 use Rattle.system_model.specs.AbstractDevices.{Begin}
 use Rattle.system_model.specs.SystemStates.{SystemState, listed_devices, make_for, device_for, wanted_place}
-use Rattle.system_model.specs.Transitions.{By, Loads, Transition, Unplugs, after_transition}
+use Rattle.system_model.specs.Transitions.{By, Loads, Transition, Unplugs}
 use Rattle.system_model.specs.Marks.{marks, device_view, touched_device}
-use Rattle.system_model.specs.MoveRuns.{all_marks, marks_at}
 use Rattle.scan_world.specs.declared.event.Event.{Event}
 use Rattle.scan_world.specs.declared.event.Event.TheVariants.{Connect, ToDaemon, ToClient, DataConnect, DataTurn, DataToClient, LoseControl, LoseImage, Cancel, Load, Unplug}
 use Rattle.world_refines.specs.NewWorlds.{info_of_state}
@@ -20,13 +19,12 @@ use Rattle.world_refines.specs.GhostStates.{name_at}
 use Rattle.world_contract.specs.Histories.{History}
 use Rattle.world_contract.specs.Page.{CameFor}
 use Rattle.world_contract.specs.Page.CameFor.{AtFirst, WithEvent}
-use Rattle.world_contract.proofs.Lists.{In, all_each, all_in, all_then, contains_in, contains_at}
+use Rattle.world_contract.proofs.Lists.{In, all_each, all_in, contains_in, contains_at}
 use Rattle.world_contract.proofs.Mine.{IsMine, deed_mine}
 use Rattle.world_contract.proofs.Marked.{LoadsIt, Slotted, mine_loads}
 use Rattle.world_contract.proofs.Traced.{IsOfSome, StepOf}
 use Rattle.world_contract.proofs.OfJobs.{IsOfJob}
 use Rattle.page_picture.specs.SourceView.{source_state}
-use Rattle.world_contract.proofs.Connected.{ComesBehind}
 
 -- there is a device of that place; and a page of it
 abbrev pub HasDevice : History → ℕ → Type 0
@@ -100,18 +98,13 @@ pub record IsOfOne (h : History) (x : Transition) : Type 0 where
   pub among : In event h.events
   pub is : StepOf (map info_of_state h.devices) event x
   pub there : IsOfJob (length h.jobs) x
-  pub behind : ComesBehind (map info_of_state h.devices) h.events x
 
-pub all_of_one : (h : History) (xs : List Transition) → AllByRecursion (IsOfSome (map info_of_state h.devices) h.events) xs → AllByRecursion (IsOfJob (length h.jobs)) xs → AllByRecursion (ComesBehind (map info_of_state h.devices) h.events) xs → AllByRecursion (IsOfOne h) xs
-all_of_one h [] a b d = tt
-all_of_one h (x ∷ xs) a b d = (record { event = a.0.event; among = a.0.among; is = a.0.is; there = b.0; behind = d.0 }, all_of_one h xs a.1 b.1 d.1)
+pub all_of_one : (h : History) (xs : List Transition) → AllByRecursion (IsOfSome (map info_of_state h.devices) h.events) xs → AllByRecursion (IsOfJob (length h.jobs)) xs → AllByRecursion (IsOfOne h) xs
+all_of_one h [] a b = tt
+all_of_one h (x ∷ xs) a b = (record { event = a.0.event; among = a.0.among; is = a.0.is; there = b.0 }, all_of_one h xs a.1 b.1)
 
 pub loads_if : (h : History) (d : ℕ) (s : SystemState) (x : Transition) → IsOfOne h x → (b : Bool) → eqb d (touched_device s x) ≡ b → AllByRecursion (LoadsIt (IsOfDevice h d)) (cond b (marks s x) [])
 loads_if h d s x of false e = tt
 loads_if h d s (By j deed) of true e = all_each (IsMine j (wanted_place s j)) (LoadsIt (IsOfDevice h d)) (marks s (By j deed)) (mine_loads (IsOfDevice h d) j (wanted_place s j)) (deed_mine j (wanted_place s j) (make_for s j) (listed_devices s) (s.job j) (device_for s j) deed)
 loads_if h d s (Loads place page) of true e = (subst (λ (n : ℕ). IsOfDevice h n page) (sym (eqb-true d place e)) (laid h place page of.event of.among of.is), tt)
 loads_if h d s (Unplugs place) of true e = (tt, tt)
-
-pub all_loads : (h : History) (xs : List Transition) (s : SystemState) → AllByRecursion (IsOfOne h) xs → (d : ℕ) → AllByRecursion (LoadsIt (IsOfDevice h d)) (all_marks d s xs)
-all_loads h [] s of d = tt
-all_loads h (x ∷ xs) s of d = all_then (LoadsIt (IsOfDevice h d)) (marks_at d s x) (all_marks d (after_transition s x) xs) (loads_if h d s x of.0 (eqb d (touched_device s x)) refl) (all_loads h xs (after_transition s x) of.1 d)

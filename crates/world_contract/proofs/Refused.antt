@@ -1,8 +1,10 @@
 -- Why the promise refuses what it refuses.
 use Rattle.std.specs.Prelude.{◌≢◌, ◌<◌, map, option_map, slice_get}
+use Rattle.std.proofs.Math.Nat.{min-eq_left}
 use Rattle.std.proofs.Common.{◌≡◌, ◌∙◌, ◌⊎◌, ℕ, List, [], ◌∷◌, Bool, true, false, Option, Some, None, inl, inr, refl, sym, ap, subst, arith}
 use Rattle.page_picture.specs.Meaning.{meaning_of}
 use Rattle.page_picture.specs.Page.{PageView}
+use Rattle.device_api.specs.State.{HeldPage}
 use Rattle.sane_fixed.specs.declared.status.Status.{Status}
 use Rattle.sane_fixed.specs.declared.status.Status.TheVariants as statuses
 use Rattle.option_desc.specs.declared.descriptor.Descriptor.{Descriptor}
@@ -19,6 +21,7 @@ use Rattle.saned_core.specs.DaemonStates.{Core}
 use Rattle.scan_job.specs.declared.job.Job.{Job}
 use Rattle.scan_job.specs.declared.outcome.Outcome.{Outcome}
 use Rattle.scan_job.specs.declared.outcome.Outcome.TheVariants.{Running, Done, Ended}
+use Rattle.scan_job.specs.declared.outcome.Why.{Why}
 use Rattle.scan_job.specs.declared.outcome.Why.TheVariants as whys
 use Rattle.scan_world.specs.declared.endpoint.Endpoint.{Endpoint}
 use Rattle.scan_world.specs.declared.event.Event.{Event}
@@ -29,13 +32,15 @@ use Rattle.scan_world.specs.declared.event.JobEvent.TheVariants as moves
 use Rattle.scan_world.specs.JobEvents.{job_event_of}
 use Rattle.scan_world.specs.JobMoves.{IsFirstMove, IsNext, in_order}
 use Rattle.scan_world.specs.Worlds.{WorldCore}
-use Rattle.client_replies.specs.ProtocolStates.{is_running}
+use Rattle.client_replies.specs.ProtocolStates.{is_running, scans}
 use Rattle.world_contract.specs.Calls.{AreNextMoves, HadUnsaidReply, MovesNext, outcome_at, starved_at}
-use Rattle.world_contract.specs.Clear.{StoppedIsNoLie}
+use Rattle.world_contract.specs.Clear.{BothBusyIsNoLie, ComesTo, CameRefused, NeitherIsNoLie, RefusedIsNoLie, StoppedIsNoLie, TurnedAwayIsNoLie}
+use Rattle.world_contract.specs.Page.CameInTime.{FromFirst, AsItRan}
+use Rattle.world_contract.proofs.moments.Entries.{unsome}
 use Rattle.world_contract.specs.Endings.{AnswerIsExplained, HadNoPage, HasPassed, NamesStatus}
-use Rattle.world_contract.specs.Histories.{History}
+use Rattle.world_contract.specs.Histories.{History, and_then}
 use Rattle.world_contract.specs.Reports.{AreSettingsReported, IsSettingReported, told_option}
-use Rattle.world_contract.specs.Lies.{AllowedIsNoLie, BusyIsNoLie, CancelledIsNoLie, CountIsNoLie, DeniedIsNoLie, EmptyIsNoLie, FailedIsNoLie, FileIsNoLie, GivenUpIsNoLie, GoneOnIsNoLie, HiddenIsNoLie, IdleIsNoLie, InvalIsNoLie, ListIsNoLie, LossIsNoLie, LostIsNoLie, MemoryIsNoLie, MissingIsNoLie, MovedIsNoLie, NamesNothing, NowhereIsNoLie, PageIsNoLie, RoundedIsNoLie, SharedIsNoLie, ShownIsNoLie, SilentIsNoLie, StuckIsNoLie, SwappedIsNoLie, WholeIsNoLie}
+use Rattle.world_contract.specs.Lies.{AllowedIsNoLie, BusyIsNoLie, CancelledIsNoLie, CountIsNoLie, DeniedIsNoLie, EmptyIsNoLie, FailedIsNoLie, FewIsNoLie, FileIsNoLie, FirmIsNoLie, GivenUpIsNoLie, GoneOnIsNoLie, HiddenIsNoLie, IdleIsNoLie, InvalIsNoLie, JammedIsNoLie, ListIsNoLie, LossIsNoLie, LostIsNoLie, MemoryIsNoLie, MissingIsNoLie, MovedIsNoLie, NamesNothing, NowhereIsNoLie, PageIsNoLie, RefusedStandAside, RoundedIsNoLie, SharedIsNoLie, ShownIsNoLie, SilentIsNoLie, StillRunsIsNoLie, StuckIsNoLie, SwappedIsNoLie, TrayPageIsNoLie, UnscannedIsNoLie, WholeIsNoLie}
 
 -- ---- endings
 
@@ -62,14 +67,29 @@ pub denied : DeniedIsNoLie
 denied h w i job starved nothing right = by_answer h w i job statuses.AccessDenied nothing (λ (asked, d). (let clash : true ≡ false = sym (right d.sent.resource) ∙ d.is in cc))
 
 pub empty : EmptyIsNoLie
-empty h w i job starved nothing some = by_answer h w i job statuses.NoDocs nothing (λ (scanning, asked, finished, (d, has, none)). some asked.n asked.at d has none)
+empty h w i job starved nothing some = by_answer h w i job statuses.NoDocs nothing (λ (scanning, asked, finished, (d, has, rests, none)). some asked.n asked.at d has none)
 
 pub failed : FailedIsNoLie
 failed h w i job starved nothing none = by_answer h w i job statuses.IoError nothing by_case
   where
     by_case : AnswerIsExplained h w i job statuses.IoError → ⊥
-    by_case (scanning, inl (asked, failed)) = none (ToDaemon i asked.n) asked.at failed
-    by_case (scanning, inr (turn, failed, sent)) = none _ turn.0 failed
+    by_case (scanning, can, inl (asked, failed)) = none (ToDaemon i asked.n) asked.at failed
+    by_case (scanning, can, inr (turn, failed, sent)) = none _ turn.0 failed
+
+pub firm : FirmIsNoLie
+firm h w i job starved nothing all = by_answer h w i job statuses.IoError nothing (λ (scanning, can, rest). (let clash : true ≡ false = sym (all can.0 can.1) ∙ can.2 in cc))
+
+-- a turn, a tray and a source are those of a job that scans
+unscanned_by : (h : History) (w : WorldCore) (i : ℕ) (job : Job) (status : Status) → scans job.task ≡ false → (AnswerIsExplained h w i job status → scans job.task ≡ true) → ((status ≢ statuses.Eof) × NamesStatus h w i job status) ⊎ AnswerIsExplained h w i job status → ⊥
+unscanned_by h w i job status off scanning (inl (other, (turn, on, named))) = let clash : true ≡ false = sym on ∙ off in cc
+unscanned_by h w i job status off scanning (inr answered) = let clash : true ≡ false = sym (scanning answered) ∙ off in cc
+
+pub unscanned : UnscannedIsNoLie
+unscanned h w i job starved off (inl told) = unscanned_by h w i job statuses.NoDocs off (λ answered. answered.0) told
+unscanned h w i job starved off (inr told) = unscanned_by h w i job statuses.IoError off (λ answered. answered.0) told
+
+pub jammed : JammedIsNoLie
+jammed h w i job starved nothing = by_answer h w i job statuses.Jammed nothing (λ answered. answered)
 
 pub lost : LostIsNoLie
 lost h w i job control image (same, inl (inl happened)) = control happened
@@ -109,7 +129,15 @@ counted h w i job reports count finished batch other some kept = by_case (kept c
   where
     by_case : (finished ≡ count) ⊎ ((0 < finished) × (finished < count) × HadNoPage h w i job finished) → ⊥
     by_case (inl all) = other all
-    by_case (inr (more, fewer, (scanning, asked, behind, (d, has, none)))) = some asked.n asked.at d has none
+    by_case (inr (more, fewer, (scanning, asked, behind, (d, has, rests, none)))) = some asked.n asked.at d has none
+
+pub few : FewIsNoLie
+few h w i job finished count tray enough other counts = other (counts.fed tray ∙ min-eq_left enough)
+
+pub tray_page : TrayPageIsNoLie
+tray_page h w i job tray k page file at none (scan, there) =
+    let same : scan.held.page ≡ page = unsome scan.held.page page (sym there ∙ at) in
+    none scan.settled scan.picture (ap (λ (p : PageView). meaning_of p scan.settled.setup.scene) (sym same) ∙ scan.meant) scan.denotes
 
 -- the device that the settings of a job that is done are put on is there
 pub nowhere : NowhereIsNoLie
@@ -154,6 +182,13 @@ pub filed : FileIsNoLie
 filed h w i job starved reports bytes steady scan never kept =
     let s = kept.scanned reports bytes steady scan refl refl in
     never s.started.asked.n s.started.asked.at s.started.device s.settled s.picture s.started.has (ap (λ (p : PageView). meaning_of p s.settled.setup.scene) s.started.first ∙ s.meant) s.denotes
+
+pub aside : RefusedStandAside
+aside h w i name first later held (FromFirst device there named among) taken = first device there named held among
+aside h w i name first later held (AsItRan source at ran is) taken = elim (later source at) [
+  | inl steady ↦ subst (λ (x : HeldPage). x.steady ≡ true) is steady
+  | inr refused ↦ absurd (refused taken)
+]
 
 pub paged : PageIsNoLie
 paged h w i job starved finished k bytes steady never kept =
@@ -255,6 +290,41 @@ stopped h w i job status why enough other never (inl (reports, same)) = let clas
 stopped h w i job status why enough other never (inr (inl (inl out))) = let clash : false ≡ true = sym enough ∙ out in cc
 stopped h w i job status why enough other never (inr (inl (inr same))) = other (let both : Ended status why ≡ Ended statuses.NoMem whys.Memory = same in cc)
 stopped h w i job status why enough other never (inr (inr broke)) = never broke
+
+pub still_runs : StillRunsIsNoLie
+still_runs h w v i job at runs out = out.over i job Running at runs refl
+
+-- ---- a refusal
+
+is_refused : (h : History) (events : List Event) (new : WorldCore) (i : ℕ) (job : Job) (status : Status) (why : Why) (outcome : Outcome) → CameRefused h new i job status why → outcome_at new i ≡ Some outcome → ComesTo (and_then h events) new i job outcome → ⊥
+is_refused h events new i job status why outcome r there comes =
+    let same : outcome ≡ Ended status why = unsome outcome (Ended status why) (sym there ∙ r.ended) in
+    stopped (and_then h events) new i job status why r.enough r.other (r.whole events) (subst (ComesTo (and_then h events) new i job) same comes)
+
+ended_not : (status : Status) (why : Why) → Ended status why ≢ Running
+ended_not status why e = let clash : Ended status why ≡ Running = e in cc
+
+pub refused : RefusedIsNoLie
+refused events old new h i job status why led next at clear r clears =
+    is_refused h events new i job status why (Ended status why) r r.ended (clears h led next i job at clear (Ended status why) r.ended (ended_not status why))
+
+pub turned_away : TurnedAwayIsNoLie
+turned_away old new h i job status why led at clear r clears = let c = clears h led i job at clear in is_refused h c.out.moves new i job status why c.outcome r c.is c.comes
+
+pub both_busy : BothBusyIsNoLie
+both_busy old new h i j a b c first second shares =
+    let both = shares h c.led i j a b c.apart c.first_at c.second_at c.same c.first c.second in
+    both.one (unsome both.first (Ended statuses.DeviceBusy whys.Answer) (sym both.first_is ∙ first)) (unsome both.second (Ended statuses.DeviceBusy whys.Answer) (sym both.second_is ∙ second))
+
+pub neither : NeitherIsNoLie
+neither old new h i j a b status why c other r shares =
+    let both = shares h c.led i j a b c.apart c.first_at c.second_at c.same c.first c.second in
+    elim both.comes [
+      | inl comes ↦ is_refused h both.out.moves new i a status why both.first r both.first_is comes
+      | inr busy ↦
+          let same : ◌≡◌ {A = Outcome} (Ended status why) (Ended statuses.DeviceBusy whys.Answer) = unsome (Ended status why) both.first (sym r.ended ∙ both.first_is) ∙ busy in
+          other (let both : Ended status why ≡ Ended statuses.DeviceBusy whys.Answer = same in cc)
+    ]
 
 -- ---- devices
 

@@ -1,7 +1,7 @@
 -- The rows of the table as they are found, of pages that came whenever that was; and a turn that failed, as long as it is not told
 -- whether its connection went.
 use Rattle.std.specs.Prelude.{option_and_then, option_map, slice_get}
-use Rattle.std.proofs.Common.{◌≡◌, ◌≢◌, ◌⊎◌, ◌++◌, ℕ, List, [], Bool, true, false, Option, Some, None, inl, inr, refl, sym, ap, subst}
+use Rattle.std.proofs.Common.{◌≡◌, ◌≢◌, ◌⊎◌, ◌++◌, ℕ, List, Bool, true, false, Option, Some, None}
 use Rattle.netpbm.specs.Picture.{Picture}
 use Rattle.netpbm.specs.Pnm.{Denotes}
 use Rattle.sane_fixed.specs.Status.{status_code}
@@ -24,8 +24,9 @@ use Rattle.scan_world.specs.Worlds.{WorldCore}
 use Rattle.std.specs.Prelude.{Contains}
 use Rattle.world_refines.specs.FailedSources.{FailedIn}
 use Rattle.world_contract.specs.Endings.{HadNoPage, HasPassed, IsUnforced, NamesStatus}
-use Rattle.world_contract.specs.Histories.{History, Moment}
+use Rattle.world_contract.specs.Histories.{History}
 use Rattle.world_contract.specs.Page.{CameFor, Settled, StartedOn}
+use Rattle.world_contract.proofs.Sources.{CanFail}
 use Rattle.world_contract.specs.Sessions.{Asked, AtJob, Happened, Has, IsAtOpen, IsAtStart}
 
 -- the client of job i waits for this
@@ -40,9 +41,6 @@ abbrev pub RunsAt : WorldCore → ℕ → Type 0
 RunsAt w i = AtJob w i (λ p. p.client.outcome ≡ Running)
 
 -- ---- pages, whenever they came
-
-abbrev pub IsSteadyEver : History → List ℕ → Type 0
-IsSteadyEver h name = (held : HeldPage) → CameFor h name held → held.steady ≡ true
 
 pub record IsScanEver (h : History) (w : WorldCore) (i : ℕ) (job : Job) (count : ℕ) (file : List ℕ) : Type 0 where
   pub settled : Settled h job
@@ -93,7 +91,7 @@ SendsOrLoses before behind i =
     × ((image_at behind i ≡ Some (sent ++ end_record (status_code IoError))) ⊎ (image_at behind i ≡ None))
 
 abbrev pub MayHaveFailed : History → WorldCore → ℕ → Job → Type 0
-MayHaveFailed h w i job = (scans job.task ≡ true)
+MayHaveFailed h w i job = (scans job.task ≡ true) × CanFail h job.device
     × (((asked : Asked h w i IsAtStart) × FailedIn asked.at.before asked.at.behind.daemon i job.device)
     ⊎ ((turn : Happened h w i (DataTurn i)) × FailedIn turn.0.before turn.0.behind.daemon i job.device
     × SendsOrLoses turn.0.before turn.0.behind i))

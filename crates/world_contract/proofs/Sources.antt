@@ -19,7 +19,6 @@ use Rattle.world_contract.specs.Histories.{History}
 use Rattle.world_contract.proofs.Lists.{In, contains_at, contains_in}
 use Rattle.world_contract.specs.Page.{CameFor}
 use Rattle.world_contract.specs.Page.CameFor.{AtFirst, WithEvent}
-use Rattle.world_contract.proofs.Rows.{IsSteadyEver}
 
 -- ---- by a test of pages
 
@@ -49,11 +48,11 @@ sources_of h d = record { fallible = one_comes is_fallible_page h d; steady = no
 abbrev pub make_at : History → ℕ → Make
 make_at h d = make_of (sources_of h d) (slice_get h.devices d)
 
-fallible_of_make : (b : PageSources) (o : Option DeviceState) → (make_of b o).fallible ≡ b.fallible
+pub fallible_of_make : (b : PageSources) (o : Option DeviceState) → (make_of b o).fallible ≡ b.fallible
 fallible_of_make b None = refl
 fallible_of_make b (Some s) = refl
 
-steady_of_make : (b : PageSources) (o : Option DeviceState) → (make_of b o).steady ≡ b.steady
+pub steady_of_make : (b : PageSources) (o : Option DeviceState) → (make_of b o).steady ≡ b.steady
 steady_of_make b None = refl
 steady_of_make b (Some s) = refl
 
@@ -136,13 +135,13 @@ none_brought test h name source among k named e =
     let parts = neither (list_any test d.0.pages) (list_any (is_such_load test d.0.info.name) h.events) (sym (among_is test h k d.0 d.1) ∙ e) in
     same_bytes name d.0.info.name (test (held_from (source_state source))) (sym d.2) (none_of (is_such_load test d.0.info.name) h.events (Load name source) parts.1 among)
 
-load_fits : (h : History) (name : List ℕ) (source : Source) → In (Load name source) h.events → (k : ℕ) → name_at (map info_of_state h.devices) k ≡ Some name → HasSource (make_at h k) (held_from (source_state source))
+pub load_fits : (h : History) (name : List ℕ) (source : Source) → In (Load name source) h.events → (k : ℕ) → name_at (map info_of_state h.devices) k ≡ Some name → HasSource (make_at h k) (held_from (source_state source))
 load_fits h name source among k named = record {
   infallible = λ e. turned (source_state source).infallible (none_brought is_fallible_page h name source among k named (sym (fallible_at h k) ∙ e));
   steady = λ e. turned (source_state source).steady (none_brought is_unsteady_page h name source among k named (turned_off (one_comes is_unsteady_page h k) (sym (steady_of_make (sources_of h k) (slice_get h.devices k)) ∙ e)));
 }
 
-event_fits : (h : History) (event : Event) → In event h.events → IsFittingLoad source_state (map info_of_state h.devices) (make_at h) event
+pub event_fits : (h : History) (event : Event) → In event h.events → IsFittingLoad source_state (map info_of_state h.devices) (make_at h) event
 event_fits h (Connect i) among = tt
 event_fits h (ToDaemon i n) among = tt
 event_fits h (ToClient i n) among = tt
@@ -205,13 +204,5 @@ CanFail h name = (held : HeldPage) × CameFor h name held × (held.infallible �
 pub can_fail_there : (h : History) (d : ℕ) (name : List ℕ) → ((s : DeviceState) → slice_get h.devices d ≡ Some s → s.info.name ≡ name) → one_comes is_fallible_page h d ≡ true → CanFail h name
 can_fail_there h d name named e = let r = comes_there is_fallible_page h d name named e in (r.0, r.1, turned_off r.0.infallible r.2)
 
-none_unsteady : (h : History) (name : List ℕ) → IsSteadyEver h name → Comes is_unsteady_page h name → ⊥
-none_unsteady h name steady (held, came, is) = false≢true (sym (turned_off held.steady is) ∙ steady held came)
-
-not_so : (b : Bool) → (b ≡ true → ⊥) → not b ≡ true
-not_so true n = absurd (n refl)
-not_so false n = refl
-
-pub steady_there : (h : History) (d : ℕ) (name : List ℕ) → ((s : DeviceState) → slice_get h.devices d ≡ Some s → s.info.name ≡ name) → IsSteadyEver h name → (make_at h d).steady ≡ true
-steady_there h d name named steady =
-    steady_of_make (sources_of h d) (slice_get h.devices d) ∙ not_so (one_comes is_unsteady_page h d) (λ e. none_unsteady h name steady (comes_there is_unsteady_page h d name named e))
+pub can_fail_at : (h : History) (d : ℕ) (device : DeviceState) → slice_get h.devices d ≡ Some device → (sources_of h d).fallible ≡ true → CanFail h device.info.name
+can_fail_at h d device at able = can_fail_there h d device.info.name (λ s there. (let both : Some s ≡ Some device = sym there ∙ at in let same : s ≡ device = cc in ap (λ (x : DeviceState). x.info.name) same)) able

@@ -1,5 +1,5 @@
 -- A job that ended did so in one of the events, and has its cause among those up to that one.
-use Rattle.std.specs.Prelude.{option_map, slice_get}
+use Rattle.std.specs.Prelude.{IfSome, option_map, slice_get}
 use Rattle.std.proofs.Common.{◌≡◌, ◌≢◌, ◌∙◌, ℕ, zero, suc, List, [], ◌∷◌, ◌++◌, Option, Some, None, refl, sym, ap, append_assoc}
 use Rattle.page_picture.specs.SourceView.{source_state}
 use Rattle.sane_fixed.specs.declared.status.Status.{Status}
@@ -13,7 +13,7 @@ use Rattle.scan_world.specs.declared.event.Event.{Event}
 use Rattle.scan_world.specs.Worlds.{AreNew, Runs, WorldCore}
 use Rattle.world_refines.specs.MainTheorem.{AreTrueLoads}
 use Rattle.world_contract.specs.Histories.{History, LedTo, history_up_to}
-use Rattle.world_contract.specs.Calls.{EndedIn, KeepsEnding, outcome_at, starved_at}
+use Rattle.world_contract.specs.Calls.{EndedIn, ForEach, outcome_at, starved_at}
 use Rattle.world_contract.specs.Laws.{Below}
 use Rattle.world_contract.specs.Promise.{OutcomeIsKept}
 use Rattle.world_contract.proofs.Calls.{outcome_call}
@@ -71,10 +71,14 @@ ends_from below h w i job status why at is (e ∷ es) seen u split led loads (v,
     let on : LedTo (history_up_to h (seen ++ e ∷ [])) v = led_then (history_up_to h seen) (e ∷ []) u v led (loads.0, tt) (v, leads, refl) in
     here_or_later h w u v i job status why e es seen is split led ran (v, leads, refl) on rest
     (ends_from below h w i job status why at is es (seen ++ e ∷ []) v (split ∙ sym (append_assoc seen (e ∷ []) es)) on loads.1 rest)
-    (outcome_call below v i (outcome_at v i) refl (history_up_to h (seen ++ e ∷ [])) job (record { led = on; job_at = at }))
+    (outcome_call below v i (history_up_to h (seen ++ e ∷ [])) job (record { led = on; job_at = at }))
 
-pub ending_call : Below → (w : WorldCore) (i : ℕ) (given : Option Outcome) → given ≡ outcome_at w i → KeepsEnding w i given
-ending_call below w i given is h job at status why ended =
+ended_there : Below → (w : WorldCore) (i : ℕ) → ForEach w i (λ h job. (status : Status) (why : Why) → outcome_at w i ≡ Some (Ended status why) → EndedIn h w i job status why)
+ended_there below w i h job at status why ended =
     let l = at.led in
     let first : LedTo (history_up_to h []) l.first = record { first = l.first; endpoints = l.endpoints; daemon = l.daemon; users_are = l.users_are; names = l.names; limits = l.limits; fit = l.fit; loads = tt; runs = refl } in
-    ends_from below h w i job status why at.job_at (sym is ∙ ended) h.events [] l.first refl first l.loads l.runs (runs_first h w l i job at.job_at)
+    ends_from below h w i job status why at.job_at ended h.events [] l.first refl first l.loads l.runs (runs_first h w l i job at.job_at)
+
+pub ending_call : {X : Type 0} (read : X → Outcome) (given : Option X) → Below → (w : WorldCore) (i : ℕ) → option_map read given ≡ outcome_at w i → IfSome given (λ (x : X). ForEach w i (λ h job. (status : Status) (why : Why) → read x ≡ Ended status why → EndedIn h w i job status why))
+ending_call read None below w i is = tt
+ending_call read (Some x) below w i is = λ h job at status why ended. ended_there below w i h job at status why (sym is ∙ ap (λ (o : Outcome). Some o) ended)

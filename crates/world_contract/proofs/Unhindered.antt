@@ -8,12 +8,12 @@ use Rattle.page_picture.specs.SourceView.{source_state}
 use Rattle.sane_fixed.specs.declared.device_info.DeviceInfo.{DeviceInfo}
 use Rattle.page_picture.specs.declared.scene.DeviceKind.TheVariants.{Flatbed, Hand, ThreePass, Feeder}
 use Rattle.device_api.specs.Kinds.{IsStocked, Model, is_feeder}
-use Rattle.device_api.specs.State.{DeviceState, HeldPage, Phase as AnyPhase, feeds, first_page, is_infallible, left_behind}
+use Rattle.device_api.specs.State.{DeviceState, HeldPage, Phase as AnyPhase, feeds, left_behind}
 use Rattle.device_api.specs.State.Phase.{AtRest as Rest, Between as Amid, Reading as Read}
 use Rattle.dispatch.specs.Table.{find_name}
 use Rattle.scan_job.specs.declared.job.Job.{Job}
 use Rattle.daemon_refines.specs.Cores.{fresh_device}
-use Rattle.daemon_refines.specs.ContextRefinement.{HaveSources, IsMade, page_views, pages_to_come, tray_of}
+use Rattle.daemon_refines.specs.ContextRefinement.{IsMade, page_views, pages_to_come, tray_of}
 use Rattle.system_model.specs.AbstractDevices.{AbstractDevice}
 use Rattle.system_model.specs.Client.{AbstractJob as RuledJob}
 use Rattle.system_model.specs.Devices.{Make}
@@ -30,7 +30,6 @@ use Rattle.world_refines.specs.WorldRefinement.{HaveDifferentNames}
 use Rattle.world_refines.proofs.job_events.Constant.{Fixed, all_fixed, makes_stay}
 use Rattle.world_contract.specs.Histories.{History, LedTo}
 use Rattle.world_contract.specs.Laws.{Below}
-use Rattle.world_contract.specs.Page.{CameFor}
 use Rattle.world_contract.specs.Sessions.{Has}
 use Rattle.world_contract.proofs.Along.{device_named}
 use Rattle.world_contract.proofs.Jobs.{item_there}
@@ -38,8 +37,8 @@ use Rattle.world_contract.proofs.Lists.{In, all_each, all_then}
 use Rattle.world_contract.proofs.Mine.{IsMine, deed_mine}
 use Rattle.world_contract.proofs.OfJobs.{all_of_jobs}
 use Rattle.world_contract.proofs.Pages.{IsOfOne, all_of_one, name_there}
-use Rattle.world_contract.proofs.Scanned.{at_first, behind_there, infos_of, kept_by, name_of, untouched_at_first}
-use Rattle.world_contract.proofs.Sources.{can_fail_there, fallible_at, have_sources, make_at, named_at, sources_of}
+use Rattle.world_contract.proofs.Scanned.{at_first, infos_of, kept_by, name_of, untouched_at_first}
+use Rattle.world_contract.proofs.Sources.{have_sources, make_at, named_at, sources_of}
 use Rattle.world_contract.proofs.Traced.{StepOf, each_of, traced}
 use Rattle.world_contract.proofs.moments.Opened.{listed_found}
 use Rattle.world_contract.proofs.moments.Stands.{has_holds}
@@ -115,7 +114,7 @@ listed_here below h w job l device there named none =
     let d = place_named (infos_of h) job.device in
     let at : slice_get h.devices d ≡ Some device = device_named h job.device device (names_apart below h w job l) there named in
     let is : name_at (infos_of h) d ≡ Some job.device = name_there h.devices d device at ∙ ap (λ (n : List ℕ). Some n) named in
-    let of = all_of_one h steps (each_of t.infos h.events steps (traced h.events t steps u k.run.comes)) (all_of_jobs h.events t steps u (untouched_at_first h w job l) k.run.comes) (behind_there h w job l k.run) in
+    let of = all_of_one h steps (each_of t.infos h.events steps (traced h.events t steps u k.run.comes)) (all_of_jobs h.events t steps u (untouched_at_first h w job l) k.run.comes) in
     let first : (t.system.device d).listed ≡ true = ap (λ (o : Option DeviceState). (fresh_device o).listed) at in
     let on : ((after_all t.system steps).device d).listed ≡ true = listed_stays (all_marks d t.system steps) (device_view (t.system.make d) (t.system.device d)) (device_view (t.system.make d) ((after_all t.system steps).device d)) (k.run.marks d) (all_stay h d job.device steps t.system is none of) first in
     let infos : u.infos ≡ infos_of h = ap (λ (f : Fixed). f.1) (all_fixed source_state h.events t steps u k.run.comes) in
@@ -172,7 +171,7 @@ is_of below h w job l device there j d has =
       stocked = subst (λ (x : Model). IsStocked x (tray_of d)) m.made.kind stocked;
     }
 
-kind_of_make : (h : History) (place : ℕ) (device : DeviceState) → slice_get h.devices place ≡ Some device → (make_at h place).model ≡ device.setup.scene.kind
+pub kind_of_make : (h : History) (place : ℕ) (device : DeviceState) → slice_get h.devices place ≡ Some device → (make_at h place).model ≡ device.setup.scene.kind
 kind_of_make h place device at = ap (λ (o : Option DeviceState). (make_of (sources_of h place) o).model) at
 
 -- ---- no feeder is without a page
@@ -197,22 +196,3 @@ pub some_page : (h : History) (device d : DeviceState) → IsOf h device d → f
 some_page h device d o plain none =
     let kind : d.setup.scene.kind ≡ device.setup.scene.kind = sym o.made.kind ∙ kind_of_make h o.place device o.at in
     plain_stocked d.setup.scene.kind (ap is_feeder kind ∙ plain) (subst (IsStocked d.setup.scene.kind) (come_none d d.phase none) o.stocked)
-
--- ---- its source cannot fail
-
-first_firm : (make : Make) (pages : List HeldPage) → make.fallible ≡ false → HaveSources make pages → (pages ≡ [] → ⊥) → (first_page pages).infallible ≡ true
-first_firm make [] off all some = absurd (some refl)
-first_firm make (held ∷ pages) off all some = all.0.infallible off
-
-none_fallible : (h : History) (device : DeviceState) (place : ℕ) (b : Bool) → slice_get h.devices place ≡ Some device → ((held : HeldPage) → CameFor h device.info.name held → held.infallible ≡ true) → (make_at h place).fallible ≡ b → b ≡ false
-none_fallible h device place false at firm e = refl
-none_fallible h device place true at firm e =
-    let one_named = λ (s : DeviceState) (there : slice_get h.devices place ≡ Some s). (let both : Some s ≡ Some device = sym there ∙ at in let same : s ≡ device = cc in ap (λ (x : DeviceState). x.info.name) same) in
-    let c = can_fail_there h place device.info.name one_named (sym (fallible_at h place) ∙ e) in
-    let clash : true ≡ false = sym (firm c.0 c.1) ∙ c.2 in absurd (cc)
-
-pub firm_here : (h : History) (device d : DeviceState) → IsOf h device d → feeds device ≡ false → ((held : HeldPage) → CameFor h device.info.name held → held.infallible ≡ true) → is_infallible d ≡ true
-firm_here h device d o plain firm =
-    let place = o.place in
-    let off : (make_at h place).fallible ≡ false = none_fallible h device place (make_at h place).fallible o.at firm refl in
-    first_firm (make_at h place) d.pages off o.made.sources (some_page h device d o plain)

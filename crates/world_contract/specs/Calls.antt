@@ -1,5 +1,6 @@
 -- What the calls of a world answer, and what each promises, for whatever history led to the world.
-use Rattle.std.specs.Prelude.{ℕ, ◌≡◌, ◌≢◌, ◌⊎◌, ◌<◌, ◌≤◌, ◌^◌, if◌then◌else◌, Bool, false, min, Option, Some, None, option_map, option_and_then, List, [], ◌∷◌, ◌++◌, Contains, length, slice_get, true}
+use Rattle.std.specs.Prelude.{ℕ, ◌≡◌, ◌≢◌, ◌⊎◌, ◌<◌, ◌≤◌, ◌^◌, if◌then◌else◌, Bool, false, min, Option, Some, None}
+use Rattle.std.specs.Prelude.{option_map, option_and_then, List, [], ◌∷◌, ◌++◌, Contains, length, slice_get, true}
 use Rattle.page_picture.specs.SourceView.{source_state}
 use Rattle.page_picture.specs.declared.sources.kinds.Source.{Source}
 use Rattle.sane_fixed.specs.declared.status.Status.{Status}
@@ -26,7 +27,7 @@ use Rattle.scan_world.specs.Worlds.{Leads, Runs, WorldCore}
 use Rattle.world_refines.specs.FailedSources.{CutIn}
 use Rattle.world_contract.specs.Endings.{IsEndingExplained}
 use Rattle.world_contract.specs.Histories.{History, LedTo, Moment, and_then, history_up_to}
-use Rattle.world_contract.specs.Promise.{JobAnswers, CountIsKept, FileIsKept, MoveIsKept, MovesAreKept, OutcomeIsKept, PageIsKept}
+use Rattle.world_contract.specs.Promise.{CountIsKept, FileIsKept, JobAnswers, MoveIsKept, OutcomeIsKept, PageIsKept}
 use Rattle.world_contract.specs.Sessions.{CanAt, Has, SessionAt}
 
 -- ---- what they answer of job i
@@ -85,9 +86,8 @@ pub record AnswersAre (w : WorldCore) (i : ℕ) (a : JobAnswers) : Type 0 where
 -- ---- what they promise of it
 
 -- the history led to the world, and the job is the one of that place
--- **for each history (`IsJobAt`, `ForEach`, `KeepsOutcome`, `KeepsScanFile`, `KeepsPage`, `KeepsPageCount`,
--- `KeepsMemory`, `KeepsMove`, `KeepsMoves`)**: that an answer is kept for whatever history led to the world and has the
--- job in that place.
+-- **for each history (`IsJobAt`, `ForEach`, `KeepsOutcome`, `KeepsScanFile`, `KeepsPage`, `KeepsPageCount`)**: that a
+-- promise is kept for whatever history led to the world and has the job in that place.
 pub record IsJobAt (h : History) (w : WorldCore) (i : ℕ) (job : Job) : Type 0 where
   pub led : LedTo h w
   pub job_at : slice_get h.jobs i ≡ Some job
@@ -96,18 +96,14 @@ pub record IsJobAt (h : History) (w : WorldCore) (i : ℕ) (job : Job) : Type 0 
 abbrev pub ForEach : WorldCore → ℕ → (History → Job → Type 0) → Type 0
 ForEach w i Promise = (h : History) (job : Job) → IsJobAt h w i job → Promise h job
 
--- `outcome`: there is one
-abbrev pub KeepsOutcome : WorldCore → ℕ → Option Outcome → Type 0
-KeepsOutcome w i given =
-    ForEach w i (λ h job.
-    (outcome : Outcome) × (given ≡ Some outcome) × OutcomeIsKept h w i job (starved_at w i) outcome)
+-- `outcome`, where there is one
+abbrev pub KeepsOutcome : WorldCore → ℕ → Outcome → Type 0
+KeepsOutcome w i outcome = ForEach w i (λ h job. OutcomeIsKept h w i job (starved_at w i) outcome)
 
 -- **ended in (`EndedIn`, `KeepsEnding`)**: a job ended in one of the events of a history: the world in front of it had
 -- it running, the world behind it had it ended so, by a cause among the events up to it.
 --
--- It ended in one of the events: the world in front of it had it running, and the world behind it had it ended so,
--- by a cause among the
--- events up to it.
+-- it ended in one of the events
 pub record EndedIn (h : History) (w : WorldCore) (i : ℕ) (job : Job) (status : Status) (why : Why) : Type 0 where
   pub event : Event
   pub at : Moment h w event
@@ -118,10 +114,10 @@ pub record EndedIn (h : History) (w : WorldCore) (i : ℕ) (job : Job) (status :
       at.behind i job (starved_at at.behind i) status why
 
 -- so did each that ended
-abbrev pub KeepsEnding : WorldCore → ℕ → Option Outcome → Type 0
-KeepsEnding w i given =
+abbrev pub KeepsEnding : WorldCore → ℕ → Outcome → Type 0
+KeepsEnding w i outcome =
     ForEach w i (λ h job.
-    (status : Status) (why : Why) → given ≡ Some (Ended status why) → EndedIn h w i job status why)
+    (status : Status) (why : Why) → outcome ≡ Ended status why → EndedIn h w i job status why)
 
 abbrev pub KeepsScanFile : WorldCore → ℕ → Option (List ℕ) → Type 0
 KeepsScanFile w i given =
@@ -135,13 +131,6 @@ abbrev pub KeepsPageCount : WorldCore → ℕ → ℕ → Type 0
 KeepsPageCount w i given =
     ForEach w i (λ h job.
     (outcome : Outcome) → outcome_at w i ≡ Some outcome → CountIsKept h w i job outcome given)
-
--- `starved`: where it says no, no file is missing
-abbrev pub KeepsMemory : WorldCore → ℕ → Bool → Type 0
-KeepsMemory w i given =
-    ForEach w i (λ h job.
-    given ≡ false → (file_answered w i ≢ None)
-    × ((k : ℕ) → 0 < k → k ≤ finished_at w i → page_answered w i k ≢ None))
 
 -- in a delivery of its request its session answered, as it stood, with a reply that passes a limit of the wire, or that
 -- has no spelling
@@ -158,14 +147,6 @@ pub record IsGoodMove (h : History) (w : WorldCore) (i : ℕ) (job : Job) (given
   pub move : (outcome : Outcome) → outcome_at w i ≡ Some outcome → MoveIsKept outcome given
   pub loss : given ≡ Some (LoseControl i) → (starved_at w i ≡ true) ⊎ HadUnsaidReply h w i job
 
-abbrev pub KeepsMove : WorldCore → ℕ → Option Event → Type 0
-KeepsMove w i given = ForEach w i (λ h job. IsGoodMove h w i job given)
-
-abbrev pub KeepsMoves : WorldCore → ℕ → ℕ → Type 0
-KeepsMoves w i given =
-    ForEach w i (λ h job.
-    (outcome : Outcome) → outcome_at w i ≡ Some outcome → MovesAreKept outcome given)
-
 -- ---- what a new world has
 
 -- **few moves (`FewMoves`)**: at most 2^34 moves are left of each job, and 2^36 of a batch.
@@ -177,9 +158,9 @@ FewMoves jobs w =
 
 -- ---- what events leave of a job
 
--- **left of a job (`JobStays`, `OverStays`, `AreOthers`, `OthersStay`, `MovesFall`, `MoveLowers`)**: what events leave
--- of a job: one that is over shows what it showed; one that none of them came to is as it was; no moves come back, and
--- an event that can happen lowers those of its job.
+-- **left of a job (`JobStays`, `OverStays`, `AreOthers`, `OthersStay`, `StarvedStays`, `MovesFall`, `MoveLowers`)**:
+-- what events leave of a job: one that is over shows what it showed; one that none of them came to is as it was; that
+-- memory ran out stays told; no moves come back, and an event that can happen lowers those of its job.
 --
 -- a job shows what it showed
 pub record JobStays (w v : WorldCore) (i : ℕ) : Type 0 where
@@ -199,6 +180,10 @@ AreOthers events i = (own : JobEvent) → Contains events (job_event_of i own) �
 -- a job that no event came to is as it was: so out of memory, too, it is told only behind an event of its own
 abbrev pub OthersStay : List Event → WorldCore → WorldCore → Type 0
 OthersStay events w v = (i : ℕ) → AreOthers events i → slice_get v.endpoints i ≡ slice_get w.endpoints i
+
+-- that memory ran out for a job, once told, stays told
+abbrev pub StarvedStays : WorldCore → WorldCore → Type 0
+StarvedStays w v = (i : ℕ) → starved_at w i ≡ true → starved_at v i ≡ true
 
 -- no event brings moves back
 abbrev pub MovesFall : WorldCore → WorldCore → Type 0
@@ -279,7 +264,7 @@ StartsOnFirst events w v =
 
 -- ---- moves until no job runs
 
--- **ran out (`RunsOut`, `AreNextMoves`, `NoneRuns`, `KeepsRunning`)**: next moves came, each that of a job in the world
+-- **ran out (`RunsOut`, `AreNextMoves`, `NoneRuns`)**: next moves came, each that of a job in the world
 -- to which those in front of it led, at most as many as all jobs had left; and then no job runs.
 --
 -- each of these events is the next move of a job, in the world that those in front of it led to
@@ -301,6 +286,3 @@ pub record RunsOut (h : History) (old new : WorldCore) : Type 0 where
   pub next : AreNextMoves moves old new
   pub led : LedTo (and_then h moves) new
   pub over : NoneRuns h.jobs new
-
-abbrev pub KeepsRunning : WorldCore → WorldCore → Type 0
-KeepsRunning old new = (h : History) → LedTo h old → RunsOut h old new

@@ -1,14 +1,15 @@
 -- A JOB IN WHOSE WAY NOTHING STANDS, and what it comes to.
-use Rattle.std.specs.Prelude.{ℕ, ◌≡◌, ◌≢◌, ◌⊎◌, true, false, Some, None, List, [], ◌∷◌, Contains, map, slice_get}
+use Rattle.std.specs.Prelude.{ℕ, ◌≡◌, ◌≢◌, ◌⊎◌, true, false, Some, None, List, [], ◌∷◌, All, Contains, map, slice_get}
 use Rattle.md5_auth.specs.declared.users.Entry.{Entry}
 use Rattle.md5_auth.specs.ChallengeReading.{challenge_of}
 use Rattle.page_picture.specs.Meaning.{meaning_of}
 use Rattle.page_picture.specs.Source.{SourceState}
-use Rattle.page_picture.specs.declared.scene.DeviceKind.TheVariants.{Flatbed}
+use Rattle.page_picture.specs.declared.scene.DeviceKind.TheVariants.{Feeder, Flatbed}
+use Rattle.page_picture.specs.declared.sources.kinds.Source.{Source}
 use Rattle.device_api.specs.State.{DeviceState, HeldPage, feeds}
 use Rattle.device_api.specs.Values.{defaults}
 use Rattle.dispatch.specs.Table.{listed_infos}
-use Rattle.virtual_scanner.specs.New.{new_scanner}
+use Rattle.virtual_scanner.specs.New.{new_device, new_scanner}
 use Rattle.sane_fixed.specs.declared.byte_order.ByteOrder.TheVariants.{Little}
 use Rattle.sane_fixed.specs.declared.status.Status.{Status}
 use Rattle.sane_fixed.specs.declared.status.Status.TheVariants as statuses
@@ -20,7 +21,7 @@ use Rattle.scan_job.specs.declared.outcome.Why.{Why}
 use Rattle.scan_job.specs.declared.outcome.Why.TheVariants as whys
 use Rattle.scan_job.specs.declared.report.Reports.{Reports}
 use Rattle.scan_world.specs.declared.event.Event.{Event}
-use Rattle.scan_world.specs.declared.event.Event.TheVariants.{Cancel, LoseControl, LoseImage, Unplug}
+use Rattle.scan_world.specs.declared.event.Event.TheVariants.{Cancel, Load, LoseControl, LoseImage, Unplug}
 use Rattle.scan_world.specs.Worlds.{WorldCore}
 use Rattle.world_refines.specs.GhostStates.{backend_of, is_allowed_for, is_guarded}
 use Rattle.world_contract.specs.Calls.{AreNextMoves, HadUnsaidReply, IsJobAt, RunsOut, outcome_at, starved_at}
@@ -28,6 +29,7 @@ use Rattle.world_contract.specs.Endings.{IsUnforced}
 use Rattle.world_contract.specs.Histories.{History, LedTo, Moment, and_then, begun, history_up_to}
 use Rattle.world_contract.specs.Lies.{NamesNothing}
 use Rattle.world_contract.specs.Page.{CameFor, Settled}
+use Rattle.world_contract.specs.Trays.{first_tray}
 
 -- it does not give the job up, does not take a connection of it, and does not take its device out
 abbrev pub LeavesAlone : ℕ → Job → Event → Type 0
@@ -43,16 +45,22 @@ IsAllowedAlways users job =
     (sent : List ℕ) → is_guarded users (backend_of job.device) ≡ true
     → is_allowed_for users job.user job.password (backend_of job.device) (challenge_of sent) ≡ true
 
--- **clear (`IsClear`, `LeavesAlone`, `IsAllowedAlways`)**: nothing stands in the way of a job: its device is there, and
--- named by these jobs alone, as by itself; its settings can be in force and name no status; where it scans, they mean a
--- picture on each page that came for it, of sources that cannot fail, and it is no feeder; no line of the users names its
--- backend, or its password is right for each challenge; and no event gave it up, took a connection of it, or took its
--- device out.
+-- a feeder that it scans had a page as the world was made, it alone names it, and no event brought one for it
+pub record IsSupplied (h : History) (i : ℕ) (job : Job) (device : DeviceState) (Among : ℕ → Type 0) : Type 0 where
+  pub some : first_tray device ≢ []
+  pub only : (j : ℕ) → Among j → j ≡ i
+  pub unladen : (source : Source) → Contains h.events (Load job.device source) → ⊥
+
+-- **clear (`IsClear`, `IsSupplied`, `LeavesAlone`, `IsAllowedAlways`)**: nothing stands in the way of a job: its device
+-- is there, and named by these jobs alone, as by itself; its settings can be in force and name no status; where it
+-- scans, they mean a picture on each page that came for it, of sources that cannot fail, and a feeder had a page at
+-- first, is named by it alone, and no event brought one for it; no line of the users names its backend, or its password
+-- is right for each challenge; and no event gave it up, took a connection of it, or took its device out.
 pub record IsClear (h : History) (i : ℕ) (job : Job) (Among : ℕ → Type 0) : Type 0 where
   pub device : DeviceState
   pub is_there : Contains h.devices device
   pub named : device.info.name ≡ job.device
-  pub plain : scans job.task ≡ true → feeds device ≡ false
+  pub supplied : scans job.task ≡ true → feeds device ≡ true → IsSupplied h i job device Among
   pub alone : (j : ℕ) (other : Job) → slice_get h.jobs j ≡ Some other → other.device ≡ job.device → Among j
   pub forced : IsUnforced h job → ⊥
   pub unnamed : NamesNothing h job
@@ -70,6 +78,16 @@ PlainIsClear =
     → job.settings.items ≡ [] → source.infallible ≡ true
     → meaning_of source.page (defaults Flatbed Little).scene ≢ None → IsAllowedAlways users job
     → IsClear (begun (new_scanner Flatbed name source Little ∷ []) users (job ∷ [])) 0 job (λ j. j ≡ 0)
+
+-- **loaded (`FeederIsClear`)**: of a new world, a job without settings is clear that is alone on a feeder with these
+-- pages, one at least, each of which means a picture at its defaults, where its password is right.
+abbrev pub FeederIsClear : Type 0
+FeederIsClear =
+    (name : List ℕ) (sources : List SourceState) (users : List Entry) (job : Job) → job.device ≡ name
+    → job.settings.items ≡ [] → sources ≢ [] → All (λ (s : SourceState). s.infallible ≡ true) sources
+    → All (λ (s : SourceState). meaning_of s.page (defaults Feeder Little).scene ≢ None) sources
+    → IsAllowedAlways users job
+    → IsClear (begun (new_device Feeder name sources Little ∷ []) users (job ∷ [])) 0 job (λ j. j ≡ 0)
 
 -- its next move was the loss of its control connection: in front of that it was told as out of memory, or in a delivery
 -- of its request its session had answered with a reply that cannot be said
@@ -119,7 +137,8 @@ SharesClear old new =
     → slice_get h.jobs j ≡ Some b → b.device ≡ a.device → IsClear h i a (IsEither i j) → IsClear h j b (IsEither i j)
     → BothCome h old new i j a b
 
--- `run`, of events that are next moves, one after another: a job that was clear in front of them and is over behind them
+-- `run`, of events that are next moves, one after another: a job that was clear in front of them and is over behind
+-- them
 abbrev pub ClearsBy : List Event → WorldCore → WorldCore → Type 0
 ClearsBy events old new =
     (h : History) → LedTo h old → AreNextMoves events old new → (i : ℕ) (job : Job) → slice_get h.jobs i ≡ Some job
@@ -133,9 +152,55 @@ AllAreListed =
     → ((name : List ℕ) → Contains h.events (Unplug name) → ⊥)
     → listed_infos w.daemon.registry ≡ map (λ (d : DeviceState). d.info) h.devices
 
--- **no lie (`StoppedIsNoLie`)**: no clear job ends that is not told as out of memory and whose session did not break
--- off.
+-- **no lie (`StoppedIsNoLie`, `RefusedIsNoLie`, `TurnedAwayIsNoLie`, `BothBusyIsNoLie`, `NeitherIsNoLie`)**: no clear
+-- job ends, neither by next moves that are run nor behind `run_all`, that is not told as out of memory and whose
+-- session did not break off; of two that are clear but for each other not both are told busy, and none is told anything
+-- else.
 abbrev pub StoppedIsNoLie : Type 0
 StoppedIsNoLie =
     (h : History) (w : WorldCore) (i : ℕ) (job : Job) (status : Status) (why : Why) → starved_at w i ≡ false
     → status ≢ statuses.NoMem → (BrokeOff h w i job → ⊥) → ComesTo h w i job (Ended status why) → ⊥
+
+-- it ended so, and neither memory nor a reply explains that, whatever next moves came behind these events
+pub record CameRefused (h : History) (new : WorldCore) (i : ℕ) (job : Job) (status : Status) (why : Why) : Type 0 where
+  pub ended : outcome_at new i ≡ Some (Ended status why)
+  pub enough : starved_at new i ≡ false
+  pub other : status ≢ statuses.NoMem
+  pub whole : (moves : List Event) → BrokeOff (and_then h moves) new i job → ⊥
+
+-- a clear job that is refused by next moves that are run
+abbrev pub RefusedIsNoLie : Type 0
+RefusedIsNoLie =
+    (events : List Event) (old new : WorldCore) (h : History) (i : ℕ) (job : Job) (status : Status) (why : Why)
+    → LedTo h old → AreNextMoves events old new → slice_get h.jobs i ≡ Some job → IsClear h i job (λ j. j ≡ i)
+    → CameRefused h new i job status why → ClearsBy events old new → ⊥
+
+-- a clear job that is refused behind `run_all`
+abbrev pub TurnedAwayIsNoLie : Type 0
+TurnedAwayIsNoLie =
+    (old new : WorldCore) (h : History) (i : ℕ) (job : Job) (status : Status) (why : Why) → LedTo h old
+    → slice_get h.jobs i ≡ Some job → IsClear h i job (λ j. j ≡ i) → CameRefused h new i job status why
+    → ClearsUp old new → ⊥
+
+-- two jobs of these places that name one device, and are clear but for each other
+pub record AreClear (h : History) (old : WorldCore) (i j : ℕ) (a b : Job) : Type 0 where
+  pub led : LedTo h old
+  pub apart : i ≢ j
+  pub first_at : slice_get h.jobs i ≡ Some a
+  pub second_at : slice_get h.jobs j ≡ Some b
+  pub same : b.device ≡ a.device
+  pub first : IsClear h i a (IsEither i j)
+  pub second : IsClear h j b (IsEither i j)
+
+-- both told busy
+abbrev pub BothBusyIsNoLie : Type 0
+BothBusyIsNoLie =
+    (old new : WorldCore) (h : History) (i j : ℕ) (a b : Job) → AreClear h old i j a b
+    → outcome_at new i ≡ Some (Ended statuses.DeviceBusy whys.Answer)
+    → outcome_at new j ≡ Some (Ended statuses.DeviceBusy whys.Answer) → SharesClear old new → ⊥
+
+-- one of them refused otherwise
+abbrev pub NeitherIsNoLie : Type 0
+NeitherIsNoLie =
+    (old new : WorldCore) (h : History) (i j : ℕ) (a b : Job) (status : Status) (why : Why) → AreClear h old i j a b
+    → status ≢ statuses.DeviceBusy → CameRefused h new i a status why → SharesClear old new → ⊥

@@ -1,12 +1,12 @@
 -- WHAT EXPLAINS AN ENDING: an event of the job, and what stood in the world in front of it.
 use Rattle.std.specs.Prelude.{ℕ, ◌≡◌, ◌≢◌, ◌⊎◌, ◌++◌, Bool, true, false, Some, None, List, [], Contains}
 use Rattle.sane_fixed.specs.declared.status.Status.{Status}
-use Rattle.sane_fixed.specs.declared.status.Status.TheVariants.{Cancelled, DeviceBusy, Inval, Eof, NoDocs, IoError, NoMem, AccessDenied}
+use Rattle.sane_fixed.specs.declared.status.Status.TheVariants.{Cancelled, DeviceBusy, Inval, Eof, NoDocs, IoError}
+use Rattle.sane_fixed.specs.declared.status.Status.TheVariants.{NoMem, AccessDenied}
 use Rattle.md5_auth.specs.ChallengeReading.{challenge_of}
 use Rattle.data_records.specs.Records.{end_record}
 use Rattle.page_picture.specs.Meaning.{meaning_of}
-use Rattle.scan_frames.specs.declared.setup.Setup.{Setup}
-use Rattle.device_api.specs.State.{DeviceState, HasStopped, HeldPage, after_cancel, page_of}
+use Rattle.device_api.specs.State.{DeviceState, HasStopped, HeldPage, after_cancel, is_at_rest, page_of}
 use Rattle.dispatch.specs.Table.{find_name}
 use Rattle.saned_requests.specs.declared.session.AwaitedAuthorization.{AwaitedAuthorization}
 use Rattle.saned_requests.specs.declared.session.Session.{Session}
@@ -15,7 +15,8 @@ use Rattle.scan_job.specs.declared.job.Job.{Job}
 use Rattle.scan_job.specs.declared.outcome.Why.{Why}
 use Rattle.scan_job.specs.declared.outcome.Why.TheVariants as whys
 use Rattle.scan_world.specs.declared.endpoint.Image.{Image}
-use Rattle.scan_world.specs.declared.event.Event.TheVariants.{Cancel, ToClient, DataTurn, DataToClient, LoseControl, LoseImage}
+use Rattle.scan_world.specs.declared.event.Event.TheVariants.{Cancel, ToClient, DataTurn, DataToClient, LoseControl}
+use Rattle.scan_world.specs.declared.event.Event.TheVariants.{LoseImage}
 use Rattle.scan_world.specs.Worlds.{WorldCore}
 use Rattle.world_refines.specs.GhostStates.{backend_of, is_allowed_for, is_guarded}
 use Rattle.world_refines.specs.FailedSources.{HoldsLease}
@@ -45,11 +46,11 @@ pub record HasPassed (h : History) (before : WorldCore) (i : ℕ) (job : Job) (a
   pub guarded : is_guarded h.users (backend_of job.device) ≡ true
   pub is : is_allowed_for h.users job.user job.password (backend_of job.device) (challenge_of sent.resource) ≡ allowed
 
--- it scans, and as it asked for a start behind so many finished pages, the device that its session had had none
+-- it scans, and as it asked for a start behind so many finished pages, the device that its session had at rest had none
 abbrev pub HadNoPage : History → WorldCore → ℕ → Job → ℕ → Type 0
 HadNoPage h w i job count =
     (scans job.task ≡ true) × (asked : Asked h w i IsAtStart) × AtJob asked.at.before i (λ p. p.finished ≡ count)
-    × ((d : DeviceState) × Has asked.at.before i job.device d × (d.pages ≡ []))
+    × ((d : DeviceState) × Has asked.at.before i job.device d × (is_at_rest d.phase ≡ true) × (d.pages ≡ []))
 
 -- that had the options which its settings put in force, and they mean no picture on its first page, which came for it
 pub record HadNoPicture (h : History) (w : WorldCore) (i : ℕ) (job : Job) : Type 0 where
@@ -80,9 +81,14 @@ SendsFailure before behind i =
     (old new : Image) × AtJob before i (λ p. p.image ≡ Some old) × AtJob behind i (λ p. p.image ≡ Some new)
     × (new.bytes ≡ old.bytes ++ end_record 9)
 
--- it scans, and the source of its first page failed in that, or in a turn of the frame
+-- a page whose source can fail came for its device
+abbrev pub CanFail : History → WorldCore → ℕ → Job → Type 0
+CanFail h w i job = (held : HeldPage) × CameInTime h w i job.device held × (held.infallible ≡ false)
+
+-- it scans, a page that can fail came for its device, and the source of its first page failed in that, or in a turn of
+-- the frame
 abbrev pub HadFailed : History → WorldCore → ℕ → Job → Type 0
-HadFailed h w i job = (scans job.task ≡ true)
+HadFailed h w i job = (scans job.task ≡ true) × CanFail h w i job
     × (((asked : Asked h w i IsAtStart) × DeviceFailed asked.at.before asked.at.behind i job.device)
     ⊎ ((turn : Happened h w i (DataTurn i)) × DeviceFailed turn.0.before turn.0.behind i job.device
     × SendsFailure turn.0.before turn.0.behind i))
@@ -99,13 +105,13 @@ AnswerIsExplained h w i job NoDocs = HadNoPage h w i job 0
 AnswerIsExplained h w i job IoError = HadFailed h w i job
 AnswerIsExplained h w i job status = ⊥
 
--- **caused (`IsEndingExplained`, `AnswerIsExplained`, `HadNoPage`, `HadNoPicture`, `HadFailed`, `DeviceFailed`,
--- `SendsFailure`, `NamesStatus`, `IsUnforced`)**: the table of endings: a status and a why, with what explains it: an event
--- of the job, which came to it as it ran, and what stood in the world in front of it. Another session had the device; it
--- was not listed; the user's password is not allowed for the challenge that was sent; the device had no page, or settings
--- mean no picture on its first; its source failed; a connection was lost; a piece came to a client without memory;
--- `read-return-value` says a status in a turn of a frame. Without an event: the settings can be in force on no device of
--- the name.
+-- **caused (`IsEndingExplained`, `AnswerIsExplained`, `HadNoPage`, `HadNoPicture`, `HadFailed`, `CanFail`,
+-- `DeviceFailed`, `SendsFailure`, `NamesStatus`, `IsUnforced`)**: the table of endings: a status and a why, with what
+-- explains it: an event of the job, which came to it as it ran, and what stood in the world in front of it. Another
+-- session had the device; it was not listed; the user's password is not allowed for the challenge that was sent; the
+-- device had no page, or settings mean no picture on its first; its source failed; a connection was lost; a piece came
+-- to a client without memory; `read-return-value` says a status in a turn of a frame. Without an event: the settings
+-- can be in force on no device of the name.
 --
 -- THE TABLE: what explains that job i ended with a status and a why. No other two of them occur.
 abbrev pub IsEndingExplained : History → WorldCore → ℕ → Job → Bool → Status → Why → Type 0

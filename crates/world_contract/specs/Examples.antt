@@ -19,9 +19,9 @@ use Rattle.world_contract.specs.Histories.{History, LedTo}
 use Rattle.world_contract.specs.Settings.{AreSettingsPut}
 use Rattle.world_contract.specs.Endings.{IsEndingExplained}
 
--- **examples (`IsScanOf`, `until_busy`, `HasExplanation`)**: a file of exactly the picture that a job's settings mean on
--- one page, put on a flatbed at its defaults; the events by which one client has a device and another one asks for it; and
--- that its ending is explained, in a world to which a history of these two led.
+-- **examples (`IsScanOf`, `until_busy`, `HasExplanation`)**: a file of exactly the picture that a job's settings mean
+-- on one page, put on a flatbed at its defaults; the events by which one client has a device and another one asks for
+-- it; and that its ending is explained, in a world to which a history of these two led.
 pub record IsScanOf (page : PageView) (job : Job) (bytes : List ℕ) : Type 0 where
   pub setup : Setup
   pub placed : List Placement

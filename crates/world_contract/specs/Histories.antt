@@ -12,8 +12,8 @@ use Rattle.world_refines.specs.NewWorlds.{IsNewDaemon}
 use Rattle.world_refines.specs.MainTheorem.{AreTrueLoads}
 
 -- **history (`History`, `begun`, `and_then`, `LedTo`)**: the devices, users and jobs that a world was made of, and all
--- events since; nothing has happened yet; and then these events; a new world of them, and then its events, led to this one,
--- and each device and page was within its limits.
+-- events since; nothing has happened yet; and then these events; a new world of them, and then its events, led to this
+-- one, and each device and page was within its limits.
 pub record History : Type 0 where
   pub devices : List DeviceState
   pub users : List Entry

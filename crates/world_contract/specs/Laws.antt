@@ -2,7 +2,8 @@
 use Rattle.std.specs.Prelude.{ℕ}
 use Rattle.scan_job.specs.declared.job.Job.{Job}
 use Rattle.scan_world.specs.Worlds.{WorldCore}
-use Rattle.system_model.specs.ModelPromises.{CausesAreGrounded, HistoriesKeepInvariant, MarksAreEnabled, NotesAreTrue, OutcomesLast}
+use Rattle.system_model.specs.ModelPromises.{CausesAreGrounded, HistoriesKeepInvariant, MarksAreEnabled, NotesAreTrue}
+use Rattle.system_model.specs.ModelPromises.{OutcomesLast}
 use Rattle.system_model.specs.Settings.{SettingsMeanTheSame}
 use Rattle.world_refines.specs.NewWorlds.{NewWorldsRefine}
 use Rattle.world_refines.specs.MainTheorem.{AllIsKept, EventsFollow}

@@ -6,6 +6,7 @@ pub mod Reports
 pub mod Endings
 pub mod Promise
 pub mod Calls
+pub mod Trays
 pub mod Laws
 pub mod Clear
 pub mod Lies

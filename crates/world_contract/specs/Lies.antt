@@ -1,14 +1,21 @@
 -- WHAT THE PROMISE REFUSES: of each part of it the smallest lies. So no part of it holds of whatever happens.
-use Rattle.std.specs.Prelude.{ℕ, ◌≡◌, ◌≢◌, ◌<◌, ◌-◌, Bool, true, false, Some, None, List, [], ◌∷◌, Contains}
+use Rattle.std.specs.Prelude.{ℕ, ◌≡◌, ◌≢◌, ◌⊎◌, ◌<◌, ◌≤◌, ◌-◌, Bool, true, false, Some, None, Ok, List, [], ◌∷◌}
+use Rattle.std.specs.Prelude.{Contains, length, slice_get}
 use Rattle.netpbm.specs.Picture.{Picture}
 use Rattle.netpbm.specs.Pnm.{Denotes, IsWhole}
 use Rattle.scan_laws.specs.SetInfo.{has_bit}
 use Rattle.page_picture.specs.Meaning.{meaning_of}
+use Rattle.page_picture.specs.Page.{PageView}
+use Rattle.page_picture.specs.SourceView.{source_state}
+use Rattle.page_picture.specs.declared.sources.kinds.Source.{Source}
+use Rattle.saned_core.specs.Loading.{daemon_load_answer}
 use Rattle.sane_fixed.specs.declared.device_info.DeviceInfo.{DeviceInfo}
-use Rattle.sane_fixed.specs.declared.status.Status.TheVariants.{Cancelled, DeviceBusy, Inval, NoDocs, IoError, NoMem, AccessDenied}
-use Rattle.device_api.specs.State.{DeviceState, is_at_rest, page_of}
+use Rattle.sane_fixed.specs.declared.status.Status.TheVariants.{Cancelled, DeviceBusy, Inval, Jammed, NoDocs, IoError}
+use Rattle.sane_fixed.specs.declared.status.Status.TheVariants.{NoMem, AccessDenied}
+use Rattle.device_api.specs.State.{DeviceState, HeldPage, is_at_rest, page_of}
 use Rattle.dispatch.specs.Table.{find_name, listed_infos}
 use Rattle.md5_auth.specs.ChallengeReading.{challenge_of}
+use Rattle.client_replies.specs.ProtocolStates.{scans}
 use Rattle.scan_job.specs.declared.job.Job.{Job}
 use Rattle.scan_job.specs.declared.job.Task.TheVariants as tasks
 use Rattle.scan_job.specs.declared.outcome.Outcome.TheVariants.{Done, Running}
@@ -17,30 +24,34 @@ use Rattle.scan_job.specs.declared.outcome.Outcome.{Outcome}
 use Rattle.scan_job.specs.declared.report.Report.{Report}
 use Rattle.scan_job.specs.declared.report.Reports.{Reports}
 use Rattle.scan_world.specs.declared.event.Event.{Event}
-use Rattle.scan_world.specs.declared.event.Event.TheVariants.{Cancel, DataToClient, LoseControl, LoseImage, ToClient, ToDaemon}
+use Rattle.scan_world.specs.declared.event.Event.TheVariants.{Cancel, DataToClient, Load, LoseControl, LoseImage}
+use Rattle.scan_world.specs.declared.event.Event.TheVariants.{ToClient, ToDaemon}
 use Rattle.scan_world.specs.declared.event.JobEvent.{JobEvent}
 use Rattle.scan_world.specs.JobEvents.{job_event_of}
 use Rattle.scan_world.specs.Worlds.{WorldCore}
 use Rattle.world_refines.specs.FailedSources.{CutIn}
 use Rattle.world_refines.specs.GhostStates.{backend_of, is_allowed_for, is_guarded}
-use Rattle.world_contract.specs.Calls.{CancelEnds, IsGoodMove, MoveLowers, OneHolder, PageStays, RunsOut, left_at, outcome_at, starved_at}
+use Rattle.world_contract.specs.Calls.{CancelEnds, IsGoodMove, MoveLowers, OneHolder, PageStays, RunsOut, left_at}
+use Rattle.world_contract.specs.Calls.{outcome_at, starved_at}
 use Rattle.world_contract.specs.Endings.{DeviceFailed, IsEndingExplained, IsUnforced}
 use Rattle.world_contract.specs.Histories.{History, Moment}
-use Rattle.world_contract.specs.Page.{IsSteady, Settled}
+use Rattle.world_contract.specs.Page.{CameInTime, IsSteady, Settled}
 use Rattle.world_contract.specs.Promise.{CountIsKept, FileIsKept, JobIsDone, MoveIsKept, PageIsKept}
 use Rattle.world_contract.specs.Sessions.{AtJob, CanAt, Happened, Has}
+use Rattle.world_contract.specs.Trays.{CountsPages, IsOfTray, OwnTray, first_tray}
 
 -- ---- of an ending
 
 -- **lies (`BusyIsNoLie`, `InvalIsNoLie`, `DeniedIsNoLie`, `EmptyIsNoLie`, `FailedIsNoLie`, `LostIsNoLie`,
--- `MemoryIsNoLie`, `CancelledIsNoLie`, `ListIsNoLie`, `NowhereIsNoLie`, `HiddenIsNoLie`, `AllowedIsNoLie`,
--- `SilentIsNoLie`, `RoundedIsNoLie`, `FileIsNoLie`, `PageIsNoLie`, `WholeIsNoLie`, `MissingIsNoLie`, `StuckIsNoLie`,
--- `MovedIsNoLie`, `LossIsNoLie`, `IdleIsNoLie`, `GoneOnIsNoLie`, `GivenUpIsNoLie`, `SharedIsNoLie`, `SwappedIsNoLie`,
--- `Always`, `NamesNothing`, `DenotesNone`)**: the smallest lies, each with the part of the promise that refuses it: an
--- ending of each kind without what explains it; a list of other devices; settings on no device, or not told; a file of
--- another page, or whole too soon, or none; a move too few, too many, or a loss where nothing is wrong; a run that does
--- nothing, a cancel that ends nothing, a `run_all` that gives a job up; a device of two holders, and another page in
--- mid-scan.
+-- `MemoryIsNoLie`, `JammedIsNoLie`, `UnscannedIsNoLie`, `FirmIsNoLie`, `CancelledIsNoLie`, `ListIsNoLie`,
+-- `NowhereIsNoLie`, `HiddenIsNoLie`, `AllowedIsNoLie`, `SilentIsNoLie`, `RoundedIsNoLie`, `FileIsNoLie`,
+-- `RefusedStandAside`, `PageIsNoLie`, `FewIsNoLie`, `TrayPageIsNoLie`, `WholeIsNoLie`, `MissingIsNoLie`,
+-- `StuckIsNoLie`, `MovedIsNoLie`, `LossIsNoLie`, `IdleIsNoLie`, `GoneOnIsNoLie`, `GivenUpIsNoLie`, `StillRunsIsNoLie`,
+-- `SharedIsNoLie`, `SwappedIsNoLie`, `Always`, `NamesNothing`, `DenotesNone`)**: the smallest lies, each with the part
+-- of the promise that refuses it: an ending of each kind without what explains it; a list of other devices; settings
+-- on no device, or not told; a file of another page, or whole too soon, or none; a move too few, too many, or a loss
+-- where nothing is wrong; a run that does nothing, a cancel that ends nothing, a `run_all` that gives a job up; a
+-- device of two holders, and another page in mid-scan.
 -- `Always` says what was so in front of each delivery of a job's requests, and `NamesNothing` that its options name no
 -- status.
 --
@@ -103,6 +114,26 @@ MemoryIsNoLie =
     → ((n : ℕ) → Happened h w i (ToClient i n) → ⊥)
     → ((n : ℕ) → Happened h w i (DataToClient i n) → ⊥) → IsEndingExplained h w i job starved NoMem whys.Memory → ⊥
 
+-- jammed, though no option names that
+abbrev pub JammedIsNoLie : Type 0
+JammedIsNoLie =
+    (h : History) (w : WorldCore) (i : ℕ) (job : Job) (starved : Bool) → NamesNothing h job
+    → IsEndingExplained h w i job starved Jammed whys.Answer → ⊥
+
+-- NO_DOCS, or IO_ERROR, of a job that does not scan
+abbrev pub UnscannedIsNoLie : Type 0
+UnscannedIsNoLie =
+    (h : History) (w : WorldCore) (i : ℕ) (job : Job) (starved : Bool) → scans job.task ≡ false
+    → (IsEndingExplained h w i job starved NoDocs whys.Answer ⊎ IsEndingExplained h w i job starved IoError whys.Answer)
+    → ⊥
+
+-- IO_ERROR, though no page that can fail came for its device
+abbrev pub FirmIsNoLie : Type 0
+FirmIsNoLie =
+    (h : History) (w : WorldCore) (i : ℕ) (job : Job) (starved : Bool) → NamesNothing h job
+    → ((held : HeldPage) → CameInTime h w i job.device held → held.infallible ≡ true)
+    → IsEndingExplained h w i job starved IoError whys.Answer → ⊥
+
 -- cancelled, though nobody gave it up
 abbrev pub CancelledIsNoLie : Type 0
 CancelledIsNoLie =
@@ -132,6 +163,21 @@ CountIsNoLie =
     → job.task ≡ tasks.Batch count
     → finished ≢ count → Always h w i (λ before. (d : DeviceState) → Has before i job.device d → d.pages ≢ [])
     → CountIsKept h w i job (Done reports) finished → ⊥
+
+-- a batch of fewer pages than its count, though as many lay in the tray of its own
+abbrev pub FewIsNoLie : Type 0
+FewIsNoLie =
+    (h : History) (w : WorldCore) (i : ℕ) (job : Job) (finished count : ℕ) (tray : OwnTray h i job)
+    → count ≤ length (first_tray tray.device) → finished ≢ count → CountsPages h w i job finished count → ⊥
+
+-- page k of another page than the k-th of its tray
+abbrev pub TrayPageIsNoLie : Type 0
+TrayPageIsNoLie =
+    (h : History) (w : WorldCore) (i : ℕ) (job : Job) (tray : OwnTray h i job) (k : ℕ) (page : PageView) (file : List ℕ)
+    → slice_get (first_tray tray.device) (k - 1) ≡ Some page
+    → ((s : Settled h job) (picture : Picture) → meaning_of page s.setup.scene ≡ Some picture → Denotes file picture
+    → ⊥)
+    → IsOfTray h w i job tray k file → ⊥
 
 -- settings put on a device that is not there
 abbrev pub NowhereIsNoLie : Type 0
@@ -183,6 +229,15 @@ FileIsNoLie =
     (h : History) (w : WorldCore) (i : ℕ) (job : Job) (starved : Bool) (reports : Reports) (bytes : List ℕ)
     → IsSteady h w i job.device → job.task ≡ tasks.Scan → Always h w i (DenotesNone h i job bytes)
     → FileIsKept h w i job starved (Done reports) (Some bytes) → ⊥
+
+-- pages that the daemon refused, as those of a full tray, are none of those that must be steady
+abbrev pub RefusedStandAside : Type 0
+RefusedStandAside =
+    (h : History) (w : WorldCore) (i : ℕ) (name : List ℕ)
+    → ((device : DeviceState) → Contains h.devices device → device.info.name ≡ name
+    → (held : HeldPage) → Contains device.pages held → held.steady ≡ true)
+    → ((source : Source) (at : Moment h w (Load name source))
+    → ((source_state source).steady ≡ true) ⊎ (daemon_load_answer at.before.daemon name ≢ Ok tt)) → IsSteady h w i name
 
 -- page k of another page, as of the first again
 abbrev pub PageIsNoLie : Type 0
@@ -239,6 +294,12 @@ GoneOnIsNoLie =
 -- moves until no job runs that are a cancel
 abbrev pub GivenUpIsNoLie : Type 0
 GivenUpIsNoLie = (h : History) (w v : WorldCore) (i : ℕ) (out : RunsOut h w v) → out.moves ≡ Cancel i ∷ [] → ⊥
+
+-- moves until no job runs, behind which one runs
+abbrev pub StillRunsIsNoLie : Type 0
+StillRunsIsNoLie =
+    (h : History) (w v : WorldCore) (i : ℕ) (job : Job) → slice_get h.jobs i ≡ Some job
+    → outcome_at v i ≡ Some Running → RunsOut h w v → ⊥
 
 -- ---- of devices
 

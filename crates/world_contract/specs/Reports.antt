@@ -1,5 +1,6 @@
 -- WHAT BECAME OF THE SETTINGS of a job that is done.
-use Rattle.std.specs.Prelude.{ℕ, ◌≡◌, ◌≢◌, ◌↔◌, if◌then◌else◌, true, Option, Some, None, option_map, List, [], ◌∷◌, slice_get}
+use Rattle.std.specs.Prelude.{ℕ, ◌≡◌, ◌≢◌, ◌↔◌, if◌then◌else◌, true, Option, Some, None, option_map, List, [], ◌∷◌}
+use Rattle.std.specs.Prelude.{slice_get}
 use Rattle.option_desc.specs.declared.descriptor.Descriptor.{Descriptor}
 use Rattle.option_desc.specs.declared.value.Value.{Value}
 use Rattle.scan_frames.specs.declared.setup.Setup.{Setup}

@@ -64,9 +64,9 @@ IsAtStart progress = ⊥
 
 -- ---- what came to the job
 
--- **came to a job (`CameAsItRan`, `Happened`, `Asked`, `AtJob`, `IsAtList`, `IsAtOpen`, `IsAtStart`)**: an event of a job
--- that came as it ran and changed the world; and of these the delivery of the last bytes of a request, while its client
--- waited for the answer to that: of a list, of the device's opening, with its authorization, or of a start.
+-- **came to a job (`CameAsItRan`, `Happened`, `Asked`, `AtJob`, `IsAtList`, `IsAtOpen`, `IsAtStart`)**: an event of a
+-- job that came as it ran and changed the world; and of these the delivery of the last bytes of a request, while its
+-- client waited for the answer to that: of a list, of the device's opening, with its authorization, or of a start.
 --
 -- job i ran in front of the event, which changed the world
 abbrev pub CameAsItRan : ℕ → WorldCore → WorldCore → Type 0

@@ -5,14 +5,15 @@ use Rattle.option_desc.specs.Put.{Puts}
 use Rattle.option_desc.specs.Reads.{ReadsAsValue}
 use Rattle.scan_frames.specs.declared.setup.Setup.{Setup}
 use Rattle.device_api.specs.declared.scan_option.ScanOption.{ScanOption}
-use Rattle.device_api.specs.Options.{is_active, option_caps, option_constraint, option_kind, option_name, option_size, options_of}
+use Rattle.device_api.specs.Options.{is_active, option_caps, option_constraint, option_kind, option_name, option_size}
+use Rattle.device_api.specs.Options.{options_of}
 use Rattle.device_api.specs.InForce.{Placement}
 use Rattle.device_api.specs.Values.{with_value}
 use Rattle.sane_fixed.specs.Cap.{has_cap}
 
 -- **put (`IsSettingPut`, `AreSettingsPut`)**: a setting was put in: the option of its name, which is active and has
--- SOFT_SELECT, was given the admitted value nearest to what the setting's text reads as; each of some settings, from the
--- options that those before it left.
+-- SOFT_SELECT, was given the admitted value nearest to what the setting's text reads as; each of some settings, from
+-- the options that those before it left.
 pub record IsSettingPut (s : Setup) (setting : List ℕ × List ℕ) (p : Placement) : Type 0 where
   pub option : ScanOption
   pub has : Contains (options_of s.scene.kind) option

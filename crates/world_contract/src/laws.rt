@@ -4,9 +4,10 @@ ghost use Rattle.std.specs.Prelude.{List};
 ghost use Rattle.page_picture.specs.SourceView.{source_state};
 ghost use Rattle.scan_world.specs.declared.event.Event.{Event};
 ghost use Rattle.scan_world.specs.Worlds.{Runs, WorldCore};
-ghost use Rattle.world_contract.specs.Calls.{CancelEnds, MoveLowers, MovesFall, OthersStay, OverStays};
-ghost use Rattle.world_contract.specs.Clear.{AllAreListed, PlainIsClear};
+ghost use Rattle.world_contract.specs.Calls.{CancelEnds, MoveLowers, MovesFall, OthersStay, OverStays, StarvedStays};
+ghost use Rattle.world_contract.specs.Clear.{AllAreListed, ClearsBy, FeederIsClear, PlainIsClear};
 ghost use Rattle.world_contract.specs.Laws.{AllFollow, AllIsRight, Below};
+ghost use Rattle.world_contract.specs.Trays.{TraysAreTaken};
 
 use system_model::{
     causes_are_grounded, every_history_keeps_the_invariant, marks_are_enabled, notes_are_true,
@@ -20,7 +21,10 @@ use world_refines::{
 /// What the laws below come to.
 #[tactic(none)]
 pub fn all_follow()
-    ensures { AllFollow }
+    ensures right { AllFollow }
+    ensures listed { Below → AllAreListed }
+    ensures taken { Below → TraysAreTaken }
+    ensures clear { Below → (events : List Event) (w v : WorldCore) → ClearsBy events w v }
 {}
 
 /// The laws of the crates below.
@@ -61,6 +65,8 @@ pub fn jobs_end_once()
         → Runs source_state events w v → OverStays w v }
     ensures others { (events : List Event) (w v : WorldCore)
         → Runs source_state events w v → OthersStay events w v }
+    ensures starved { (events : List Event) (w v : WorldCore)
+        → Runs source_state events w v → StarvedStays w v }
     ensures moves { (events : List Event) (w v : WorldCore)
         → Runs source_state events w v → MovesFall w v }
     ensures lowers { (events : List Event) (w v : WorldCore)
@@ -74,8 +80,23 @@ pub fn jobs_end_once()
 pub fn a_plain_job_is_clear()
     /// As a world is new, a job without settings is clear that is alone on a flatbed whose page means a picture at its
     /// defaults, where its source cannot fail, and its password is right, if a line of the users names its backend.
-    ensures { PlainIsClear }
+    /// Carried by: `flatbed` of `a_plain_job_is_clear`
+    ///
+    /// So it is on a feeder with one page at least, where this is so of each of its pages.
+    /// Carried by: `feeder` of `a_plain_job_is_clear`
+    ensures flatbed { PlainIsClear }
+    ensures feeder { FeederIsClear }
 {}
+
+/// What becomes of a tray.
+#[tactic(none)]
+pub fn trays_are_taken()
+    /// As a job asks for a start while so many of its pages are finished, a feeder which it alone names, and into which no
+    /// event laid a page, has at rest the pages of its first tray but as many; and there were as many in it.
+    ensures { TraysAreTaken }
+{
+    what_stands_below();
+}
 
 /// Where no event took a device out.
 #[tactic(none)]

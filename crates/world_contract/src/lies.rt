@@ -1,7 +1,7 @@
 //! Of each part of the promise, that it refuses the smallest lies.
 
-ghost use Rattle.world_contract.specs.Clear.{StoppedIsNoLie};
-ghost use Rattle.world_contract.specs.Lies.{AllowedIsNoLie, BusyIsNoLie, CancelledIsNoLie, CountIsNoLie, DeniedIsNoLie, EmptyIsNoLie, FailedIsNoLie, FileIsNoLie, GivenUpIsNoLie, GoneOnIsNoLie, HiddenIsNoLie, IdleIsNoLie, InvalIsNoLie, ListIsNoLie, LossIsNoLie, LostIsNoLie, MemoryIsNoLie, MissingIsNoLie, MovedIsNoLie, NowhereIsNoLie, PageIsNoLie, RoundedIsNoLie, SharedIsNoLie, ShownIsNoLie, SilentIsNoLie, StuckIsNoLie, SwappedIsNoLie, WholeIsNoLie};
+ghost use Rattle.world_contract.specs.Clear.{BothBusyIsNoLie, NeitherIsNoLie, RefusedIsNoLie, StoppedIsNoLie, TurnedAwayIsNoLie};
+ghost use Rattle.world_contract.specs.Lies.{AllowedIsNoLie, BusyIsNoLie, CancelledIsNoLie, CountIsNoLie, DeniedIsNoLie, EmptyIsNoLie, FailedIsNoLie, FewIsNoLie, FileIsNoLie, FirmIsNoLie, GivenUpIsNoLie, GoneOnIsNoLie, HiddenIsNoLie, IdleIsNoLie, InvalIsNoLie, JammedIsNoLie, ListIsNoLie, LossIsNoLie, LostIsNoLie, MemoryIsNoLie, MissingIsNoLie, MovedIsNoLie, NowhereIsNoLie, PageIsNoLie, RefusedStandAside, RoundedIsNoLie, SharedIsNoLie, ShownIsNoLie, SilentIsNoLie, StillRunsIsNoLie, StuckIsNoLie, SwappedIsNoLie, TrayPageIsNoLie, UnscannedIsNoLie, WholeIsNoLie};
 
 /// The table of endings explains none that nothing stood for.
 #[tactic(none)]
@@ -13,9 +13,14 @@ pub fn an_ending_is_no_lie()
     ensures inval { InvalIsNoLie }
     ensures denied { DeniedIsNoLie }
     /// Nor NO_DOCS where its device had a page in front of its requests, nor IO_ERROR where in no event a source of it
-    /// failed.
+    /// failed, or where no page that can fail came for it; and neither of a job that does not scan.
+    /// Carried by: `empty`, `failed`, `firm`, `unscanned` of `an_ending_is_no_lie`
     ensures empty { EmptyIsNoLie }
     ensures failed { FailedIsNoLie }
+    ensures firm { FirmIsNoLie }
+    ensures unscanned { UnscannedIsNoLie }
+    /// Nor any status that no cause answers, as JAMMED.
+    ensures jammed { JammedIsNoLie }
     /// It explains no loss where no connection of the job that stood was lost, and it is not told as out of memory; no
     /// starved client to which nothing could come; no cancel that did not come.
     ensures lost { LostIsNoLie }
@@ -32,7 +37,11 @@ pub fn a_report_is_no_lie()
     /// No show is done with no options.
     ensures shown { ShownIsNoLie }
     /// No batch is done with another number of pages than its count where its device had a page in front of all its requests.
+    /// Nor with fewer, where as many lay in a tray of its own at first; and no file of page k is of another page than the k-th
+    /// of these.
+    /// Carried by: `counted`, `few` of `a_report_is_no_lie`; `tray` of `a_file_is_no_lie`
     ensures counted { CountIsNoLie }
+    ensures few { FewIsNoLie }
     /// No job but a list is done that names a device which is not there, or which was not listed in front of its
     /// requests, nor one with a wrong password where a line of the users names its backend.
     /// Carried by: `nowhere`, `hidden`, `allowed` of `a_report_is_no_lie`
@@ -55,6 +64,9 @@ pub fn a_file_is_no_lie()
     /// Carried by: `filed`, `paged` of `a_file_is_no_lie`
     ensures filed { FileIsNoLie }
     ensures paged { PageIsNoLie }
+    /// Pages that the daemon refused, as those of a full tray, are none of those that must be steady.
+    ensures aside { RefusedStandAside }
+    ensures tray { TrayPageIsNoLie }
     /// No file is whole of a job that is not done, and none is missing of one that is not told as out of memory.
     /// Carried by: `whole`, `missing` of `a_file_is_no_lie`
     ensures whole { WholeIsNoLie }
@@ -81,8 +93,24 @@ pub fn a_run_is_no_lie()
     ensures idle { IdleIsNoLie }
     ensures gone_on { GoneOnIsNoLie }
     ensures given_up { GivenUpIsNoLie }
-    /// And no clear job ends behind them that is not told as out of memory and whose session did not break off.
+    /// Nor does a job run behind `run_all`.
+    ensures still_runs { StillRunsIsNoLie }
+{}
+
+/// A job in whose way nothing stands is not refused.
+#[tactic(none)]
+pub fn a_refusal_is_no_lie()
+    /// No clear job ends that is not told as out of memory and whose session did not break off, neither by next moves
+    /// that are run nor behind `run_all`.
+    /// Carried by: `stopped`, `refused`, `turned_away` of `a_refusal_is_no_lie`
     ensures stopped { StoppedIsNoLie }
+    ensures refused { RefusedIsNoLie }
+    ensures turned_away { TurnedAwayIsNoLie }
+    /// Of two jobs that name one device, and are clear but for each other, `run_all` leaves not both busy, and none of
+    /// them refused otherwise.
+    /// Carried by: `both_busy`, `neither` of `a_refusal_is_no_lie`
+    ensures both_busy { BothBusyIsNoLie }
+    ensures neither { NeitherIsNoLie }
 {}
 
 /// No device has two holders, and none another page in mid-scan.

@@ -1,14 +1,17 @@
 //! A world, whose calls carry what is promised.
 
-ghost use Rattle.std.specs.Prelude.{◌≡◌, All, IfErr, IfOk, OnOk, map, option_map};
+ghost use Rattle.std.specs.Prelude.{ℕ, ◌≡◌, ◌≢◌, ◌<◌, ◌≤◌, All, IfErr, IfOk, IfSome, IsSome, None, OnOk, Some, false, map, option_map};
 ghost use Rattle.device_api.specs.ScannerLimits.{HasLimits};
 ghost use Rattle.dispatch.specs.RegistryFault.{AreRegistrable};
+ghost use Rattle.scan_job.specs.declared.outcome.Outcome.{Outcome as AnOutcome};
 ghost use Rattle.page_picture.specs.SourceView.{source_state};
 ghost use Rattle.world_refines.specs.MainTheorem.{IsTrueLoad};
 ghost use Rattle.scan_world.specs.Worlds.{HasFaultAmong, IsInitialWorld, MayRun, Runs, seen_world};
 ghost use Rattle.world_contract.specs.Histories.{History, LedTo, and_then, begun};
-ghost use Rattle.world_contract.specs.Calls.{CancelEnds, FewMoves, ImageLossEnds, IsMoveAt, KeepsPageCount, KeepsScanFile, KeepsMemory, KeepsEnding, KeepsMove, KeepsMoves, KeepsOutcome, KeepsPage, KeepsRunning, LossEnds, MoveLowers, MovesFall, OneHolder, OthersStay, OverStays, PageStays, ScansStay, SessionsStay, StartsOnFirst, file_answered, finished_at, left_at, outcome_at, page_answered, starved_at};
+ghost use Rattle.world_contract.specs.Calls.{CancelEnds, FewMoves, ForEach, ImageLossEnds, IsGoodMove, IsMoveAt, KeepsEnding, KeepsOutcome, KeepsPage, KeepsPageCount, KeepsScanFile, LossEnds, MoveLowers, MovesFall, OneHolder, OthersStay, OverStays, PageStays, RunsOut, ScansStay, SessionsStay, StartsOnFirst, StarvedStays, file_answered, finished_at, left_at, outcome_at, page_answered, starved_at};
 ghost use Rattle.world_contract.specs.Clear.{ClearsBy, ClearsUp, SharesClear};
+ghost use Rattle.world_contract.specs.Trays.{BatchIsCounted, KeepsTray};
+ghost use Rattle.world_contract.specs.Promise.{MovesAreKept};
 
 use crate::laws::what_stands_below;
 use device_api::Device;
@@ -120,6 +123,11 @@ impl World {
         ensures others { let w = seen_world ⟦<Box<dyn Device> as Device>⟧.state self.old.inner in
             let v = seen_world ⟦<Box<dyn Device> as Device>⟧.state self.new.inner in
             OthersStay events.items w v }
+        /// That memory ran out for a job, once it is told, stays told, whatever comes.
+        /// Carried by: `starved` of `World::run`, `World::run_all` and `jobs_end_once`
+        ensures starved { let w = seen_world ⟦<Box<dyn Device> as Device>⟧.state self.old.inner in
+            let v = seen_world ⟦<Box<dyn Device> as Device>⟧.state self.new.inner in
+            StarvedStays w v }
         /// No event brings moves back, and one event that can happen to a job lowers the moves of that job, where it
         /// has any left.
         /// Carried by: `moves`, `lowers` of `World::run` and `jobs_end_once`
@@ -195,14 +203,17 @@ impl World {
         /// Carried by: `kept` of `World::run_all`: `RunsOut`, `AreNextMoves`
         ensures kept { let w = seen_world ⟦<Box<dyn Device> as Device>⟧.state self.old.inner in
             let v = seen_world ⟦<Box<dyn Device> as Device>⟧.state self.new.inner in
-            KeepsRunning w v }
+            (h : History) → LedTo h w → RunsOut h w v }
         /// A job in whose way nothing stood in front of these moves is done behind them, or is told as out of memory, or
         /// lost its connection as its next move, for want of memory or at a reply that cannot be said.
         /// Carried by: `clear` of `World::run_all`: `ClearsUp`
         ///
         /// Nothing stands in its way where its device is there, and no other job names it; its settings can be in force and
         /// name no status; its password is allowed; no event cancels it, loses its connections, or takes its device out;
-        /// and a device that it scans is no feeder, cannot fail, and has a picture on each page.
+        /// and a device that it scans is so that a scan ends well.
+        /// Carried by: `clear` of `World::run_all`: `IsClear`
+        ///
+        /// Such a device cannot fail, has a picture on each page, and as a feeder one page at least at first.
         /// Carried by: `clear` of `World::run_all`: `IsClear`
         ensures clear { let w = seen_world ⟦<Box<dyn Device> as Device>⟧.state self.old.inner in
             let v = seen_world ⟦<Box<dyn Device> as Device>⟧.state self.new.inner in
@@ -216,6 +227,9 @@ impl World {
         ensures over { let w = seen_world ⟦<Box<dyn Device> as Device>⟧.state self.old.inner in
             let v = seen_world ⟦<Box<dyn Device> as Device>⟧.state self.new.inner in
             OverStays w v }
+        ensures starved { let w = seen_world ⟦<Box<dyn Device> as Device>⟧.state self.old.inner in
+            let v = seen_world ⟦<Box<dyn Device> as Device>⟧.state self.new.inner in
+            StarvedStays w v }
         ensures one_holder { let seen = seen_world ⟦<Box<dyn Device> as Device>⟧.state in
             let w = seen self.old.inner in
             let v = seen self.new.inner in
@@ -273,10 +287,10 @@ impl World {
         /// job asked for a start while none of its pages was finished.
         /// Carried by: `HadNoPage` of `IsEndingExplained`
         ///
-        /// Else IO_ERROR was answered only to a job that scans, where the source of the first page failed as it asked for
-        /// a start, or in a turn of its frame: its session had the device, and behind the event that is stopped, and the
-        /// failure counted.
-        /// Carried by: `HadFailed`, `DeviceFailed` of `IsEndingExplained`
+        /// Else IO_ERROR was answered only to a job that scans, where a page that can fail came for its device, and the
+        /// source of the first page failed as it asked for a start, or in a turn of its frame: its session had the device,
+        /// and behind the event that is stopped, and the failure counted.
+        /// Carried by: `HadFailed`, `CanFail`, `DeviceFailed` of `IsEndingExplained`
         ///
         /// In a turn the end with IO_ERROR came behind the bytes of the frame; so the end of a page that a feeder gave
         /// whole is none, though it lets go of that page with its count.
@@ -287,12 +301,15 @@ impl World {
         /// cancelled.
         /// Carried by: `IsEndingExplained`
         ensures kept { let w = seen_world ⟦<Box<dyn Device> as Device>⟧.state self.now.inner in
-            KeepsOutcome w i (option_map (λ o. o.now) result) }
+            IfSome result (λ o. KeepsOutcome w i o.now) }
+        /// Of each job of the world an outcome is told.
+        ensures there { let w = seen_world ⟦<Box<dyn Device> as Device>⟧.state self.now.inner in
+            ForEach w i (λ h job. IsSome result) }
         /// A job that ended did so in one of the events: the world in front of it had it running, the world behind it
         /// had it ended so, and what explains it is among the events up to that one.
         /// Carried by: `ended` of `World::outcome`: `EndedIn`
         ensures ended { let w = seen_world ⟦<Box<dyn Device> as Device>⟧.state self.now.inner in
-            KeepsEnding w i (option_map (λ o. o.now) result) }
+            IfSome result (λ o. KeepsEnding w i o.now) }
     {
         what_stands_below();
         self.inner.outcome(i)
@@ -316,9 +333,9 @@ impl World {
         /// Carried by: `kept` of `World::file`: `whole`, `empty` of `FileIsKept`
         ///
         /// A file is missing only where there was no memory for it, and then the job is told as out of memory.
-        /// Carried by: `missing` of `FileIsKept` and of `PageIsKept`; `kept` of `World::starved`
+        /// Carried by: `missing` of `FileIsKept` and of `PageIsKept`; `file`, `pages` of `World::starved`
         ensures kept { let w = seen_world ⟦<Box<dyn Device> as Device>⟧.state self.now.inner in
-            KeepsScanFile w i (option_map (λ f. f.now) result) }
+            KeepsScanFile w i (file_answered w i) }
     {
         what_stands_below();
         self.inner.file(i)
@@ -335,6 +352,11 @@ impl World {
         /// Carried by: `kept` of `World::file_at`: `PageIsKept`, `StartedOn`
         ensures kept { let w = seen_world ⟦<Box<dyn Device> as Device>⟧.state self.now.inner in
             KeepsPage w i k (option_map (λ f. f.now) result) }
+        /// Where the job names a feeder that no other names, and into which no event laid a page, that is the k-th of
+        /// the pages that lay in its tray as the world was made, if they are steady.
+        /// Carried by: `tray` of `World::file_at`: `OwnTray`, `IsOfTray`
+        ensures tray { let w = seen_world ⟦<Box<dyn Device> as Device>⟧.state self.now.inner in
+            IfSome result (λ f. KeepsTray w i k f.now) }
     {
         what_stands_below();
         self.inner.file_at(i, k)
@@ -349,6 +371,11 @@ impl World {
         /// Carried by: `kept` of `World::finished`: `CountIsKept`
         ensures kept { let w = seen_world ⟦<Box<dyn Device> as Device>⟧.state self.now.inner in
             KeepsPageCount w i result }
+        /// A batch that is done has finished as many pages as it wanted, on a device that is no feeder; and as many, or
+        /// all that lay in its tray as the world was made, whichever are fewer, on such a feeder.
+        /// Carried by: `tray` of `World::finished`: `CountsPages`
+        ensures tray { let w = seen_world ⟦<Box<dyn Device> as Device>⟧.state self.now.inner in
+            ForEach w i (λ h job. BatchIsCounted h w i job result) }
     {
         what_stands_below();
         self.inner.finished(i)
@@ -358,8 +385,11 @@ impl World {
     pub fn starved(&self, i: usize) -> bool
         ensures is { let w = seen_world ⟦<Box<dyn Device> as Device>⟧.state self.now.inner in
             result ≡ starved_at w i }
-        ensures kept { let w = seen_world ⟦<Box<dyn Device> as Device>⟧.state self.now.inner in
-            KeepsMemory w i result }
+        ensures file { let w = seen_world ⟦<Box<dyn Device> as Device>⟧.state self.now.inner in
+            ForEach w i (λ h job. result ≡ false → file_answered w i ≢ None) }
+        ensures pages { let w = seen_world ⟦<Box<dyn Device> as Device>⟧.state self.now.inner in
+            ForEach w i (λ h job. result ≡ false → (k : ℕ) → 0 < k → k ≤ finished_at w i
+            → page_answered w i k ≢ None) }
     {
         what_stands_below();
         self.inner.starved(i)
@@ -377,7 +407,7 @@ impl World {
         /// passes a limit of the wire or has no spelling.
         /// Carried by: `kept` of `World::next_move`: `loss` of `IsGoodMove`
         ensures kept { let w = seen_world ⟦<Box<dyn Device> as Device>⟧.state self.now.inner in
-            KeepsMove w i result }
+            ForEach w i (λ h job. IsGoodMove h w i job result) }
     {
         what_stands_below();
         self.inner.next_move(i)
@@ -392,7 +422,8 @@ impl World {
         /// A job that runs has moves left, and any other has none.
         /// Carried by: `kept` of `World::moves_left`: `MovesAreKept`
         ensures kept { let w = seen_world ⟦<Box<dyn Device> as Device>⟧.state self.now.inner in
-            KeepsMoves w i result }
+            ForEach w i (λ h job. (o : AnOutcome) → outcome_at w i ≡ Some o
+            → MovesAreKept o result) }
     {
         what_stands_below();
         self.inner.moves_left(i)

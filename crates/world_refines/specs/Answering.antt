@@ -1,4 +1,5 @@
--- What a delivery of requests to the daemon does: each that is whole with it is answered, and the session goes on or is over.
+-- What a delivery of requests to the daemon does: each that is whole with it is answered, and the session goes on or is
+-- over.
 use Rattle.std.specs.Prelude.{ℕ, ◌≡◌, ◌++◌, Bool, true, false, cond, Some, List, [], ◌∷◌, length, map, slice_get}
 use Rattle.wire_format.specs.Limit.{NeedsMore}
 use Rattle.wire_message.specs.Message.{message_limit, request as request_format}
@@ -45,11 +46,12 @@ pub record AnswersEach (i : ℕ) (asked : List AbstractRequest) (steps : List Tr
 
 -- each device in its place, and each that the session holds, has options within their limits
 pub record HasAllowedOptions (context : RequestContext) : Type 0 where
-  pub lying : (k : ℕ) (p : Place DeviceState) (s : DeviceState) → slice_get context.registry k ≡ Some p → p.slot ≡ In s → IsAllowed s.setup
+  pub lying : (k : ℕ) (p : Place DeviceState) (s : DeviceState) → slice_get context.registry k ≡ Some p → p.slot ≡ In s
+      → IsAllowed s.setup
   pub held : (w : ℕ) (l : Lease DeviceState) → held_by context.session.held w ≡ Some l → IsAllowed l.device.setup
 
--- These users are asked something by the job, among devices of these infos with options within their limits, and a reply to it passes a
--- limit of the wire, or has no spelling.
+-- These users are asked something by the job, among devices of these infos with options within their limits, and a
+-- reply to it passes a limit of the wire, or has no spelling.
 pub record HasUnsaidReply (users : List Entry) (infos : List DeviceInfo) (job : Job) : Type 0 where
   pub context : RequestContext
   pub devices : infos ≡ map info_at context.registry
@@ -77,15 +79,32 @@ abbrev pub replies_kept : Bool → List ℕ → List ℕ
 replies_kept memory replies = cond memory [] replies
 
 -- **a delivery to the daemon (`AnswersSome`, `Completes`, `AnswersEach`, `IsCutShort`, `HasUnsaidReply`,
--- `HasAllowedOptions`)**: the requests that are whole with the piece, the first of those that were sent, are answered one
--- after another; then the session goes on and what is left is no whole request, or the last of them ended it, or it breaks
--- off, for lack of memory or at a reply to something that its job asks, of devices whose options are within their limits,
--- which is past the limits of the wire or has no spelling; a session that was over lets the piece go by.
+-- `HasAllowedOptions`)**: the requests that are whole with the piece, the first of those that were sent, are answered
+-- one after another; then the session goes on and what is left is no whole request, or the last of them ended it, or it
+-- breaks off, for lack of memory or at a reply to something that its job asks, of devices whose options are within
+-- their limits, which is past the limits of the wire or has no spelling; a session that was over lets the piece go by.
 pub data AnswersSome (n : ℕ) (t : Ghost) (i : ℕ) (steps : List Transition) (u : Ghost) : Type 0 where
-  GoesOn : (asked : List AbstractRequest) (rest told : List ℕ) → Completes t i n asked rest → NeedsMore message_limit request_format rest → AnswersEach i asked steps →
-      GhostTakes t i steps (record (wires t i) { up = bytes_not_delivered n (wires t i).up; asking = rest; down = (wires t i).down ++ told }) u → (job_state u i).served ≡ true → AnswersSome n t i steps u
-  IsOver : (asked : List AbstractRequest) (rest told : List ℕ) → Completes t i n asked rest → AnswersEach i asked steps →
-      GhostTakes t i steps (record (wires t i) { up = bytes_not_delivered n (wires t i).up; asking = []; down = (wires t i).down ++ told }) u → (job_state t i).served ≡ true → (job_state u i).served ≡ false → AnswersSome n t i steps u
-  BreaksOff : (memory : Bool) (asked : List AbstractRequest) (rest told : List ℕ) (before : List Transition) → Completes t i n asked rest → AnswersEach i asked before → IsCutShort memory t.users t.infos (t.jobs i) → steps ≡ before ++ By i (actions.Breaks memory) ∷ [] →
-      GhostTakes t i steps (record (wires t i) { up = bytes_not_delivered n (wires t i).up; asking = []; down = replies_kept memory ((wires t i).down ++ told) }) u → AnswersSome n t i steps u
-  WasOver : (job_state t i).served ≡ false → steps ≡ [] → GhostTakes t i [] (record (wires t i) { up = bytes_not_delivered n (wires t i).up }) u → AnswersSome n t i steps u
+  GoesOn : (asked : List AbstractRequest) (rest told : List ℕ) → Completes t i n asked rest
+      → NeedsMore message_limit request_format rest → AnswersEach i asked steps →
+      GhostTakes t i steps
+      (record (wires t i)
+      { up = bytes_not_delivered n (wires t i).up; asking = rest; down = (wires t i).down ++ told }) u
+      → (job_state u i).served ≡ true → AnswersSome n t i steps u
+  IsOver : (asked : List AbstractRequest) (rest told : List ℕ) → Completes t i n asked rest → AnswersEach i asked steps
+      →
+      GhostTakes t i steps
+      (record (wires t i) { up = bytes_not_delivered n (wires t i).up; asking = []; down = (wires t i).down ++ told })
+      u → (job_state t i).served ≡ true → (job_state u i).served ≡ false → AnswersSome n t i steps u
+  BreaksOff : (memory : Bool) (asked : List AbstractRequest) (rest told : List ℕ) (before : List Transition)
+      → Completes t i n asked rest → AnswersEach i asked before → IsCutShort memory t.users t.infos (t.jobs i)
+      → steps ≡ before ++ By i (actions.Breaks memory) ∷ [] →
+      GhostTakes t i steps
+      (record (wires t i) {
+        up = bytes_not_delivered n (wires t i).up;
+        asking = [];
+        down =
+            replies_kept memory ((wires t i).down ++ told);
+      }) u → AnswersSome n t i steps u
+  WasOver : (job_state t i).served ≡ false → steps ≡ []
+      → GhostTakes t i [] (record (wires t i) { up = bytes_not_delivered n (wires t i).up }) u
+      → AnswersSome n t i steps u

@@ -25,7 +25,14 @@ asking_left false (b ∷ down) asking = asking
 
 -- so many are taken off the replies; what waits at the client then, and what it writes
 abbrev pub wires_after_delivery : Bool → ℕ → List ℕ → List ℕ → Wires → Wires
-wires_after_delivery served n telling text x = record x { up = x.up ++ text; asking = asking_left served (bytes_not_delivered n x.down) x.asking; down = bytes_not_delivered n x.down; telling = telling }
+wires_after_delivery served n telling text x =
+    record x {
+      up = x.up ++ text;
+      asking = asking_left served (bytes_not_delivered n x.down) x.asking;
+      down =
+          bytes_not_delivered n x.down;
+      telling = telling;
+    }
 
 -- all of the reply that is due has come with them, or more of it is to come
 abbrev pub IsWhollyDelivered : Ghost → ℕ → ℕ → Type 0
@@ -47,11 +54,15 @@ pub record Delivers (t : Ghost) (i n : ℕ) (telling text : List ℕ) (steps : L
   pub legal : IsHistory t.system steps
   pub history : JoinHistory
   pub goes_on : HistoryExtends (t.history i) history
-  pub then_is : u ≡ ghost_after t i steps (wires_after_delivery (job_state t i).served n telling text (wires t i)) history (t.pages i)
+  pub then_is : u
+      ≡ ghost_after t i steps (wires_after_delivery (job_state t i).served n telling text (wires t i)) history
+      (t.pages i)
 
 -- AUTHORIZE is answered with a word before the device's reply, of which the model knows nothing
 abbrev pub IsBefore : JobStage → List ℕ → Type 0
-IsBefore stage front = (front ≡ []) ⊎ ((challenge : Challenge) × (stage ≡ Running (Allowing challenge)) × (limited_format message_limit (reply procedures.Authorize)).spells front replies.Authorize)
+IsBefore stage front = (front ≡ [])
+    ⊎ ((challenge : Challenge) × (stage ≡ Running (Allowing challenge))
+    × (limited_format message_limit (reply procedures.Authorize)).spells front replies.Authorize)
 
 -- what came of the reply waits until all of it has come
 pub record ReplyWaits (t : Ghost) (i n : ℕ) (steps : List Transition) (u : Ghost) : Type 0 where
@@ -78,7 +89,8 @@ pub record GhostHeard (t : Ghost) (i n : ℕ) (steps : List Transition) (u : Gho
   pub steps_are : steps ≡ By i (actions.Hears reply) ∷ []
   pub delivers : Delivers t i n [] text steps u
 
--- there is no memory for what came, or, behind the reply, to go on; whatever waits at the client then, it hears it no more
+-- there is no memory for what came, or, behind the reply, to go on; whatever waits at the client then, it hears it no
+-- more
 pub record GhostOutOfMemory (t : Ghost) (i n : ℕ) (steps : List Transition) (u : Ghost) : Type 0 where
   pub telling : List ℕ
   pub steps_are : steps ≡ By i actions.RunsOutOfMemory ∷ []
@@ -102,9 +114,12 @@ pub record Ignores (t : Ghost) (i n : ℕ) (steps : List Transition) (u : Ghost)
   pub takes : GhostTakes t i steps (wires_after_delivery (job_state t i).served n (wires t i).telling [] (wires t i)) u
 
 -- **a delivery to the client (`GhostHears`, `Ignores`, `ReplyWaits`, `GhostHeard`, `GhostOutOfMemory`,
--- `GhostHeardOutOfMemory`)**: bytes of the reply that is due are moved to the client: while more of it is on the way they
--- wait there; with the last of them the client hears it, and its next requests are on the way; or there is no memory, and
--- the job ends; a job that is over lets them go by; with a session that is over its last replies leave nothing. More of the
--- file may be given with it.
+-- `GhostHeardOutOfMemory`)**: bytes of the reply that is due are moved to the client: while more of it is on the way
+-- they wait there; with the last of them the client hears it, and its next requests are on the way; or there is no
+-- memory, and the job ends; a job that is over lets them go by; with a session that is over its last replies leave
+-- nothing. More of the file may be given with it.
 abbrev pub GhostHears : ℕ → Ghost → ℕ → List Transition → Ghost → Type 0
-GhostHears n t i steps u = Ignores t i n steps u ⊎ (IsUnderWay (job_state t i).client.stage × (ReplyWaits t i n steps u ⊎ (GhostHeard t i n steps u ⊎ (GhostOutOfMemory t i n steps u ⊎ GhostHeardOutOfMemory t i n steps u))))
+GhostHears n t i steps u = Ignores t i n steps u
+    ⊎ (IsUnderWay (job_state t i).client.stage
+    × (ReplyWaits t i n steps u
+    ⊎ (GhostHeard t i n steps u ⊎ (GhostOutOfMemory t i n steps u ⊎ GhostHeardOutOfMemory t i n steps u))))

@@ -29,7 +29,8 @@ read_actions [] = []
 read_actions (b ∷ bytes) = actions.Reads (b ∷ bytes) ∷ []
 
 -- the bytes that the piece carries are read
-pub record ReadsBytes (phase : RecordPhase) (piece : List ℕ) (steps : List actions.Action) (sent : List ℕ) : Type 0 where
+pub record ReadsBytes (phase : RecordPhase) (piece : List ℕ) (steps : List actions.Action)
+    (sent : List ℕ) : Type 0 where
   pub given : List ℕ
   pub new : RecordPhase
   pub carries : CarriesRecords phase new piece given
@@ -37,15 +38,19 @@ pub record ReadsBytes (phase : RecordPhase) (piece : List ℕ) (steps : List act
   pub silent : sent ≡ []
 
 -- the end of the frame comes behind them, and what the job asks for then goes out
-pub record GhostReadsEnd (phase : RecordPhase) (piece : List ℕ) (steps : List actions.Action) (t : Ghost) (i : ℕ) (u : Ghost) (sent : List ℕ) : Type 0 where
+pub record GhostReadsEnd (phase : RecordPhase) (piece : List ℕ) (steps : List actions.Action) (t : Ghost) (i : ℕ)
+    (u : Ghost) (sent : List ℕ) : Type 0 where
   pub given : List ℕ
   pub code : Code
   pub brings : RecordsBring phase (phases.Ended (status_code code)) piece given
   pub steps_are : steps ≡ read_actions given ++ actions.Finishes (abstract_status code) ∷ []
-  pub spells : SpellsAsked (t.jobs i) (job_state u i).client (requests_sent (job_state t i).session.job.task (job_state u i).client.stage) sent
+  pub spells
+      : SpellsAsked (t.jobs i) (job_state u i).client
+      (requests_sent (job_state t i).session.job.task (job_state u i).client.stage) sent
 
 -- there is no memory behind a front of them
-pub record ReadsShort (phase : RecordPhase) (piece : List ℕ) (steps : List actions.Action) (sent : List ℕ) : Type 0 where
+pub record ReadsShort (phase : RecordPhase) (piece : List ℕ) (steps : List actions.Action)
+    (sent : List ℕ) : Type 0 where
   pub given : List ℕ
   pub more : List ℕ
   pub new : RecordPhase
@@ -54,10 +59,12 @@ pub record ReadsShort (phase : RecordPhase) (piece : List ℕ) (steps : List act
   pub silent : sent ≡ []
 
 -- by the records on the way, from where they are read
-pub record GhostReadsOn (t : Ghost) (i : ℕ) (text piece : List ℕ) (steps : List actions.Action) (u : Ghost) (sent : List ℕ) : Type 0 where
+pub record GhostReadsOn (t : Ghost) (i : ℕ) (text piece : List ℕ) (steps : List actions.Action) (u : Ghost)
+    (sent : List ℕ) : Type 0 where
   pub phase : RecordPhase
   pub carried : CarriesFlight phase text (job_state t i).session.flight (job_state t i).session.ending
-  pub comes : ReadsBytes phase piece steps sent ⊎ (GhostReadsEnd phase piece steps t i u sent ⊎ ReadsShort phase piece steps sent)
+  pub comes : ReadsBytes phase piece steps sent
+      ⊎ (GhostReadsEnd phase piece steps t i u sent ⊎ ReadsShort phase piece steps sent)
 
 -- ---- the event
 
@@ -68,14 +75,16 @@ open_still (Some status) [] = None
 open_still (Some status) (b ∷ bytes) = Some (b ∷ bytes)
 
 abbrev pub wires_after_data : ℕ → List ℕ → List ℕ → Option Status → Wires → Wires
-wires_after_data n text sent ending x = record x { up = x.up ++ sent; image = open_still ending (bytes_not_delivered n text) }
+wires_after_data n text sent ending x =
+    record x { up = x.up ++ sent; image = open_still ending (bytes_not_delivered n text) }
 
 -- **a delivery of a frame's data (`GhostSees`, `GhostReadsOn`, `ReadsBytes`, `GhostReadsEnd`, `ReadsShort`)**: just the
--- bytes that the piece's records carry are read; behind the frame's end what the job asks for then is on the way; or there
--- is no memory behind a front of them. Behind its end the data connection is no more. From a job that is over the piece is
--- only taken.
+-- bytes that the piece's records carry are read; behind the frame's end what the job asks for then is on the way; or
+-- there is no memory behind a front of them. Behind its end the data connection is no more. From a job that is over the
+-- piece is only taken.
 --
--- A job that is under way reads the piece; from any other it is only taken. What the joins were told and gave goes on by that.
+-- A job that is under way reads the piece; from any other it is only taken. What the joins were told and gave goes on
+-- by that.
 pub record GhostSees (n : ℕ) (t : Ghost) (i : ℕ) (steps : List Transition) (u : Ghost) : Type 0 where
   pub text : List ℕ
   pub image_is : (wires t i).image ≡ Some text
@@ -85,6 +94,8 @@ pub record GhostSees (n : ℕ) (t : Ghost) (i : ℕ) (steps : List Transition) (
   pub sent : List ℕ
   pub history : JoinHistory
   pub pages : List JoinHistory
-  pub then_is : u ≡ ghost_after t i steps (wires_after_data n text sent (job_state t i).session.ending (wires t i)) history pages
+  pub then_is : u
+      ≡ ghost_after t i steps (wires_after_data n text sent (job_state t i).session.ending (wires t i)) history pages
   pub reads_on : IsUnderWay (job_state t i).client.stage → GhostReadsOn t i text (delivered_bytes n text) come u sent
-  pub ignores : (IsUnderWay (job_state t i).client.stage → ⊥) → (come ≡ []) × (sent ≡ []) × (history ≡ t.history i) × (pages ≡ t.pages i)
+  pub ignores : (IsUnderWay (job_state t i).client.stage → ⊥)
+      → (come ≡ []) × (sent ≡ []) × (history ≡ t.history i) × (pages ≡ t.pages i)

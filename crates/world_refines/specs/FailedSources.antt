@@ -1,5 +1,5 @@
--- What fails in an event: a source, when the device that a job's session held is stopped behind it, and its source has counted that; or
--- the saying of a reply, when the session answers a request with one that passes a limit of the wire.
+-- What fails in an event: a source, when the device that a job's session held is stopped behind it, and its source has
+-- counted that; or the saying of a reply, when the session answers a request with one that passes a limit of the wire.
 use Rattle.std.specs.Prelude.{ℕ, ◌≡◌, ◌⊎◌, ◌++◌, Bool, true, false, Some, List, [], ◌∷◌, slice_get}
 use Rattle.page_picture.specs.Source.{SourceState}
 use Rattle.page_picture.specs.declared.sources.kinds.Source.{Source}
@@ -21,7 +21,8 @@ use Rattle.saned_requests.specs.LeaseLaws.{IsIn}
 use Rattle.saned_core.specs.declared.session_slot.SessionId.{SessionId}
 use Rattle.saned_core.specs.DaemonStates.{Core, session_of}
 use Rattle.saned_core.specs.Feeding.{IsUnsaid, core_context, replies_to}
-use Rattle.system_model.specs.AbstractMessages.{AbstractRequest, Init, GetDevices, Open, Authorize, Describe, Get, Set, Parameters, Start}
+use Rattle.system_model.specs.AbstractMessages.{AbstractRequest, Init, GetDevices, Open, Authorize, Describe, Get, Set}
+use Rattle.system_model.specs.AbstractMessages.{Parameters, Start}
 use Rattle.system_model.specs.Actions.{Answers, Breaks, TurnsFault}
 use Rattle.system_model.specs.SystemStates.{SystemState}
 use Rattle.system_model.specs.Transitions.{By, IsUnderWay, Transition, after_transition}
@@ -38,11 +39,11 @@ pub record HoldsLease (core : Core) (n word : ℕ) (lease : Lease DeviceState) :
   pub stands : session_of core n ≡ Some session
   pub held : held_by session.held word ≡ Some lease
 
--- **failed in (`FailedIn`, `HoldsLease`, `IsInSome`, `HasFailed`, `AllAlong`, `FailsSo`, `FailsIn`, `FailsInSome`, `InEvent`)**: the
--- session of a job held the device of a name in a world, its page's source failed and counted that, and in the daemon
--- behind the event it holds the device stopped, or the device lies so in its place; that is so of one of some events, of
--- the world in front of it and the daemon behind; along steps, each of the state that it is taken in; of a turn that fails
--- by the model, and of a START, where its job is under way.
+-- **failed in (`FailedIn`, `HoldsLease`, `IsInSome`, `HasFailed`, `AllAlong`, `FailsSo`, `FailsIn`, `FailsInSome`,
+-- `InEvent`)**: the session of a job held the device of a name in a world, its page's source failed and counted that,
+-- and in the daemon behind the event it holds the device stopped, or the device lies so in its place; that is so of one
+-- of some events, of the world in front of it and the daemon behind; along steps, each of the state that it is taken
+-- in; of a turn that fails by the model, and of a START, where its job is under way.
 pub record FailedIn (before : WorldCore) (behind : Core) (i : ℕ) (name : List ℕ) : Type 0 where
   pub endpoint : Endpoint
   pub is_there : slice_get before.endpoints i ≡ Some endpoint
@@ -54,7 +55,8 @@ pub record FailedIn (before : WorldCore) (behind : Core) (i : ℕ) (name : List 
   pub named : lease.device.info.name ≡ name
   pub after : DeviceState
   pub stopped : HasStopped lease.device after
-  pub left : HoldsLease behind id.number word (record lease { device = after }) ⊎ IsIn (after_cancel after) lease.place behind.registry
+  pub left : HoldsLease behind id.number word (record lease { device = after })
+      ⊎ IsIn (after_cancel after) lease.place behind.registry
 
 -- the client waits for the answer to that request
 abbrev pub AwaitsAnswer : AbstractRequest → Progress → Type 0
@@ -69,8 +71,9 @@ AwaitsAnswer Start (stages.Starting first) = Unit {0}
 AwaitsAnswer Parameters (stages.Shaping port order) = Unit {0}
 AwaitsAnswer q progress = ⊥
 
--- **cut in (`CutIn`, `AwaitsAnswer`)**: the session of a job answers the request that its client waits for, of the users, the devices
--- and itself as they stand in a world, and a reply to it passes a limit of the wire, or has no spelling.
+-- **cut in (`CutIn`, `AwaitsAnswer`)**: the session of a job answers the request that its client waits for, of the
+-- users, the devices and itself as they stand in a world, and a reply to it passes a limit of the wire, or has no
+-- spelling.
 pub record CutIn (before : WorldCore) (i : ℕ) (job : Job) : Type 0 where
   pub endpoint : Endpoint
   pub is_there : slice_get before.endpoints i ≡ Some endpoint
@@ -100,7 +103,8 @@ InEvent false before behind i job = CutIn before i job
 -- ---- in one of some events
 
 -- one of the events is such, of the world in front of it and the daemon behind it
-pub record IsInSome (source : Source → SourceState) (events : List Event) (w v : WorldCore) (Holds : WorldCore → Core → Type 0) : Type 0 where
+pub record IsInSome (source : Source → SourceState) (events : List Event) (w v : WorldCore)
+    (Holds : WorldCore → Core → Type 0) : Type 0 where
   pub front : List Event
   pub event : Event
   pub back : List Event
@@ -119,8 +123,8 @@ abbrev pub AllAlong : (SystemState → Transition → Type 0) → SystemState �
 AllAlong Holds s [] = Unit {0}
 AllAlong Holds s (x ∷ xs) = Holds s x × AllAlong Holds (after_transition s x) xs
 
--- where a source of a job's device fails by the model, of a job that is under way, that is so of the job; and where its session breaks
--- off at a reply
+-- where a source of a job's device fails by the model, of a job that is under way, that is so of the job; and where its
+-- session breaks off at a reply
 abbrev pub FailsSo : (Bool → ℕ → Type 0) → SystemState → Transition → Type 0
 FailsSo Failed s (By i (Answers challenge (Some fault))) = IsUnderWay (s.job i).client.stage → Failed true i
 FailsSo Failed s (By i (TurnsFault fault)) = Failed true i
@@ -135,5 +139,6 @@ FailsIn t w core = FailsSo (λ b i. InEvent b w core i (t.jobs i))
 abbrev pub HasFailed : (Source → SourceState) → List Event → Ghost → WorldCore → WorldCore → Bool → ℕ → Type 0
 HasFailed source events t w v b i = IsInSome source events w v (λ before behind. InEvent b before behind i (t.jobs i))
 
-abbrev pub FailsInSome : (Source → SourceState) → List Event → Ghost → WorldCore → WorldCore → SystemState → Transition → Type 0
+abbrev pub FailsInSome : (Source → SourceState) → List Event → Ghost → WorldCore → WorldCore → SystemState → Transition
+    → Type 0
 FailsInSome source events t w v = FailsSo (HasFailed source events t w v)

@@ -1,5 +1,6 @@
 -- What an event does to what stands: its steps by the model, and the bytes that it moves.
-use Rattle.std.specs.Prelude.{ℕ, ◌≡◌, ◌≢◌, ◌<◌, ◌⊎◌, ◌++◌, true, false, Option, Some, None, IsSome, option_map, List, [], ◌∷◌}
+use Rattle.std.specs.Prelude.{ℕ, ◌≡◌, ◌≢◌, ◌<◌, ◌⊎◌, ◌++◌, true, false, Option, Some, None, IsSome, option_map, List}
+use Rattle.std.specs.Prelude.{[], ◌∷◌}
 use Rattle.sane_fixed.specs.declared.status.Status.{Status as Code}
 use Rattle.sane_fixed.specs.declared.status.Status.TheVariants as codes
 use Rattle.sane_fixed.specs.Status.{status_code}
@@ -16,7 +17,8 @@ use Rattle.system_model.specs.Transitions.{Transition, By, Loads, Unplugs, IsHis
 use Rattle.saned_core.specs.Loading.{core_after_load}
 use Rattle.dispatch.specs.Table.{after_unplug}
 use Rattle.scan_world.specs.declared.event.JobEvent.{JobEvent}
-use Rattle.scan_world.specs.declared.event.JobEvent.TheVariants.{Connect, ToDaemon, ToClient, DataConnect, DataTurn, DataToClient, LoseControl, LoseImage, Cancel}
+use Rattle.scan_world.specs.declared.event.JobEvent.TheVariants.{Connect, ToDaemon, ToClient, DataConnect, DataTurn}
+use Rattle.scan_world.specs.declared.event.JobEvent.TheVariants.{DataToClient, LoseControl, LoseImage, Cancel}
 use Rattle.world_refines.specs.GhostStates.{Ghost, Wires, name_at, job_state, wires, wired_then}
 use Rattle.world_refines.specs.Wires.{SpellsAsked}
 use Rattle.scan_world.specs.Worlds.{AtEndpoint, WorldCore}
@@ -31,15 +33,16 @@ abbrev pub HasSomeBytes : Option (List ℕ) → Type 0
 HasSomeBytes None = ⊥
 HasSomeBytes (Some bytes) = bytes ≢ []
 
--- **can, takes, leads (`GhostCan`, `GhostTakes`, `EventRefines`)**: when an event can happen, in the words of the model;
--- its steps, which are enabled, and the bytes that it moves; whatever a world stands for, what the event makes of it stands
--- for what these steps lead to.
+-- **can, takes, leads (`GhostCan`, `GhostTakes`, `EventRefines`)**: when an event can happen, in the words of the
+-- model; its steps, which are enabled, and the bytes that it moves; whatever a world stands for, what the event makes
+-- of it stands for what these steps lead to.
 abbrev pub GhostCan : Ghost → ℕ → JobEvent → Type 0
 GhostCan t i Connect = (i < t.count) × ((job_state t i).client.stage ≡ Idle)
 GhostCan t i (ToDaemon n) = ((job_state t i).linked ≡ true) × ((wires t i).up ≢ []) × (0 < n)
 GhostCan t i (ToClient n) = ((job_state t i).linked ≡ true) × ((wires t i).down ≢ []) × (0 < n)
 GhostCan t i DataConnect = ((job_state t i).session.transfer ≡ Waiting) × IsImaging (job_state t i).client.stage
-GhostCan t i DataTurn = IsSome (wires t i).image × (((job_state t i).session.transfer ≡ Streaming) ⊎ ((job_state t i).session.transfer ≡ Ending))
+GhostCan t i DataTurn = IsSome (wires t i).image
+    × (((job_state t i).session.transfer ≡ Streaming) ⊎ ((job_state t i).session.transfer ≡ Ending))
 GhostCan t i (DataToClient n) = HasSomeBytes (wires t i).image × (0 < n)
 GhostCan t i LoseControl = (job_state t i).linked ≡ true
 GhostCan t i LoseImage = IsSome (wires t i).image × ((job_state t i).linked ≡ true)
@@ -63,23 +66,27 @@ wires_with_image image x = record x { image = image }
 abbrev pub GhostConnects : Ghost → ℕ → List Transition → Ghost → Type 0
 GhostConnects t i steps u =
     ((steps ≡ By i actions.Connects ∷ []) × GhostTakes t i steps (wires t i) u)
-    ⊎ ((steps ≡ By i actions.Connects ∷ By i (actions.Loses true) ∷ []) × GhostTakes t i steps (wires_without_down (wires t i)) u)
+    ⊎ ((steps ≡ By i actions.Connects ∷ By i (actions.Loses true) ∷ [])
+    × GhostTakes t i steps (wires_without_down (wires t i)) u)
 
 abbrev pub Dials : Ghost → ℕ → List Transition → Ghost → Type 0
 Dials t i steps u = (steps ≡ By i actions.Dials ∷ []) × GhostTakes t i steps (wires_with_image (Some []) (wires t i)) u
 
 abbrev pub LosesControl : Ghost → ℕ → List Transition → Ghost → Type 0
-LosesControl t i steps u = (steps ≡ By i (actions.Loses false) ∷ []) × GhostTakes t i steps (wires_without_down (wires t i)) u
+LosesControl t i steps u = (steps ≡ By i (actions.Loses false) ∷ [])
+    × GhostTakes t i steps (wires_without_down (wires t i)) u
 
 abbrev pub LosesImage : Ghost → ℕ → List Transition → Ghost → Type 0
-LosesImage t i steps u = (steps ≡ By i (actions.LosesImage false) ∷ []) × GhostTakes t i steps (wires_with_image None (wires t i)) u
+LosesImage t i steps u = (steps ≡ By i (actions.LosesImage false) ∷ [])
+    × GhostTakes t i steps (wires_with_image None (wires t i)) u
 
 -- the record that a turn sends: these bytes behind their number, or the end with its status
 abbrev pub IsRecordOf : actions.Action → List ℕ → Type 0
 IsRecordOf (actions.Turns bytes) text = text ≡ counted_record bytes
 IsRecordOf actions.TurnsLast text = text ≡ end_record (status_code codes.Eof)
 IsRecordOf actions.TurnsShort text = text ≡ end_record (status_code codes.Eof)
-IsRecordOf (actions.TurnsNamed status) text = (code : Code) × (abstract_status code ≡ status) × (text ≡ end_record (status_code code))
+IsRecordOf (actions.TurnsNamed status) text = (code : Code) × (abstract_status code ≡ status)
+    × (text ≡ end_record (status_code code))
 IsRecordOf (actions.TurnsFault fault) text = text ≡ end_record (status_code codes.IoError)
 IsRecordOf actions.TurnsOff text = text ≡ end_record (status_code codes.Cancelled)
 IsRecordOf action text = ⊥
@@ -91,7 +98,8 @@ with_record text x = wires_with_image (option_map (λ bytes. bytes ++ text) x.im
 abbrev pub GhostSends : Ghost → ℕ → actions.Action → List ℕ → List Transition → Ghost → Type 0
 GhostSends t i action text steps u =
     ((steps ≡ By i action ∷ []) × GhostTakes t i steps (with_record text (wires t i)) u)
-    ⊎ ((steps ≡ By i action ∷ By i (actions.LosesImage true) ∷ []) × GhostTakes t i steps (wires_with_image None (wires t i)) u)
+    ⊎ ((steps ≡ By i action ∷ By i (actions.LosesImage true) ∷ [])
+    × GhostTakes t i steps (wires_with_image None (wires t i)) u)
 
 pub record GhostTurns (t : Ghost) (i : ℕ) (steps : List Transition) (u : Ghost) : Type 0 where
   pub action : actions.Action
@@ -102,7 +110,9 @@ pub record GhostTurns (t : Ghost) (i : ℕ) (steps : List Transition) (u : Ghost
 -- the client says farewell
 pub record GivesUp (t : Ghost) (i : ℕ) (steps : List Transition) (u : Ghost) : Type 0 where
   pub text : List ℕ
-  pub spells : SpellsAsked (t.jobs i) (job_state t i).client (abstract_farewell (client_at_greeting (job_state t i).client.stage (job_state t i).client).stage) text
+  pub spells
+      : SpellsAsked (t.jobs i) (job_state t i).client
+      (abstract_farewell (client_at_greeting (job_state t i).client.stage (job_state t i).client).stage) text
   pub steps_are : steps ≡ By i actions.Stops ∷ []
   pub takes : GhostTakes t i steps (record (wires t i) { up = (wires t i).up ++ text }) u
 
@@ -115,7 +125,8 @@ pub record GhostHappens (May Done : Type 0) (t : Ghost) (steps : List Transition
   pub cannot : (May → ⊥) → (steps ≡ []) × (u ≡ t)
 
 -- whatever a world stands for, what the event makes of it stands for what these steps lead to
-pub record GhostLeadsTo (May : Type 0) (Does : List Transition → Ghost → Type 0) (t : Ghost) (v : WorldCore) : Type 0 where
+pub record GhostLeadsTo (May : Type 0) (Does : List Transition → Ghost → Type 0) (t : Ghost)
+    (v : WorldCore) : Type 0 where
   pub steps : List Transition
   pub ghost_then : Ghost
   pub happens : GhostHappens May (Does steps ghost_then) t steps ghost_then
@@ -125,7 +136,8 @@ abbrev pub GhostLeads : JobEvent → (Ghost → ℕ → List Transition → Ghos
 GhostLeads action Does t i v = GhostLeadsTo (GhostCan t i action) (Does t i) t v
 
 abbrev pub EventRefines : JobEvent → (Ghost → ℕ → List Transition → Ghost → Type 0) → Type 0
-EventRefines action Does = (t : Ghost) (i : ℕ) (w v : WorldCore) → WorldRefines t w → AtEndpoint w i action v → GhostLeads action Does t i v
+EventRefines action Does = (t : Ghost) (i : ℕ) (w v : WorldCore) → WorldRefines t w → AtEndpoint w i action v
+    → GhostLeads action Does t i v
 
 -- ---- what comes to a device
 
@@ -146,10 +158,12 @@ pub record TakesOut (t : Ghost) (name : List ℕ) (steps : List Transition) (u :
 
 abbrev pub UnplugsFollow : Type 0
 UnplugsFollow =
-    (t : Ghost) (w : WorldCore) (name : List ℕ) → WorldRefines t w → GhostLeadsTo (CanUnplug t name) (TakesOut t name) t (record w { daemon = record w.daemon { registry = after_unplug w.daemon.registry name } })
+    (t : Ghost) (w : WorldCore) (name : List ℕ) → WorldRefines t w
+    → GhostLeadsTo (CanUnplug t name) (TakesOut t name) t
+    (record w { daemon = record w.daemon { registry = after_unplug w.daemon.registry name } })
 
--- **a page is laid in (`CanLoad`, `LaysIn`)**: the place of that name has a device that is listed, at rest and has room;
--- then it has the page.
+-- **a page is laid in (`CanLoad`, `LaysIn`)**: the place of that name has a device that is listed, at rest and has
+-- room; then it has the page.
 pub record CanLoad (t : Ghost) (name : List ℕ) : Type 0 where
   pub place : ℕ
   pub named : name_at t.infos place ≡ Some name
@@ -172,5 +186,7 @@ MayHaveSource infos make name source = (k : ℕ) → name_at infos k ≡ Some na
 -- of a page within its limits
 abbrev pub LoadsFollow : Type 0
 LoadsFollow =
-    (t : Ghost) (w : WorldCore) (name : List ℕ) (source : SourceState) → IsHeldPage (held_from source) → MayHaveSource t.infos t.system.make name source → WorldRefines t w →
-    GhostLeadsTo (CanLoad t name) (LaysIn t name source.page) t (record w { daemon = core_after_load w.daemon name source })
+    (t : Ghost) (w : WorldCore) (name : List ℕ) (source : SourceState) → IsHeldPage (held_from source)
+    → MayHaveSource t.infos t.system.make name source → WorldRefines t w →
+    GhostLeadsTo (CanLoad t name) (LaysIn t name source.page) t
+    (record w { daemon = core_after_load w.daemon name source })

@@ -1,5 +1,6 @@
 -- A new world: nothing has happened.
-use Rattle.std.specs.Prelude.{ℕ, ◌≡◌, Bool, Option, Some, None, List, [], ◌∷◌, All, length, map, slice_get, slice_index_or}
+use Rattle.std.specs.Prelude.{ℕ, ◌≡◌, Bool, Option, Some, None, List, [], ◌∷◌, All, length, map, slice_get}
+use Rattle.std.specs.Prelude.{slice_index_or}
 use Rattle.sane_fixed.specs.declared.byte_order.ByteOrder.TheVariants.{Little}
 use Rattle.page_picture.specs.declared.scene.DeviceKind.TheVariants.{Feeder}
 use Rattle.md5_auth.specs.declared.users.Entry.{Entry}
@@ -27,7 +28,8 @@ pub record IsNewDaemon (devices : List DeviceState) (core : Core) : Type 0 where
   pub slots : core.slots ≡ None ∷ None ∷ None ∷ None ∷ None ∷ None ∷ None ∷ None ∷ []
   pub opened : core.opened ≡ 0
 
--- of the page sources that are ever in a device: whether one can fail, and whether each gives its page's rows at each pass
+-- of the page sources that are ever in a device: whether one can fail, and whether each gives its page's rows at each
+-- pass
 pub record PageSources : Type 0 where
   pub fallible : Bool
   pub steady : Bool
@@ -35,11 +37,13 @@ pub record PageSources : Type 0 where
 -- what never changes of a device, with that; where there is none it matters to nobody
 abbrev pub make_of : PageSources → Option DeviceState → Make
 make_of sources None = record { model = Feeder; order = Little; fallible = sources.fallible; steady = sources.steady }
-make_of sources (Some s) = record { model = s.setup.scene.kind; order = s.setup.order; fallible = sources.fallible; steady = sources.steady }
+make_of sources (Some s) =
+    record { model = s.setup.scene.kind; order = s.setup.order; fallible = sources.fallible; steady = sources.steady }
 
 -- the sources of the pages that the devices were handed in with are such
 abbrev pub HaveSourcesAt : (ℕ → PageSources) → List DeviceState → Type 0
-HaveSourcesAt sources devices = (k : ℕ) (s : DeviceState) → slice_get devices k ≡ Some s → HaveSources (make_of (sources k) (Some s)) s.pages
+HaveSourcesAt sources devices = (k : ℕ) (s : DeviceState) → slice_get devices k ≡ Some s
+    → HaveSources (make_of (sources k) (Some s)) s.pages
 
 -- what a client has written before its connection is made
 abbrev pub wires_of : Option Endpoint → Wires
@@ -49,8 +53,8 @@ wires_of (Some p) = record { up = p.client.out; asking = []; down = []; telling 
 abbrev pub info_of_state : DeviceState → DeviceInfo
 info_of_state s = s.info
 
--- **a new world (`initial_ghost`, `NewWorldsRefine`, `NewWorldsPay`)**: of each job nothing is told: all clients are as at
--- first, all devices lie in their places, and nothing is on the way but what clients have written before they are
+-- **a new world (`initial_ghost`, `NewWorldsRefine`, `NewWorldsPay`)**: of each job nothing is told: all clients are as
+-- at first, all devices lie in their places, and nothing is on the way but what clients have written before they are
 -- connected; and its jobs have moves enough for all that is to come.
 --
 -- Of these jobs nothing is told yet. (The other job stands for those that there are not.)
@@ -58,7 +62,8 @@ abbrev pub initial_ghost : (ℕ → PageSources) → List Job → Job → List D
 initial_ghost sources jobs other devices users endpoints =
     let infos = map info_of_state devices in
     record {
-      system = initial_state (λ k. make_of (sources k) (slice_get devices k)) (fresh_devices devices) (λ i. abstract_job users infos (slice_index_or jobs i other)) (numbers_from 0 infos);
+      system = initial_state (λ k. make_of (sources k) (slice_get devices k)) (fresh_devices devices) (λ i.
+          abstract_job users infos (slice_index_or jobs i other)) (numbers_from 0 infos);
       users = users;
       infos = infos;
       count = length jobs;
@@ -71,8 +76,13 @@ initial_ghost sources jobs other devices users endpoints =
 -- a new world stands for that
 abbrev pub NewWorldsRefine : Type 0
 NewWorldsRefine =
-    (sources : ℕ → PageSources) (jobs : List Job) (other : Job) (devices : List DeviceState) (w : WorldCore) → AreNew jobs w.endpoints → IsNewDaemon devices w.daemon → HaveOwnNames devices → All HasLimits devices → HaveSourcesAt sources devices → All IsFitJob jobs → WorldRefines (initial_ghost sources jobs other devices w.daemon.users w.endpoints) w
+    (sources : ℕ → PageSources) (jobs : List Job) (other : Job) (devices : List DeviceState) (w : WorldCore)
+    → AreNew jobs w.endpoints → IsNewDaemon devices w.daemon → HaveOwnNames devices → All HasLimits devices
+    → HaveSourcesAt sources devices → All IsFitJob jobs
+    → WorldRefines (initial_ghost sources jobs other devices w.daemon.users w.endpoints) w
 
 -- its jobs have moves enough for all that is to come
 abbrev pub NewWorldsPay : Type 0
-NewWorldsPay = (sources : ℕ → PageSources) (jobs : List Job) (other : Job) (devices : List DeviceState) (w : WorldCore) → AreNew jobs w.endpoints → All IsFitJob jobs → Pays (initial_ghost sources jobs other devices w.daemon.users w.endpoints) w
+NewWorldsPay = (sources : ℕ → PageSources) (jobs : List Job) (other : Job) (devices : List DeviceState) (w : WorldCore)
+    → AreNew jobs w.endpoints → All IsFitJob jobs
+    → Pays (initial_ghost sources jobs other devices w.daemon.users w.endpoints) w

@@ -18,15 +18,16 @@ abbrev pub IsGreeted : Bool → List AbstractRequest → Type 0
 IsGreeted true todo = Unit {0}
 IsGreeted false todo = (rest : List AbstractRequest) × (todo ≡ Init ∷ rest)
 
--- it awaits AUTHORIZE where it does by the model: for the device of this name, and the challenge is the resource that it sent
+-- it awaits AUTHORIZE where it does by the model: for the device of this name, and the challenge is the resource that
+-- it sent
 abbrev pub Awaits : List ℕ → Option AwaitedAuthorization → Option Challenge → Type 0
 Awaits name None sent = sent ≡ None
 Awaits name (Some awaited) sent = (awaited.name ≡ name) × (sent ≡ Some awaited.resource)
 
--- **what a session and a device have of requests (`SpeaksAs`, `Awaits`, `SetsAsHeld`)**: a session was greeted, or INIT is
--- its next request; it awaits AUTHORIZE just where it does by the model, for the job's device and with the resource that
--- was sent; a SET and a START come first among the requests on the way, and a SET is of an option as the client's device
--- has it.
+-- **what a session and a device have of requests (`SpeaksAs`, `Awaits`, `SetsAsHeld`)**: a session was greeted, or INIT
+-- is its next request; it awaits AUTHORIZE just where it does by the model, for the job's device and with the resource
+-- that was sent; a SET and a START come first among the requests on the way, and a SET is of an option as the client's
+-- device has it.
 pub record SpeaksAs (name : List ℕ) (p : JobState) (session : Session DeviceState) : Type 0 where
   pub greeted : IsGreeted session.greeted p.todo
   pub awaits : Awaits name session.awaited p.session.awaited
@@ -58,7 +59,8 @@ SetsNothing (q ∷ todo) = SetsNothing todo
 -- a SET and a START come first, and a SET is of an option as client i's device has it
 abbrev pub SetsAsHeld : ℕ → Make → List Descriptor → AbstractDevice → List AbstractRequest → Type 0
 SetsAsHeld i make known dev [] = Unit {0}
-SetsAsHeld i make known dev (Set n value ∷ todo) = (dev.holder ≡ Some i) × (known ≡ descriptors_in_force make dev.options) × SetsNothing todo
+SetsAsHeld i make known dev (Set n value ∷ todo) = (dev.holder ≡ Some i)
+    × (known ≡ descriptors_in_force make dev.options) × SetsNothing todo
 SetsAsHeld i make known dev (q ∷ todo) = SetsNothing todo
 
 abbrev pub AsksAsHeld : SystemState → ℕ → Type 0

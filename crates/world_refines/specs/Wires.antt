@@ -23,9 +23,9 @@ use Rattle.client_refines.specs.PieceRefinement.{SpellsSent}
 
 -- ---- requests
 
--- **on the way (`SpellsAsked`, `SpellsReplies`, `FlightMatches`)**: bytes that spell the requests that are to be answered;
--- the one reply that is due, with AUTHORIZE's word before that of OPEN; whole records of the frame's data so far, or all of
--- them with their end, and none while the job waits for anything else.
+-- **on the way (`SpellsAsked`, `SpellsReplies`, `FlightMatches`)**: bytes that spell the requests that are to be
+-- answered; the one reply that is due, with AUTHORIZE's word before that of OPEN; whole records of the frame's data so
+-- far, or all of them with their end, and none while the job waits for anything else.
 --
 -- the text spells these requests of the job's client, which has the device word 0 and knows what the client view knows
 abbrev pub SpellsAsked : Job → rules.ClientView → List AbstractRequest → List ℕ → Type 0
@@ -46,7 +46,8 @@ pub record SpellsReply (place : DeviceInfo → ℕ) (progress : Progress) (r : A
   pub word : HasFirstWord answer
 
 -- before the reply of OPEN comes AUTHORIZE's word, where that is waited for
-pub record SpellsReplyBehind (place : DeviceInfo → ℕ) (progress : Progress) (r : AbstractReply) (text : List ℕ) : Type 0 where
+pub record SpellsReplyBehind (place : DeviceInfo → ℕ) (progress : Progress) (r : AbstractReply)
+    (text : List ℕ) : Type 0 where
   pub front : List ℕ
   pub back : List ℕ
   pub text_is : text ≡ front ++ back
@@ -54,7 +55,8 @@ pub record SpellsReplyBehind (place : DeviceInfo → ℕ) (progress : Progress) 
   pub tells : SpellsReply place stages.Reopening r back
 
 abbrev pub SpellsAwaitedReply : (DeviceInfo → ℕ) → Progress → AbstractReply → List ℕ → Type 0
-SpellsAwaitedReply place (stages.Allowing resource answer) r text = SpellsReplyBehind place (stages.Allowing resource answer) r text
+SpellsAwaitedReply place (stages.Allowing resource answer) r text =
+    SpellsReplyBehind place (stages.Allowing resource answer) r text
 SpellsAwaitedReply place progress r text = SpellsReply place progress r text
 
 -- the text of the replies that are due to a client that is under way: there is never more than one
@@ -68,7 +70,8 @@ SpellsReplies place progress (r ∷ s ∷ due) text = ⊥
 -- the bytes on the way to a reader: whole records so far, or all of them with their end
 abbrev pub CarriesFlight : RecordPhase → List ℕ → List ℕ → Option Status → Type 0
 CarriesFlight phase text flight None = CarriesRecords phase phases.Head text flight
-CarriesFlight phase text flight (Some status) = (code : Code) × (abstract_status code ≡ status) × RecordsContinue phase text flight (status_code code)
+CarriesFlight phase text flight (Some status) = (code : Code) × (abstract_status code ≡ status)
+    × RecordsContinue phase text flight (status_code code)
 
 -- no byte of a frame is on the way, and no end of one
 pub record NothingFlows (image : Option (List ℕ)) (flight : List ℕ) (ending : Option Status) : Type 0 where
@@ -77,14 +80,16 @@ pub record NothingFlows (image : Option (List ℕ)) (flight : List ℕ) (ending 
   pub ending_is : ending ≡ None
 
 -- a frame that waits for its connection, which the client wants
-pub record IsNotDialled (progress : Progress) (image : Option (List ℕ)) (flight : List ℕ) (ending : Option Status) : Type 0 where
+pub record IsNotDialled (progress : Progress) (image : Option (List ℕ)) (flight : List ℕ)
+    (ending : Option Status) : Type 0 where
   pub wants : IsSome (wanted_port progress)
   pub image_is : image ≡ None
   pub flight_is : flight ≡ []
   pub ending_is : ending ≡ None
 
 -- the frame's data on its connection
-pub record IsDialled (progress : Progress) (phase : RecordPhase) (image : Option (List ℕ)) (flight : List ℕ) (ending : Option Status) : Type 0 where
+pub record IsDialled (progress : Progress) (phase : RecordPhase) (image : Option (List ℕ)) (flight : List ℕ)
+    (ending : Option Status) : Type 0 where
   pub wants : wanted_port progress ≡ None
   pub text : List ℕ
   pub image_is : image ≡ Some text
@@ -96,12 +101,14 @@ FlowsAt Quiet progress phase image flight ending = IsDialled progress phase imag
 FlowsAt Streaming progress phase image flight ending = IsDialled progress phase image flight ending
 FlowsAt Ending progress phase image flight ending = IsDialled progress phase image flight ending
 
-abbrev pub FlowsBy : rules.AbstractProgress → TransferState → Progress → RecordPhase → Option (List ℕ) → List ℕ → Option Status → Type 0
+abbrev pub FlowsBy : rules.AbstractProgress → TransferState → Progress → RecordPhase → Option (List ℕ) → List ℕ
+    → Option Status → Type 0
 FlowsBy (rules.Imaging params heard) c progress phase image flight ending = FlowsAt c progress phase image flight ending
 FlowsBy g c progress phase image flight ending = NothingFlows image flight ending
 
 -- a client that is under way has a data connection for the data of a frame alone
-abbrev pub FlightMatches : rules.JobStage → TransferState → Progress → RecordPhase → Option (List ℕ) → List ℕ → Option Status → Type 0
+abbrev pub FlightMatches : rules.JobStage → TransferState → Progress → RecordPhase → Option (List ℕ) → List ℕ
+    → Option Status → Type 0
 FlightMatches rules.Idle c progress phase image flight ending = NothingFlows image flight ending
 FlightMatches (rules.Running g) c progress phase image flight ending = FlowsBy g c progress phase image flight ending
 FlightMatches rules.Done c progress phase image flight ending = Unit {0}

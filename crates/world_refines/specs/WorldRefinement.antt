@@ -1,5 +1,6 @@
 -- What a world stands for.
-use Rattle.std.specs.Prelude.{ℕ, ◌≡◌, ◌<◌, ◌≤◌, ◌⊎◌, ◌++◌, suc, Bool, true, false, not, is_some, cond, Option, Some, None, IsSome, option_map, List, [], ◌∷◌, length, map, slice_get}
+use Rattle.std.specs.Prelude.{ℕ, ◌≡◌, ◌<◌, ◌≤◌, ◌⊎◌, ◌++◌, suc, Bool, true, false, not, is_some, cond, Option, Some}
+use Rattle.std.specs.Prelude.{None, IsSome, option_map, List, [], ◌∷◌, length, map, slice_get}
 use Rattle.std.specs.List.{AllByRecursion}
 use Rattle.netpbm.specs.Picture.{Picture}
 use Rattle.netpbm.specs.Pnm.{Denotes}
@@ -71,14 +72,17 @@ pub record IsFinished (past : JoinHistory) : Type 0 where
   pub denotes : (picture : Picture) → ShowsFrames past.ended picture → Denotes past.given picture
 
 -- the client reads as the model's client view, of what its joins were told and gave
-pub record EndpointClientRefines (place : DeviceInfo → ℕ) (job : Job) (past : JoinHistory) (pages : List JoinHistory) (p : JobState) (endpoint : Endpoint) : Type 0 where
+pub record EndpointClientRefines (place : DeviceInfo → ℕ) (job : Job) (past : JoinHistory) (pages : List JoinHistory)
+    (p : JobState) (endpoint : Endpoint) : Type 0 where
   pub task : endpoint.task ≡ job.task
   pub target : endpoint.client.target ≡ target_of job
   -- while it runs it knows its device by the first word
   pub word : is_running endpoint.client.outcome ≡ true → endpoint.client.notes.word ≡ 0
   pub over : is_running endpoint.client.outcome ≡ false → endpoint.client.progress ≡ stages.Over
   pub serves : ClientRepresents past endpoint.client
-  pub reads : ClientRefines place (target_of job) p.session.job (map (λ (q : JoinHistory). q.ended) pages) (protocol_of endpoint.client past) (client_at_greeting p.client.stage p.client)
+  pub reads
+      : ClientRefines place (target_of job) p.session.job (map (λ (q : JoinHistory).
+      q.ended) pages) (protocol_of endpoint.client past) (client_at_greeting p.client.stage p.client)
   pub idle : p.client.stage ≡ Idle → endpoint.was_connected ≡ false
   pub begun : endpoint.was_connected ≡ false → (p.client.stage ≡ Idle) ⊎ (IsUnderWay p.client.stage → ⊥)
   pub files : KeepsFiles (is_laid job.task endpoint.client.outcome past) past pages endpoint
@@ -108,7 +112,8 @@ HasNoEnd Streaming ending = ending ≡ None
 HasNoEnd Ending ending = ending ≡ None
 
 -- and what it means by the model
-pub record Means (place : DeviceInfo → ℕ) (job : Job) (wires : Wires) (p : JobState) (endpoint : Endpoint) : Type 0 where
+pub record Means (place : DeviceInfo → ℕ) (job : Job) (wires : Wires) (p : JobState)
+    (endpoint : Endpoint) : Type 0 where
   pub linked : p.linked ≡ is_some endpoint.link
   pub before : endpoint.was_connected ≡ false → (endpoint.link ≡ None) × (endpoint.is_over ≡ false)
   pub over : p.linked ≡ true → endpoint.is_over ≡ not p.served
@@ -119,8 +124,10 @@ pub record Means (place : DeviceInfo → ℕ) (job : Job) (wires : Wires) (p : J
   -- what a client that is not connected yet has written is its greeting
   pub first : p.client.stage ≡ Idle → SpellsAsked job p.client (Init ∷ []) wires.up
   pub up : p.served ≡ true → SpellsAsked job p.client p.todo (wires.asking ++ wires.up)
-  pub down : IsUnderWay p.client.stage → SpellsReplies place endpoint.client.progress p.due (wires.telling ++ wires.down)
-  pub flow : FlightMatches p.client.stage p.session.transfer endpoint.client.progress endpoint.client.phase wires.image p.session.flight p.session.ending
+  pub down : IsUnderWay p.client.stage
+      → SpellsReplies place endpoint.client.progress p.due (wires.telling ++ wires.down)
+  pub flow : FlightMatches p.client.stage p.session.transfer endpoint.client.progress endpoint.client.phase wires.image
+      p.session.flight p.session.ending
   pub starved : IsCauseAmong LinkOutOfMemory p.session.met → endpoint.out_of_memory ≡ true
 
 -- ---- the daemon
@@ -132,7 +139,9 @@ slot_of_link core (Some id) = session_slot_of core.slots id.number
 
 -- by the model client i's session has one device word, for the device that the job names
 abbrev pub session_by : ℕ → (ℕ → AbstractDevice) → JobState → RuledSession
-session_by i device p = one_word_session (is_held_by i (device p.session.job.wants).holder) p.session.job.wants p.session.transfer p.session.awaited
+session_by i device p =
+    one_word_session (is_held_by i (device p.session.job.wants).holder) p.session.job.wants p.session.transfer
+    p.session.awaited
 
 abbrev pub LinkRefines : ℕ → (ℕ → Make) → Core → Option SessionId → (ℕ → AbstractDevice) → RuledSession → Type 0
 LinkRefines i make core None device s = ⊥
@@ -141,7 +150,8 @@ LinkRefines i make core (Some id) device s = SessionRefines i make core id.numbe
 -- the session goes on, and is that of the model; or it is over, or there is none, and nothing is held
 abbrev pub IsServed : ℕ → (ℕ → Make) → Core → Option SessionId → Bool → (ℕ → AbstractDevice) → RuledSession → Type 0
 IsServed i make core link true device s = LinkRefines i make core link device s
-IsServed i make core link false device s = (session_in (slot_of_link core link) ≡ None) × TableRefines i make [] core.registry device
+IsServed i make core link false device s = (session_in (slot_of_link core link) ≡ None)
+    × TableRefines i make [] core.registry device
 
 -- a page whose source gives its rows at each pass is a page view
 abbrev pub IsFaithfulPage : HeldPage → Type 0
@@ -200,7 +210,9 @@ AreListedBelow n (Some places) = AllByRecursion (λ (k : ℕ). k < n) places
 -- ---- the world
 
 -- the endpoint of a job is what stands of it
-pub record EndpointRefines (users : List Entry) (infos : List DeviceInfo) (job : Job) (make : ℕ → Make) (device : ℕ → AbstractDevice) (i : ℕ) (p : JobState) (wires : Wires) (past : JoinHistory) (pages : List JoinHistory) (core : Core) (endpoint : Endpoint) : Type 0 where
+pub record EndpointRefines (users : List Entry) (infos : List DeviceInfo) (job : Job) (make : ℕ → Make)
+    (device : ℕ → AbstractDevice) (i : ℕ) (p : JobState) (wires : Wires) (past : JoinHistory) (pages : List JoinHistory)
+    (core : Core) (endpoint : Endpoint) : Type 0 where
   pub job_is : p.session.job ≡ abstract_job users infos job
   pub talks : EndpointClientRefines (place_of_info infos) job past pages p endpoint
   pub carries : WiresMatch wires (slot_of_link core endpoint.link) endpoint
@@ -211,7 +223,9 @@ pub record EndpointRefines (users : List Entry) (infos : List DeviceInfo) (job :
   pub pends : Pends endpoint.client.outcome endpoint.client.progress endpoint.client.phase wires
 
 abbrev pub EndpointRefinesAt : Ghost → Core → ℕ → Endpoint → Type 0
-EndpointRefinesAt t core i endpoint = EndpointRefines t.users t.infos (t.jobs i) t.system.make t.system.device i (t.system.job i) (t.wires i) (t.history i) (t.pages i) core endpoint
+EndpointRefinesAt t core i endpoint =
+    EndpointRefines t.users t.infos (t.jobs i) t.system.make t.system.device i (t.system.job i) (t.wires i)
+    (t.history i) (t.pages i) core endpoint
 
 -- where there is no job nothing happens
 pub record IsNobody (t : Ghost) (w : WorldCore) (i : ℕ) : Type 0 where
@@ -233,7 +247,8 @@ pub record IsOf (t : Ghost) (w : WorldCore) : Type 0 where
 
 -- no two endpoints have one session
 abbrev pub HaveOwn : WorldCore → Type 0
-HaveOwn w = (i j : ℕ) (a b : Endpoint) (x y : SessionId) → slice_get w.endpoints i ≡ Some a → slice_get w.endpoints j ≡ Some b → a.link ≡ Some x → b.link ≡ Some y → x.number ≡ y.number → i ≡ j
+HaveOwn w = (i j : ℕ) (a b : Endpoint) (x y : SessionId) → slice_get w.endpoints i ≡ Some a
+    → slice_get w.endpoints j ≡ Some b → a.link ≡ Some x → b.link ≡ Some y → x.number ≡ y.number → i ≡ j
 
 -- some endpoint has the session of that number
 pub record IsLinked (endpoints : List Endpoint) (n : ℕ) : Type 0 where
@@ -245,29 +260,36 @@ pub record IsLinked (endpoints : List Endpoint) (n : ℕ) : Type 0 where
   pub number : id.number ≡ n
 
 -- each slot is for the session of an endpoint, and no two are for one
-pub record SlotsAreOfEndpoints (slots : List (Option (SessionSlot DeviceState))) (endpoints : List Endpoint) : Type 0 where
-  pub linked : (k : ℕ) (slot : SessionSlot DeviceState) → slice_get slots k ≡ Some (Some slot) → IsLinked endpoints slot.number
-  pub apart : (j k : ℕ) (a b : SessionSlot DeviceState) → slice_get slots j ≡ Some (Some a) → slice_get slots k ≡ Some (Some b) → a.number ≡ b.number → j ≡ k
+pub record SlotsAreOfEndpoints (slots : List (Option (SessionSlot DeviceState)))
+    (endpoints : List Endpoint) : Type 0 where
+  pub linked : (k : ℕ) (slot : SessionSlot DeviceState) → slice_get slots k ≡ Some (Some slot)
+      → IsLinked endpoints slot.number
+  pub apart : (j k : ℕ) (a b : SessionSlot DeviceState) → slice_get slots j ≡ Some (Some a)
+      → slice_get slots k ≡ Some (Some b) → a.number ≡ b.number → j ≡ k
 
 -- where the sources of its device give their rows, the pages that a job started are page views
 abbrev pub AreStartedViews : (ℕ → Make) → JobState → Type 0
-AreStartedViews make p = (make p.session.job.wants).steady ≡ true → AllByRecursion (λ (b : Begin). IsPageView b.page) p.session.started
+AreStartedViews make p = (make p.session.job.wants).steady ≡ true
+    → AllByRecursion (λ (b : Begin). IsPageView b.page) p.session.started
 
--- **refines (`WorldRefines`, `EndpointRefines`, `EndpointClientRefines`, `WiresMatch`, `Means`, `IsServed`)**: each job's
--- endpoint is what stands of the job: its client reads as the client view of the model, its files are those of its joins,
--- the bytes are those on its connections and mean what the model has on the way, and its session, if it goes on, is that of
--- the model and speaks as they do; a frame that streams or is to be ended has no end yet; each slot is for the session of
--- an endpoint, and no two endpoints have one; the devices' sources are steady and their pages page views; the places that
--- were shown to a list are those of devices (`AreListedBelow`); and what stands by the model is sound.
+-- **refines (`WorldRefines`, `EndpointRefines`, `EndpointClientRefines`, `WiresMatch`, `Means`, `IsServed`)**: each
+-- job's endpoint is what stands of the job: its client reads as the client view of the model, its files are those of
+-- its joins, the bytes are those on its connections and mean what the model has on the way, and its session, if it goes
+-- on, is that of the model and speaks as they do; a frame that streams or is to be ended has no end yet; each slot is
+-- for the session of an endpoint, and no two endpoints have one; the devices' sources are steady and their pages page
+-- views; the places that were shown to a list are those of devices (`AreListedBelow`); and what stands by the model is
+-- sound.
 pub record WorldRefines (t : Ghost) (w : WorldCore) : Type 0 where
   pub sound : Invariant t.system
   pub asks : (i : ℕ) → AsksAsHeld t.system i
   pub shown : (i : ℕ) → AreListedBelow (length t.infos) (t.system.job i).session.shown
   pub is_of : IsOf t w
-  pub endpoints : (i : ℕ) (endpoint : Endpoint) → slice_get w.endpoints i ≡ Some endpoint → EndpointRefinesAt t w.daemon i endpoint
+  pub endpoints : (i : ℕ) (endpoint : Endpoint) → slice_get w.endpoints i ≡ Some endpoint
+      → EndpointRefinesAt t w.daemon i endpoint
   pub beyond : (i : ℕ) → length w.endpoints ≤ i → IsNobody t w i
   pub own : HaveOwn w
-  pub links : (i : ℕ) (endpoint : Endpoint) (id : SessionId) → slice_get w.endpoints i ≡ Some endpoint → endpoint.link ≡ Some id → id.number < w.daemon.opened
+  pub links : (i : ℕ) (endpoint : Endpoint) (id : SessionId) → slice_get w.endpoints i ≡ Some endpoint
+      → endpoint.link ≡ Some id → id.number < w.daemon.opened
   pub slots : AllByRecursion (IsBelow w.daemon.opened) w.daemon.slots
   pub slots_are : SlotsAreOfEndpoints w.daemon.slots w.endpoints
   pub faithful : AreFaithful w.daemon

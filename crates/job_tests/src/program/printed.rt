@@ -3,6 +3,7 @@ use config_pages::NoPage;
 use constraint::{Range, StringList, WordList};
 use device_api::DeviceInfo;
 use dispatch::{ConfigFault, ConfigReason};
+use local_job::OutputTally;
 use option_desc::{Constraint, Descriptor, Value, Words};
 use sane_fixed::{Cap, Fixed, Info, Kind, Status, Unit};
 use scan_job::{Report, Why};
@@ -13,7 +14,9 @@ use std::process::Abort;
 /// An ending tells this line and has this exit status.
 fn expect_printed(rt: &impl Abort, alloc: Global, ending: &Ending, line: &[u8], status: u8) {
     let mut told = Vec::new(alloc);
-    ending.tell(&mut told).expect(rt, "memory");
+    let mut outputs = OutputTally::new();
+    ending.tell(&mut told, &mut outputs);
+    assert!(rt; !outputs.has_failed());
     assert!(rt; told.as_slice() == line);
     assert!(rt; ending.exit_status() == status);
 }

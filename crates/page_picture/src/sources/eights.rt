@@ -4,6 +4,7 @@ ghost use Rattle.std.specs.Prelude.{◌≡◌, ◌≤◌, ◌<◌, ◌+◌, ◌*
 
 use crate::sources::scaling::Scaling;
 use std::simd::prelude::*;
+use vector_lanes::words::{greater, listed, numbers_at, ones_below, products, upper_halves};
 
 /// The number of two bytes at place `i`.
 pub fn word(bytes: &[u8], i: usize) -> u16
@@ -11,65 +12,6 @@ pub fn word(bytes: &[u8], i: usize) -> u16
     ensures { result ≡ 256 * slice_index bytes.now (2 * i) + slice_index bytes.now (2 * i + 1) }
 {
     256 * u16::from(bytes[2 * i]) + u16::from(bytes[2 * i + 1])
-}
-
-/// The numbers from byte `at` on.
-#[inline(always)]
-pub fn numbers_at(bytes: &[u8], at: usize) -> u16x8
-    requires { at + 16 ≤ length bytes.now }
-    ensures size { length result ≡ 8 }
-    ensures each { (i : ℕ) → i < 8 → slice_index result i
-        ≡ 256 * slice_index bytes.now (at + 2 * i) + slice_index bytes.now (at + 2 * i + 1) }
-{
-    let turned = u16x8::from_le_bytes(u8x16::from_slice(&bytes[at..]));
-    turned * u16x8::splat(256) + (turned >> u16x8::splat(8))
-}
-
-/// What eight lanes hold.
-#[inline(always)]
-fn listed(numbers: u16x8) -> [u16; 8]
-    requires { length numbers ≡ 8 }
-    ensures { (i : ℕ) → i < 8 → slice_index result i ≡ slice_index numbers i }
-{
-    let mut eight = [0u16; 8];
-    numbers.copy_to_slice(&mut eight);
-    eight
-}
-
-/// Eight numbers, each times a factor.
-#[inline(always)]
-fn products(numbers: u16x8, factor: u16) -> u32x8
-    requires { length numbers ≡ 8 }
-    ensures size { length result ≡ 8 }
-    ensures each { (i : ℕ) → i < 8 → slice_index result i ≡ slice_index numbers i * factor }
-{
-    numbers.cast::<u32>() * u32x8::splat(u32::from(factor))
-}
-
-/// The upper halves of eight numbers of four bytes.
-#[inline(always)]
-fn upper_halves(numbers: u32x8) -> u16x8
-    requires { length numbers ≡ 8 }
-    ensures size { length result ≡ 8 }
-    ensures each { (i : ℕ) → i < 8 → slice_index result i ≡ slice_index numbers i / 65536 }
-{
-    (numbers >> u32x8::splat(16)).cast::<u16>()
-}
-
-/// One in each lane whose number is below the other, else none.
-#[inline(always)]
-fn ones_below(numbers: u16x8, others: u16x8) -> u16x8
-    requires numbers { length numbers ≡ 8 }
-    requires others { length others ≡ 8 }
-    ensures size { length result ≡ 8 }
-    ensures below { (i : ℕ) → i < 8 → slice_index numbers i < slice_index others i
-        → slice_index result i ≡ 1 }
-    ensures other { (i : ℕ) → i < 8 → slice_index others i ≤ slice_index numbers i
-        → slice_index result i ≡ 0 }
-{
-    numbers
-        .simd_lt(others)
-        .select(u16x8::splat(1), u16x8::splat(0))
 }
 
 /// Eight numbers up to a greatest value as numbers up to 65,535. Each is multiplied by parts of two bytes, since as many
@@ -87,20 +29,6 @@ pub fn scaled(scaling: &Scaling, numbers: u16x8) -> u16x8
     let sums = numbers * u16x8::splat(parts.middle) + rest;
     let carried = upper_halves(products(numbers, parts.middle)) + ones_below(sums, rest);
     numbers * u16x8::splat(parts.upper) + carried
-}
-
-/// Of each lane the greater number.
-#[inline(always)]
-fn greater(numbers: u16x8, others: u16x8) -> u16x8
-    requires numbers { length numbers ≡ 8 }
-    requires others { length others ≡ 8 }
-    ensures size { length result ≡ 8 }
-    ensures first { (i : ℕ) → i < 8 → slice_index numbers i ≤ slice_index result i }
-    ensures second { (i : ℕ) → i < 8 → slice_index others i ≤ slice_index result i }
-    ensures one { (i : ℕ) → i < 8 → (slice_index result i ≡ slice_index numbers i)
-        ⊎ (slice_index result i ≡ slice_index others i) }
-{
-    numbers.simd_max(others)
 }
 
 /// The greatest numbers of so many eights, one of each lane: so one comparison is made of each lane, and not of each number.

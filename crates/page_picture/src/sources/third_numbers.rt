@@ -2,8 +2,8 @@
 
 ghost use Rattle.std.specs.Prelude.{◌≡◌, ◌≤◌, ◌<◌, ◌+◌, ◌*◌, ◌%◌, ℕ, length, slice_index};
 
-use crate::sources::uppers_fit::sixteen;
 use std::simd::prelude::*;
+use vector_lanes::bytes::sixteen;
 
 /// Every third of the 48 bytes from byte `at` on.
 #[inline(always)]

@@ -4,31 +4,10 @@ ghost use Rattle.std.specs.Prelude.{◌≡◌, ◌≤◌, ◌<◌, ◌+◌, ◌*
 ghost use Rattle.netpbm.specs.Pnm.{number_in, sample_bytes};
 ghost use Rattle.netpbm.specs.Raster.{NoneAbove};
 
-use crate::sources::eights::{numbers_at, scaled, word};
+use crate::sources::eights::{scaled, word};
 use crate::sources::scaling::{ByteScaling, Scaling};
 use std::simd::prelude::*;
-
-/// The upper bytes of eight samples.
-#[inline(always)]
-fn upper(samples: u16x8) -> u8x8
-    requires { length samples ≡ 8 }
-    ensures size { length result ≡ 8 }
-    ensures each { (i : ℕ) → i < 8 → slice_index result i ≡ slice_index samples i / 256 }
-{
-    let bytes: u8x16 = samples.to_le_bytes();
-    bytes.swizzle([1, 3, 5, 7, 9, 11, 13, 15])
-}
-
-/// Eight numbers, each times a factor.
-#[inline(always)]
-fn raised(numbers: u16x8, factor: u16) -> u16x8
-    requires size { length numbers ≡ 8 }
-    requires limit { (i : ℕ) → i < 8 → slice_index numbers i * factor < 2 ^ 16 }
-    ensures size { length result ≡ 8 }
-    ensures each { (i : ℕ) → i < 8 → slice_index result i ≡ slice_index numbers i * factor }
-{
-    numbers * u16x8::splat(factor)
-}
+use vector_lanes::words::{numbers_at, raised, upper_bytes};
 
 /// What a number up to a greatest value above 255 is to be multiplied by, so that its upper byte is that of its sample. There
 /// is such a factor where the greatest value has no zero among its bits; a product by it carries nothing.
@@ -77,7 +56,7 @@ fn put_products(factor: u16, bytes: &[u8], part: &mut [u8])
     let eights = part.len() / 8;
     for n in 0..eights {
         let samples = raised(numbers_at(bytes, 16 * n), factor);
-        upper(samples).copy_to_slice(&mut part[8 * n..]);
+        upper_bytes(samples).copy_to_slice(&mut part[8 * n..]);
     }
     for j in 8 * eights..part.len() {
         part[j] = (word(bytes, j) * factor / 256) as u8;
@@ -99,7 +78,7 @@ fn put_scaled(maxval: u32, bytes: &[u8], part: &mut [u8])
     let eights = part.len() / 8;
     for n in 0..eights {
         let samples = scaled(&scaling, numbers_at(bytes, 16 * n));
-        upper(samples).copy_to_slice(&mut part[8 * n..]);
+        upper_bytes(samples).copy_to_slice(&mut part[8 * n..]);
     }
     for j in 8 * eights..part.len() {
         part[j] = (scaling.apply(u32::from(word(bytes, j))) / 256) as u8;

@@ -1,15 +1,18 @@
-use Rattle.std.proofs.Common.{ap, ◌∙◌}
+use Rattle.std.proofs.Common.{rules, ap, ◌∙◌}
 use Rattle.saned_core.specs.DaemonStates.{seen_session_slots}
 use Rattle.saned.proofs.Ends.{on_ok_of}
 use Rattle.saned.proofs.run.Goals as goal
 
 pub returns-clause-done : goal.returns-clause-done
-returns-clause-done c = on_ok_of c.serve_at.result (λ served. record {
+returns-clause-done g c = on_ok_of c.serve_at.result (λ served. record {
   plan = c.in_ok-plan.plan;
   is_plan = c.in_ok-plan.ensures.planned;
+  lines = c.in_ok-lines.lines.items;
+  config = c.in_ok-lines.ensures.lines;
   devices = _;
+  of_lines = search rules;
   users = c.in_ok-users.users;
-  no_users = c.in_ok-users.ensures.none;
+  users_named = c.in_ok-users.ensures.users;
   first = _;
   serves = served;
   begun = record {

@@ -1,12 +1,16 @@
 -- A file that is meant: on the page of its start.
-use Rattle.std.specs.Prelude.{cond, length, map, slice_get, if◌then◌else◌, ◌<◌, ◌≤◌, ◌+◌, ◌-◌}
-use Rattle.std.proofs.Common.{◌≡◌, ◌∙◌, ◌⊎◌, inl, inr, ℕ, suc, arith, List, [], ◌∷◌, ◌++◌, Bool, true, false, Option, Some, refl, sym, ap, subst}
+use Rattle.std.specs.Prelude.{cond, eqb, length, map, slice_get, if◌then◌else◌, ◌<◌, ◌≤◌, ◌+◌, ◌-◌, Contains, Ok}
+use Rattle.std.proofs.Common.{◌≡◌, ◌∙◌, ◌⊎◌, inl, inr, ℕ, suc, arith, List, [], ◌∷◌, ◌++◌, Bool, true, false, Option, Some, refl, sym, ap, subst, eqb-true}
 use Rattle.std.proofs.lemmas.Option.{get_or_from_slice_get}
 use Rattle.page_picture.specs.Meaning.{meaning_of}
 use Rattle.page_picture.specs.Page.{PageView}
 use Rattle.page_picture.specs.Shows.{Frame}
 use Rattle.page_picture.specs.SourceView.{source_state}
-use Rattle.device_api.specs.State.{DeviceState}
+use Rattle.page_picture.specs.declared.sources.kinds.Source.{Source}
+use Rattle.device_api.specs.State.{DeviceState, HeldPage, held_from}
+use Rattle.saned_core.specs.Loading.{daemon_load_answer}
+use Rattle.daemon_refines.specs.ContextRefinement.{HaveSources}
+use Rattle.daemon_refines.proofs.Moved.{own}
 use Rattle.frame_join.specs.FrameHistory.{JoinHistory, is_joined}
 use Rattle.scan_job.specs.declared.job.Job.{Job}
 use Rattle.scan_job.specs.declared.job.Task.{Task}
@@ -23,62 +27,123 @@ use Rattle.system_model.specs.Invariants.{IsRightlyDone, StageInvariant}
 use Rattle.system_model.specs.SystemStates.{SystemState, device_for, make_for, wanted_place}
 use Rattle.system_model.specs.Transitions.{after_all}
 use Rattle.scan_world.specs.declared.endpoint.Endpoint.{Endpoint}
+use Rattle.scan_world.specs.declared.event.Event.{Event}
+use Rattle.scan_world.specs.declared.event.Event.TheVariants.{Connect, ToDaemon, ToClient, DataConnect, DataTurn, DataToClient, LoseControl, LoseImage, Cancel, Load, Unplug}
 use Rattle.scan_world.specs.JobEvents.{is_done}
 use Rattle.scan_world.specs.Worlds.{WorldCore}
-use Rattle.world_refines.specs.GhostStates.{Ghost, job_state, place_named}
-use Rattle.world_refines.specs.NewWorlds.{make_of}
+use Rattle.world_refines.specs.GhostStates.{Ghost, job_state, name_at, place_named}
+use Rattle.world_refines.specs.NewWorlds.{HaveSourcesAt, PageSources, make_of}
 use Rattle.world_refines.specs.WorldPromises.{IsMeant, IsOutcome, KeepsPromise}
 use Rattle.world_refines.specs.WorldRefinement.{KeepsFiles, WorldRefines, is_laid}
 use Rattle.world_refines.proofs.frames.Paged.{woken_pages}
 use Rattle.world_refines.proofs.promise_proofs.Counted.{pages_count}
 use Rattle.world_refines.proofs.job_events.Constant.{Fixed, all_fixed, makes_stay}
 use Rattle.world_contract.specs.Endings.{HadNoPage}
-use Rattle.world_contract.specs.Histories.{History, LedTo}
+use Rattle.world_contract.specs.Histories.{History, LedTo, Moment}
 use Rattle.world_contract.specs.Laws.{Below}
 use Rattle.world_contract.specs.Page.{CameFor, StartedOn}
 use Rattle.world_contract.proofs.Begun.{wants_all}
-use Rattle.world_contract.proofs.Ended.{comes_there, first_here, laws_of, steps_of_one}
+use Rattle.world_contract.proofs.Ended.{comes_by, comes_there, first_by, first_here, laws_of, make_by, steps_by, steps_of_one}
 use Rattle.world_contract.proofs.Jobs.{IsJob}
-use Rattle.world_contract.proofs.Lists.{contains_at}
+use Rattle.world_contract.proofs.Lists.{In, contains_at, contains_in, in_list, in_split}
 use Rattle.world_contract.proofs.Nearest.{nearest_for}
-use Rattle.world_contract.proofs.Rows.{IsScanEver, IsSteadyEver}
-use Rattle.world_contract.proofs.Scanned.{at_first, infos_of, job_there, kept_by, name_of, wants_there}
-use Rattle.world_contract.proofs.Sources.{make_at, sources_of, steady_there}
+use Rattle.world_contract.proofs.Rows.{IsScanEver, RunsAt}
+use Rattle.world_contract.proofs.Scanned.{at_first, ghost_by, infos_of, job_there, kept_by, name_of, wants_there}
+use Rattle.world_contract.proofs.Sources.{fallible_of_make, have_sources, load_fits, named_at, sources_of, steady_of_make}
+use Rattle.world_contract.proofs.Taken.{FitsTaken, OnRun}
 use Rattle.world_contract.proofs.moments.Counted.{CountsTo, counts}
+use Rattle.world_contract.proofs.moments.Moments.{Comes}
 use Rattle.world_contract.proofs.moments.Started.{StartFact, app_length, starts_first}
 use Rattle.world_contract.proofs.moments.Finished.{mapped_length}
 
 -- ---- the job of these steps, and its device
 
-pub job_of : (below : Below) (h : History) (w : WorldCore) (job : Job) (l : LedTo h w) (i : ℕ) → slice_get h.jobs i ≡ Some job → (comes_there below h w job l).ghost_then.jobs i ≡ job
-job_of below h w job l i at =
-    let k = comes_there below h w job l in
-    ap (λ (f : Fixed). f.3 i) (all_fixed source_state h.events (at_first h w job l) k.steps k.ghost_then k.comes) ∙ get_or_from_slice_get h.jobs i job job at
+pub job_of : (h : History) (w : WorldCore) (job : Job) (l : LedTo h w) (sources : ℕ → PageSources) (k : Comes h w job h.events (ghost_by h w job l sources)) (i : ℕ) → slice_get h.jobs i ≡ Some job → k.ghost_then.jobs i ≡ job
+job_of h w job l sources k i at = ap (λ (f : Fixed). f.3 i) (all_fixed source_state k.kept (ghost_by h w job l sources) k.steps k.ghost_then k.comes) ∙ get_or_from_slice_get h.jobs i job job at
 
-make_of_it : (below : Below) (h : History) (w : WorldCore) (job : Job) (l : LedTo h w) (i : ℕ) → slice_get h.jobs i ≡ Some job → make_for (comes_there below h w job l).ghost_then.system i ≡ make_at h (place_named (infos_of h) job.device)
-make_of_it below h w job l i at =
-    let k = comes_there below h w job l in
-    let t = at_first h w job l in
+make_of_it : (h : History) (w : WorldCore) (job : Job) (l : LedTo h w) (sources : ℕ → PageSources) (k : Comes h w job h.events (ghost_by h w job l sources)) (i : ℕ) → slice_get h.jobs i ≡ Some job → make_for k.ghost_then.system i ≡ make_by h sources (place_named (infos_of h) job.device)
+make_of_it h w job l sources k i at =
+    let t = ghost_by h w job l sources in
     ap (λ (s : SystemState). make_for s i) k.rules_are
     ∙ (ap (λ (m : ℕ → Make). m (wanted_place (after_all t.system k.steps) i)) (makes_stay t.system k.steps)
-    ∙ ap (λ (d : ℕ). make_at h d) (wants_all k.steps t.system i ∙ wants_there h w job l i at))
+    ∙ ap (λ (d : ℕ). make_by h sources d) (wants_all k.steps t.system i ∙ wants_there h w job l sources i at))
 
-steady_then : (below : Below) (h : History) (w : WorldCore) (job : Job) (l : LedTo h w) (i : ℕ) → slice_get h.jobs i ≡ Some job → IsSteadyEver h job.device → (make_for (comes_there below h w job l).ghost_then.system i).steady ≡ true
-steady_then below h w job l i at steady = ap (λ (make : Make). make.steady) (make_of_it below h w job l i at) ∙ steady_there h (place_named (infos_of h) job.device) job.device (λ device there. name_of h job.device device there) steady
+meant_then : (h : History) (w : WorldCore) (i : ℕ) (job : Job) (l : LedTo h w) (sources : ℕ → PageSources) (k : Comes h w job h.events (ghost_by h w job l sources)) (begin : Begin) (file : List ℕ) → slice_get h.jobs i ≡ Some job → IsMeant (make_for k.ghost_then.system i) (k.ghost_then.jobs i).settings.items begin file → IsMeant (make_by h sources (place_named (infos_of h) job.device)) job.settings.items begin file
+meant_then h w i job l sources k begin file at m =
+    subst (λ (make : Make). IsMeant make job.settings.items begin file) (make_of_it h w job l sources k i at)
+    (subst (λ (j : Job). IsMeant (make_for k.ghost_then.system i) j.settings.items begin file) (job_of h w job l sources k i at) m)
 
-meant_then : (below : Below) (h : History) (w : WorldCore) (i : ℕ) (job : Job) (l : LedTo h w) (begin : Begin) (file : List ℕ) → slice_get h.jobs i ≡ Some job → IsMeant (make_for (comes_there below h w job l).ghost_then.system i) ((comes_there below h w job l).ghost_then.jobs i).settings.items begin file → IsMeant (make_at h (place_named (infos_of h) job.device)) job.settings.items begin file
-meant_then below h w i job l begin file at m =
-    let u = (comes_there below h w job l).ghost_then in
-    subst (λ (make : Make). IsMeant make job.settings.items begin file) (make_of_it below h w job l i at)
-    (subst (λ (j : Job). IsMeant (make_for u.system i) j.settings.items begin file) (job_of below h w job l i at) m)
+-- ---- where the pages are steady that the daemon took as the job ran
+
+pub record SteadyRun (h : History) (w : WorldCore) (i : ℕ) (job : Job) (l : LedTo h w) : Type 0 where
+  pub ran : OnRun (λ (u : WorldCore). RunsAt u i) h.events l.first w l.runs
+  pub first : (device : DeviceState) → Contains h.devices device → device.info.name ≡ job.device → (held : HeldPage) → Contains device.pages held → held.steady ≡ true
+  pub later : (source : Source) (m : Moment h w (Load job.device source)) → RunsAt m.before i → daemon_load_answer m.before.daemon job.device ≡ Ok tt → (held_from (source_state source)).steady ≡ true
+
+-- the sources of its device are, and of the others nothing is known
+abbrev steady_at : History → ℕ → ℕ → PageSources
+steady_at h place d = record { fallible = (sources_of h d).fallible; steady = eqb d place }
+
+each_steady : (k l : Make) (pages : List HeldPage) → l.fallible ≡ k.fallible → HaveSources k pages → (l.steady ≡ true → (held : HeldPage) → In held pages → held.steady ≡ true) → HaveSources l pages
+each_steady k l [] same all steady = tt
+each_steady k l (held ∷ pages) same all steady = (
+  record {
+    infallible = λ e. all.0.infallible (sym same ∙ e);
+    steady = λ e. steady e held (inl refl);
+  },
+  each_steady k l pages same all.1 (λ e x among. steady e x (inr among)),
+)
+
+steady_first : (h : History) (w : WorldCore) (i : ℕ) (job : Job) (l : LedTo h w) → SteadyRun h w i job l → HaveSourcesAt (steady_at h (place_named (infos_of h) job.device)) h.devices
+steady_first h w i job l s k device at =
+    let place = place_named (infos_of h) job.device in
+    each_steady (make_of (sources_of h k) (Some device)) (make_of (steady_at h place k) (Some device)) device.pages refl (have_sources h k device at) (λ e held among.
+    let here : slice_get h.devices place ≡ Some device = ap (slice_get h.devices) (sym (eqb-true k place e)) ∙ at in
+    s.first device (contains_at h.devices k device at) (name_of h job.device device here) held (contains_in device.pages held among))
+
+steady_loads : (h : History) (w : WorldCore) (i : ℕ) (job : Job) (l : LedTo h w) → SteadyRun h w i job l → (e : Event) (m : Moment h w e) → RunsAt m.before i → FitsTaken (infos_of h) (make_by h (steady_at h (place_named (infos_of h) job.device))) e m.before
+steady_loads h w i job l s (Connect j) m ran = tt
+steady_loads h w i job l s (ToDaemon j n) m ran = tt
+steady_loads h w i job l s (ToClient j n) m ran = tt
+steady_loads h w i job l s (DataConnect j) m ran = tt
+steady_loads h w i job l s (DataTurn j) m ran = tt
+steady_loads h w i job l s (DataToClient j n) m ran = tt
+steady_loads h w i job l s (LoseControl j) m ran = tt
+steady_loads h w i job l s (LoseImage j) m ran = tt
+steady_loads h w i job l s (Cancel j) m ran = tt
+steady_loads h w i job l s (Unplug name) m ran = tt
+steady_loads h w i job l s (Load name source) m ran = λ taken k named.
+    let place = place_named (infos_of h) job.device in
+    let b = steady_at h place in
+    let ever = load_fits h name source (in_list h.events (Load name source) (in_split h.events m.front m.back (Load name source) m.split)) k named in
+    let same : (make_by h b k).fallible ≡ (make_by h (sources_of h) k).fallible = fallible_of_make (b k) (slice_get h.devices k) ∙ sym (fallible_of_make (sources_of h k) (slice_get h.devices k)) in
+    record {
+      infallible = λ e. ever.infallible (sym same ∙ e);
+      steady = λ e.
+          let here : k ≡ place = eqb-true k place (sym (steady_of_make (b k) (slice_get h.devices k)) ∙ e) in
+          let there : name_at (infos_of h) place ≡ Some name = subst (λ (n : ℕ). name_at (infos_of h) n ≡ Some name) here named in
+          let d = named_at h.devices place name there in
+          steady_load h w i job l s name source (sym d.2 ∙ name_of h job.device d.0 d.1) m ran taken;
+    }
+  where
+    steady_load : (h : History) (w : WorldCore) (i : ℕ) (job : Job) (l : LedTo h w) → SteadyRun h w i job l → (name : List ℕ) (source : Source) → name ≡ job.device → (m : Moment h w (Load name source)) → RunsAt m.before i → daemon_load_answer m.before.daemon name ≡ Ok tt → (held_from (source_state source)).steady ≡ true
+    steady_load h w i job l s name source same =
+        subst (λ (x : List ℕ). (m : Moment h w (Load x source)) → RunsAt m.before i → daemon_load_answer m.before.daemon x ≡ Ok tt → (held_from (source_state source)).steady ≡ true) (sym same) (s.later source)
+
+steady_steps : (below : Below) (h : History) (w : WorldCore) (i : ℕ) (job : Job) (l : LedTo h w) → SteadyRun h w i job l → Comes h w job h.events (ghost_by h w job l (steady_at h (place_named (infos_of h) job.device)))
+steady_steps below h w i job l s = comes_by below h w job l (steady_at h (place_named (infos_of h) job.device)) (λ (u : WorldCore). RunsAt u i) (steady_first h w i job l s) (steady_loads h w i job l s) s.ran
+
+steady_then : (h : History) (w : WorldCore) (job : Job) (l : LedTo h w) (i : ℕ) (k : Comes h w job h.events (ghost_by h w job l (steady_at h (place_named (infos_of h) job.device)))) → slice_get h.jobs i ≡ Some job → (make_for k.ghost_then.system i).steady ≡ true
+steady_then h w job l i k at =
+    let place = place_named (infos_of h) job.device in
+    ap (λ (make : Make). make.steady) (make_of_it h w job l (steady_at h place) k i at) ∙ (steady_of_make (steady_at h place place) (slice_get h.devices place) ∙ own place)
 
 -- ---- its finished pages
 
-start_of : (below : Below) (h : History) (w : WorldCore) (i : ℕ) (job : Job) (l : LedTo h w) → slice_get h.jobs i ≡ Some job → (k : ℕ) (b : Begin) → k < length (job_state (comes_there below h w job l).ghost_then i).client.pages → slice_get (job_state (comes_there below h w job l).ghost_then i).session.started k ≡ Some b → StartFact h w i job k b
-start_of below h w i job l at k b low started =
-    let c = comes_there below h w job l in
-    let t = at_first h w job l in
-    let facts = starts_first (laws_of below) h w i job c.steps t.system (first_here below h w i job l at) (steps_of_one below h w job l) c.answered c.legal refl in
+start_of : (below : Below) (h : History) (w : WorldCore) (i : ℕ) (job : Job) (l : LedTo h w) (sources : ℕ → PageSources) → HaveSourcesAt sources h.devices → ((d : ℕ) → (sources d).fallible ≡ (sources_of h d).fallible) → (c : Comes h w job h.events (ghost_by h w job l sources)) → slice_get h.jobs i ≡ Some job → (k : ℕ) (b : Begin) → k < length (job_state c.ghost_then i).client.pages → slice_get (job_state c.ghost_then i).session.started k ≡ Some b → StartFact h w i job k b
+start_of below h w i job l sources haves fails c at k b low started =
+    let t = ghost_by h w job l sources in
+    let facts = starts_first (laws_of below) h w i job c.steps t.system (first_by below h w i job l sources haves fails at) (steps_by h w job l sources c) c.answered c.legal refl in
     facts k b (subst (λ (s : SystemState). k < length (s.job i).client.pages) c.rules_are low) (subst (λ (s : SystemState). slice_get (s.job i).session.started k ≡ Some b) c.rules_are started)
 
 joined_of : (a b c : Bool) → cond a (cond b c false) false ≡ true → c ≡ true
@@ -108,7 +173,7 @@ by_laid task past pages p all true e files is =
     let same = mapped_length (λ (q : JoinHistory). q.ended) pages in
     subst (λ (xs : List (List Frame)). p.finished ≤ length xs) (sym (is ∙ ap (λ (x : List (List Frame)). map (λ (q : JoinHistory). q.ended) pages ++ x) whole)) (omega (arith, count, as_many, same))
 
-finished_low : (u : Ghost) (w : WorldCore) (i : ℕ) (p : Endpoint) → WorldRefines u w → slice_get w.endpoints i ≡ Some p → p.finished ≤ length (job_state u i).client.pages
+pub finished_low : (u : Ghost) (w : WorldCore) (i : ℕ) (p : Endpoint) → WorldRefines u w → slice_get w.endpoints i ≡ Some p → p.finished ≤ length (job_state u i).client.pages
 finished_low u w i p h at =
     let s = h.endpoints i p at in
     let me = job_state u i in
@@ -125,12 +190,12 @@ one_page u w i job p reports h done at own scan =
 
 -- ---- a file that is meant
 
-pub is_scan : (h : History) (w : WorldCore) (i : ℕ) (job : Job) (count : ℕ) (begin : Begin) (file : List ℕ) → StartFact h w i job count begin → IsMeant (make_at h (place_named (infos_of h) job.device)) job.settings.items begin file → IsScanEver h w i job count file
-is_scan h w i job count begin file fact meant =
+pub is_scan : (h : History) (w : WorldCore) (i : ℕ) (job : Job) (sources : ℕ → PageSources) (count : ℕ) (begin : Begin) (file : List ℕ) → StartFact h w i job count begin → IsMeant (make_by h sources (place_named (infos_of h) job.device)) job.settings.items begin file → IsScanEver h w i job count file
+is_scan h w i job sources count begin file fact meant =
     let there = fact.begun in
     let device = there.0.0 in
     let at = there.0.1 in
-    let b = sources_of h (place_named (infos_of h) job.device) in
+    let b = sources (place_named (infos_of h) job.device) in
     let m : IsMeant (make_of b (Some device)) job.settings.items begin file = subst (λ (o : Option DeviceState). IsMeant (make_of b o) job.settings.items begin file) at meant in
     let put = nearest_for device.setup.scene.kind device.setup.order job.settings.items begin.options m.in_force in
     let name : device.info.name ≡ job.device = name_of h job.device device at in
@@ -152,25 +217,27 @@ is_scan h w i job count begin file fact meant =
       denotes = m.denotes;
     }
 
-pub scan_right : Below → (h : History) (w : WorldCore) (i : ℕ) (job : Job) (p : Endpoint) (reports : Reports) (file : List ℕ) → IsJob h w i job p → IsSteadyEver h job.device → job.task ≡ tasks.Scan → p.client.outcome ≡ Done reports → p.file ≡ Some file → IsScanEver h w i job 0 file
+pub scan_right : Below → (h : History) (w : WorldCore) (i : ℕ) (job : Job) (p : Endpoint) (reports : Reports) (file : List ℕ) → (j : IsJob h w i job p) → SteadyRun h w i job j.led → job.task ≡ tasks.Scan → p.client.outcome ≡ Done reports → p.file ≡ Some file → IsScanEver h w i job 0 file
 scan_right below h w i job p reports file j steady scan done is =
-    let k = comes_there below h w job j.led in
+    let b = steady_at h (place_named (infos_of h) job.device) in
+    let k = steady_steps below h w i job j.led steady in
     let u = k.ghost_then in
-    let own = job_of below h w job j.led i j.job_at in
-    let s = below.scans u w i p reports file k.stands j.endpoint_at (ap (λ (x : Job). x.task) own ∙ scan) done is in
+    let own_job = job_of h w job j.led b k i j.job_at in
+    let s = below.scans u w i p reports file k.stands j.endpoint_at (ap (λ (x : Job). x.task) own_job ∙ scan) done is in
     let promise = subst (IsOutcome u i) done (below.outcomes u w i p k.stands j.endpoint_at) in
-    let low = one_page u w i job p reports k.stands promise j.endpoint_at own scan in
-    let fact = start_of below h w i job j.led j.job_at 0 s.begin low (ap (λ (bs : List Begin). slice_get bs 0) s.started) in
-    is_scan h w i job 0 s.begin file fact (meant_then below h w i job j.led s.begin file j.job_at (s.meant (steady_then below h w job j.led i j.job_at steady)))
+    let low = one_page u w i job p reports k.stands promise j.endpoint_at own_job scan in
+    let fact = start_of below h w i job j.led b (steady_first h w i job j.led steady) (λ d. refl) k j.job_at 0 s.begin low (ap (λ (bs : List Begin). slice_get bs 0) s.started) in
+    is_scan h w i job b 0 s.begin file fact (meant_then h w i job j.led b k s.begin file j.job_at (s.meant (steady_then h w job j.led i k j.job_at)))
 
-pub page_right : Below → (h : History) (w : WorldCore) (i n : ℕ) (job : Job) (p : Endpoint) (file : List ℕ) → IsJob h w i job p → IsSteadyEver h job.device → n < p.finished → slice_get p.pages n ≡ Some (Some file) → IsScanEver h w i job n file
+pub page_right : Below → (h : History) (w : WorldCore) (i n : ℕ) (job : Job) (p : Endpoint) (file : List ℕ) → (j : IsJob h w i job p) → SteadyRun h w i job j.led → n < p.finished → slice_get p.pages n ≡ Some (Some file) → IsScanEver h w i job n file
 page_right below h w i n job p file j steady low is =
-    let k = comes_there below h w job j.led in
+    let b = steady_at h (place_named (infos_of h) job.device) in
+    let k = steady_steps below h w i job j.led steady in
     let u = k.ghost_then in
     let s = below.pages u w i n p file k.stands j.endpoint_at low is in
     let most = finished_low u w i p k.stands j.endpoint_at in
-    let fact = start_of below h w i job j.led j.job_at n s.begin (omega (arith, low, most)) s.started in
-    is_scan h w i job n s.begin file fact (meant_then below h w i job j.led s.begin file j.job_at (s.meant (steady_then below h w job j.led i j.job_at steady)))
+    let fact = start_of below h w i job j.led b (steady_first h w i job j.led steady) (λ d. refl) k j.job_at n s.begin (omega (arith, low, most)) s.started in
+    is_scan h w i job b n s.begin file fact (meant_then h w i job j.led b k s.begin file j.job_at (s.meant (steady_then h w job j.led i k j.job_at)))
 
 -- ---- how many they are
 
@@ -186,7 +253,7 @@ counted_there below h w i job p j count reports batch done =
     let t = at_first h w job j.led in
     let k = kept_by below.kept h w job j.led in
     let me = job_state u i in
-    let task : (u.jobs i).task ≡ tasks.Batch count = ap (λ (x : Job). x.task) (job_of below h w job j.led i j.job_at) ∙ batch in
+    let task : (u.jobs i).task ≡ tasks.Batch count = ap (λ (x : Job). x.task) (job_of h w job j.led (sources_of h) c i j.job_at) ∙ batch in
     let ruled : me.session.job.task ≡ rules.Batch (count - 1) = ap (λ (x : AbstractJob). x.task) (c.stands.endpoints i p j.endpoint_at).job_is ∙ ap task_of task in
     let promise : KeepsPromise u i reports = subst (IsOutcome u i) done (below.outcomes u w i p c.stands j.endpoint_at) in
     let so : CountsTo h w i job me = subst (λ (s : SystemState). CountsTo h w i job (s.job i)) (sym c.rules_are)

@@ -34,6 +34,7 @@ use Rattle.scan_world.specs.declared.event.Event.TheVariants.{Cancel, DataTurn}
 use Rattle.scan_world.specs.Worlds.{WorldCore}
 use Rattle.daemon_refines.specs.ContextRefinement.{abstract_device}
 use Rattle.world_refines.specs.FailedSources.{AllAlong, FailedIn}
+use Rattle.world_refines.specs.NewWorlds.{make_of}
 use Rattle.world_refines.specs.GhostStates.{backend_of, is_allowed_for, name_at, place_named}
 use Rattle.world_refines.proofs.job_events.Constant.{Fixed}
 use Rattle.world_contract.specs.Calls.{HadUnsaidReply}
@@ -53,12 +54,12 @@ use Rattle.world_contract.proofs.Rows as rows
 use Rattle.world_contract.proofs.Rows.{HasFinished, WaitsAt}
 use Rattle.world_contract.proofs.Pages.{HasDevice, IsOfDevice, IsOfOne, name_there}
 use Rattle.world_contract.proofs.Scanned.{infos_of, name_of}
-use Rattle.world_contract.proofs.Sources.{make_at}
 use Rattle.world_contract.proofs.moments.Entries.{linked_by, own_party}
 use Rattle.world_contract.proofs.moments.Moments.{AnsweredSo, AnswersAt, HappenedSo}
 use Rattle.world_contract.proofs.moments.Requests.{IsOpening}
 use Rattle.world_contract.proofs.moments.Stands.{awaits_there, holder_has, unlisted_none}
-use Rattle.world_contract.proofs.moments.Tray.{empty_there, first_rests, page_there, starts_ready}
+use Rattle.world_contract.proofs.moments.Tray.{empty_there, first_rests, page_there, rests_there, starts_ready}
+use Rattle.world_contract.proofs.Sources.{CanFail, fallible_of_make}
 use Rattle.world_contract.proofs.moments.Finished.{as_many, count_at}
 use Rattle.world_contract.proofs.moments.Waiting.{WaitsFor, waits_there}
 
@@ -213,7 +214,7 @@ none_begun (x ∷ xs) e = absurd (let clash : true ≡ false = e in cc)
 pub no_page : (h : History) (w : WorldCore) (i : ℕ) (job : Job) (s : SystemState) → Here h i job s → IsUnderWay (s.job i).client.stage → Front h w job s i → (rest : List AbstractRequest) → (s.job i).todo ≡ Start ∷ rest → (device_for s i).phase ≡ Resting → HasNone i (device_for s i) → HadNoPage h w i job (length (s.job i).client.pages)
 no_page h w i job s e on a rest todo rests held =
     let r = has_there h w i job s i e.own_job e.fine a held.0 in
-    (starts_scan h i job s e on rest todo, asked_start h w i job s on a rest todo, finished_there h w i job s e on a rest todo rests, (r.0, r.1, held.1 r.0 r.2 r.3))
+    (starts_scan h i job s e on rest todo, asked_start h w i job s on a rest todo, finished_there h w i job s e on a rest todo rests, (r.0, r.1, rests_there (Some i) (device_for s i) r.0 rests r.2 r.3, held.1 r.0 r.2 r.3))
 
 no_meaning_there : (h : History) (w : WorldCore) (i : ℕ) (job : Job) (s : SystemState) → Here h i job s → IsUnderWay (s.job i).client.stage → (a : Front h w job s i) → (rest : List AbstractRequest) → (s.job i).todo ≡ Start ∷ rest → IsSet i (make_for s i) (s.job i).session (device_for s i) → (page : Page) (later : List Page) → (device_for s i).tray ≡ page ∷ later → picture_frames (make_for s i) (device_for s i).options page ≡ [] → (device_for s i).phase ≡ Resting → rows.HadNoPictureEver h w i job
 no_meaning_there h w i job s e on a rest todo set page later tray none rests =
@@ -235,10 +236,22 @@ no_meaning_there h w i job s e on a rest todo set page later tray none rests =
       none = ap (λ (p : Page). meaning_of p settled.0.setup.scene) came.2 ∙ (ap (λ (y : Setup). meaning_of page y.scene) settled.1 ∙ no_meaning (make_for s i) (device_for s i).options page none);
     }
 
+-- a page that can fail came for a device whose source may fail
+can_fail : (h : History) (i : ℕ) (job : Job) (s : SystemState) → Here h i job s → (make_for s i).fallible ≡ true → (device_for s i).holder ≡ Some i → CanFail h job.device
+can_fail h i job s e able mine =
+    let known = e.fine.makes (wanted_place s i) in
+    let b : known.sources.fallible ≡ true = sym (fallible_of_make known.sources (slice_get h.devices (wanted_place s i))) ∙ (ap (λ (k : Make). k.fallible) (sym known.is) ∙ able) in
+    let there : HasDevice h (wanted_place s i) = (e.fine.slots (wanted_place s i)).held i mine in
+    let place : wanted_place s i ≡ place_named (infos_of h) job.device = e.fine.places i ∙ own_place h i job e.own_job.at in
+    subst (CanFail h) (name_of h job.device there.0 (ap (slice_get h.devices) (sym place) ∙ there.1)) (known.fails b there.0 there.1)
+
 source_failed : (h : History) (w : WorldCore) (i : ℕ) (job : Job) (s : SystemState) (x : Action) → Here h i job s → (IsFailedAnswer x × Begins (s.job i)) ⊎ ((fault : FailureCounts) × (x ≡ Actions.TurnsFault fault)) → IsUnderWay (s.job i).client.stage → StepSo h w job s (By i x) → IsEnabled s (By i x) → slice_get h.jobs i ≡ Some job → rows.MayHaveFailed h w i job
 source_failed h w i job s x e (inl (a, begins)) on so may at =
-    let m : AnswersAt h w job s i (Some a.1) = (subst (λ (y : Action). AnsweredSo h w job s (By i y)) a.2 so.0) on in (
+    let m : AnswersAt h w job s i (Some a.1) = (subst (λ (y : Action). AnsweredSo h w job s (By i y)) a.2 so.0) on in
+    let fails = (subst (λ (y : Action). IsEnabled s (By i y)) a.2 may).2.0 in
+    let set = starting i (make_for s i) (s.job i) (device_for s i) (s.job i).client.stage begins.0 on (e.sound.talks i) begins.1 in (
       starts_scan h i job s e on begins.0 begins.1,
+      can_fail h i job s e fails set.0,
       inl (asked_start h w i job s on (Some a.1, m) begins.0 begins.1, subst (λ (j : Job). FailedIn m.at.before m.at.behind.daemon i j.device) (get_or_from_slice_get h.jobs i job job at) m.failed),
     )
 source_failed h w i job s x e (inr a) on so may at =
@@ -246,6 +259,7 @@ source_failed h w i job s x e (inr a) on so may at =
     let turns = subst (λ (y : Action). IsEnabled s (By i y)) a.1 may in
     let streamed = streaming i (make_for s i) (s.job i) (device_for s i) (s.job i).client.stage on (e.sound.talks i) turns.3.0 in (
       scans_so job.task (subst (λ (j : RuledJob). Scans j.task) e.is streamed.1),
+      can_fail h i job s e turns.4.0 turns.3.1,
       inr (f.0, subst (λ (j : Job). FailedIn f.0.0.before f.0.0.behind.daemon i j.device) (get_or_from_slice_get h.jobs i job job at) f.1, f.2),
     )
 
@@ -308,8 +322,9 @@ pick h w i job status why (c ∷ met) a (inr e) = let r = pick h w i job status 
 forced_same : (h : History) (w : WorldCore) (i : ℕ) (job : Job) (s : SystemState) → Here h i job s → abstract_in_force (make_for s i) (s.job i).session.job.settings ≡ None → NotForced h job
 forced_same h w i job s e none =
     let place : wanted_place s i ≡ place_named (infos_of h) job.device = e.fine.places i ∙ own_place h i job e.own_job.at in
-    let make : make_for s i ≡ make_at h (place_named (infos_of h) job.device) = ap (λ (m : ℕ → Make). m (wanted_place s i)) e.fine.makes ∙ ap (make_at h) place in
-    subst (λ (k : Make). abstract_in_force k (map requested_setting job.settings.items) ≡ None) make (ap (λ (j : RuledJob). abstract_in_force (make_for s i) j.settings) (sym e.is) ∙ none)
+    let known = e.fine.makes (wanted_place s i) in
+    let make : make_for s i ≡ make_of known.sources (slice_get h.devices (place_named (infos_of h) job.device)) = known.is ∙ ap (λ (d : ℕ). make_of known.sources (slice_get h.devices d)) place in
+    (known.sources, subst (λ (k : Make). abstract_in_force k (map requested_setting job.settings.items) ≡ None) make (ap (λ (j : RuledJob). abstract_in_force (make_for s i) j.settings) (sym e.is) ∙ none))
 
 caused : (h : History) (w : WorldCore) (i : ℕ) (job : Job) (s : SystemState) (status : Status) (why : Why) → Here h i job s → AllByRecursion (Evid h w i job) (s.job i).session.met → IsCaused (make_for s i) (s.job i).session status why → EndedBy h w i job (s.job i).session.met status why
 caused h w i job s status why e a (inl c) = inl (pick h w i job status why (s.job i).session.met a c)

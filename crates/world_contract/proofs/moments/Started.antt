@@ -163,7 +163,7 @@ pub app_length : {X : Type 0} (xs ys : List X) → length xs ≤ length (xs ++ y
 app_length [] ys = omega arith
 app_length (x ∷ xs) ys = let more = app_length xs ys in omega (arith, more)
 
-enough : (k : Make) (p : JobState) → PagesAreOfStarts k p.session p.client → length p.client.pages ≤ length p.session.started
+pub enough : (k : Make) (p : JobState) → PagesAreOfStarts k p.session p.client → length p.client.pages ≤ length p.session.started
 enough k p h =
     let same = as_many k p.session.job.settings h.begins p.client.pages h.pictures in
     let more = app_length h.begins h.later in

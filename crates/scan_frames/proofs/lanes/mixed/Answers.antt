@@ -1,6 +1,6 @@
 use Rattle.std.proofs.Common.{◌+◌, ◌*◌, ◌%◌, ◌++◌, get_or, arith}
 use Rattle.std.specs.Simd.Lanes.{chunk}
-use Rattle.page_picture.proofs.EightLemmas.{eighth}
+use Rattle.vector_lanes.proofs.Lanes.{eighth}
 use Rattle.scan_frames.proofs.Eights.{of_load}
 use Rattle.scan_frames.proofs.lanes.mixed.Goals as goal
 

@@ -9,11 +9,11 @@ pub loop-n-preserved : goal.loop-n-preserved
 loop-n-preserved c =
     let n = c.loop-n.n in
     let line = c.loop-n.line in
-    let eight = c.upper.result in
+    let eight = c.upper_bytes.result in
     let row = c.args.row.now in
     let at = c.args.at in
     let inv = c.loop-n.invariant in
-    let long : length eight ≡ 8 = c.upper.ensures.size in
+    let long : length eight ≡ 8 = c.upper_bytes.ensures.size in
     let room : 8 * n + 8 ≤ length line = omega (arith, inv.size, c.requires.line) in
     record {
       size = length-put_chunk (8 * n) line eight ∙ inv.size;
@@ -26,7 +26,7 @@ loop-n-preserved c =
             let dot : at + 24 * n + 3 * j ≡ at + 3 * (8 * n + j) = omega arith in
             subst (λ (x : ℕ). slice_index (put_chunk (8 * n) line eight) x ≡ slice_index row (at + 3 * x) / 256) place
             (get_or-put_chunk_at (8 * n) line eight j 0 (omega (arith, few, long)) (omega (arith, room, long))
-            ∙ (c.upper.ensures.each j few ∙ ap (λ (v : ℕ). v / 256) (c.eight.ensures.each j few ∙ ap (slice_index row) dot)))
+            ∙ (c.upper_bytes.ensures.each j few ∙ ap (λ (v : ℕ). v / 256) (c.eight.ensures.each j few ∙ ap (slice_index row) dot)))
       ];
       behind = λ j more. get_or-put_chunk_above (8 * n) line eight j 0 (omega (arith, long, more)) ∙ inv.behind j (omega (arith, more));
     }

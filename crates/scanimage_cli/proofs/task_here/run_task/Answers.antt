@@ -1,19 +1,23 @@
 use Rattle.std.proofs.Common.{rules, ◌≡◌, ◌≢◌, refl, sym, ap, ◌∙◌, [], Ok}
 use Rattle.scan_job.specs.declared.job.Task.TheVariants.{List as ListTask, Scan}
+use Rattle.config_pages.specs.ScannerStates.{scanner_state}
 use Rattle.dispatch.specs.Table.{seen_unplug, table, unplug_answer}
-use Rattle.scanimage_cli.proofs.Carried.{listed, on_ok_of, scan_prints_none, well_is_no_end}
+use Rattle.scanimage_cli.proofs.Carried.{listed, on_ok_of, on_ok_of_two, scan_prints_none, well_is_no_end}
+use denote.Param.Object.{read_made}
+use Rattle.scanimage_cli.proofs.task_here.run_task.OwnLists.{at-1-1, own-1}
 use Rattle.scanimage_cli.proofs.task_here.run_task.Goals as goal
 
 pub returns-then-eq-clause-done : goal.returns-then-eq-clause-done
 returns-then-eq-clause-done g c =
     let is : c.args.plan.task ≡ ListTask = search rules in
-    on_ok_of c.print.result (listed _ _ _ _ _ is (search rules)) c.print.ensures.whole
+    on_ok_of c.print.result (listed _ _ _ _ _ is (search rules) refl) c.print.ensures.whole
 
 pub returns-clause-done : goal.returns-clause-done
 returns-clause-done g c =
     let name : c.as_bytes.result.now ≡ c.in_ok-device.device = search rules in
     let other : c.args.plan.task ≢ ListTask = search rules in
-    on_ok_of c.print_all.result (λ printed. record {
+    let is = read_made own-1 (own-1.entry at-1-1) at-1-1 refl _ (λ j v. j.1.state v) c.into_dyn_box-device.result.vtable c.into_dyn_box-device.result.value c.in-Ok-new.scanner.value c.into_dyn_box-device.ensures.1 ∙ ap scanner_state c.in-Ok-new.ensures.ok in
+    on_ok_of_two c.print_all.result (λ printed rounded. record {
       list = λ is. absurd (other is);
       job = λ _. record {
         job = record { user = c.args.plan.user; password = c.args.password; device = c.in_ok-device.device; settings = c.args.plan.settings; task = c.args.plan.task };
@@ -21,13 +25,14 @@ returns-clause-done g c =
         named = c.in_ok-device.ensures.named;
         old = _;
         new = _;
-        found = ap (unplug_answer (table (λ z. (g.dyn-1.0.entry z.vtable).1.state z.value) c.args.registry.now)) (sym name) ∙ (sym c.unplug.ensures.answer ∙ (ap (seen_unplug (λ z. (g.dyn-1.0.entry z.vtable).1.state z.value)) c.in-Ok-unplug.is ∙ ap (λ d. Ok ((g.dyn-1.0.entry d.0).1.state d.1)) (sym c.deref_box_mut-1.ensures.value.1)));
+        found = ap (unplug_answer (table scanner_state c.args.registry.now)) (sym name) ∙ (sym c.unplug.ensures.answer ∙ (ap (seen_unplug scanner_state) c.in-Ok-unplug.is ∙ (ap Ok (sym is) ∙ ap (λ d. Ok ((own-1.entry d.0).1.state d.1)) (sym c.deref_box_mut-1.ensures.value.1))));
         behind = g.O.Write.contents c.run_job.new.out;
         printed = c.in_ok-printed.printed;
         does = c.in_ok-printed.ensures.done;
         printed_out = printed;
+        rounded = rounded;
       };
-    }) c.print_all.ensures.table
+    }) c.print_all.ensures.table c.print_all.ensures.rounded
 
 pub returns-clause-no_file : goal.returns-clause-no_file
 returns-clause-no_file g c scan =

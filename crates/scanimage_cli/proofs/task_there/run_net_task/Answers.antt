@@ -1,7 +1,7 @@
 use Rattle.std.proofs.Common.{rules, ◌≡◌, refl, subst}
 use Rattle.scan_job.specs.declared.job.Job.{Job}
 use Rattle.scanimage_cli.specs.Programs.{RanThere}
-use Rattle.scanimage_cli.proofs.Carried.{on_ok_of}
+use Rattle.scanimage_cli.proofs.Carried.{on_ok_of_two}
 use Rattle.scanimage_cli.proofs.task_there.run_net_task.Goals as goal
 
 pub returns-clause-done : goal.returns-clause-done
@@ -9,7 +9,7 @@ returns-clause-done g c =
     let device : c.in-Ok.device ≡ c.args.remote.device = search rules in
     let host : c.as_bytes.result.now ≡ c.args.remote.host = search rules in
     let job : Job = record { user = c.args.plan.user; password = c.args.password; device = c.in-Ok.device; settings = c.args.plan.settings; task = c.args.plan.task } in
-    on_ok_of c.print_all.result (λ printed. record {
+    on_ok_of_two c.print_all.result (λ printed rounded. record {
       job = job;
       asked_for = record { user = refl; password_is = refl; settings_are = refl; task = refl };
       device = device;
@@ -19,4 +19,5 @@ returns-clause-done g c =
       printed = c.in_ok-printed.printed;
       ran = subst (λ h. RanThere job h c.args.plan.destination (g.O.Write.contents c.args.out.now) (g.O.Write.contents c.run_job.new.out) c.in_ok-printed.printed) host c.in_ok-printed.ensures.ran;
       printed_out = printed;
-    }) c.print_all.ensures.table
+      rounded = rounded;
+    }) c.print_all.ensures.table c.print_all.ensures.rounded

@@ -1,6 +1,7 @@
 use Rattle.std.proofs.Common.{ℕ, ◌≡◌, ◌<◌, ◌≤◌, ◌+◌, ◌*◌, ◌/◌, ◌%◌, ◌∙◌, length, replicate, get_or, arith, sym, ap, subst}
 use Rattle.std.specs.Simd.Lanes.{zip2}
-use Rattle.page_picture.proofs.EightLemmas.{splat_lane, length-splat, lane_of_two, length-of_two, carry_is, parts_scaled, product_small}
+use Rattle.vector_lanes.proofs.Lanes.{splat_lane, length-splat, lane_of_two, length-of_two, product_small}
+use Rattle.page_picture.proofs.EightLemmas.{carry_is, parts_scaled}
 use Rattle.page_picture.proofs.sources.eights.scaled.Goals as goal
 
 pub ones_below-requires-clause-numbers : goal.ones_below-requires-clause-numbers

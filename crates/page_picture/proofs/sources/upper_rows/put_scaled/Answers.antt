@@ -21,10 +21,10 @@ loop-n-preserved c =
     let part = c.loop-n.part in
     let bytes = c.args.bytes.now in
     let maxval = c.args.maxval in
-    let eight = c.upper.result in
+    let eight = c.upper_bytes.result in
     let inv = c.loop-n.invariant in
     let same : c.new-scaling.result ≡ c.args.maxval = c.new-scaling.ensures in
-    let long : length eight ≡ 8 = c.upper.ensures.size in
+    let long : length eight ≡ 8 = c.upper_bytes.ensures.size in
     let room : 8 * n + 8 ≤ length part = omega (arith, inv.size) in
     record {
       size = length-put_chunk (8 * n) part eight ∙ inv.size;
@@ -36,7 +36,7 @@ loop-n-preserved c =
             let place : 8 * n + j ≡ x = omega (arith, high) in
             ap (slice_index (put_chunk (8 * n) part eight)) (sym place)
             ∙ (get_or-put_chunk_at (8 * n) part eight j 0 (omega (arith, few, long)) (omega (arith, room, long))
-            ∙ (c.upper.ensures.each j few
+            ∙ (c.upper_bytes.ensures.each j few
             ∙ ap (λ (v : ℕ). v / 256) (c.scaled-samples.ensures.each j few
             ∙ (ap (λ (v : ℕ). v * 65535 / c.new-scaling.result) (c.numbers_at.ensures.each j few ∙ word_at bytes n x high)
             ∙ ap (λ (m : ℕ). (256 * slice_index bytes (2 * x) + slice_index bytes (2 * x + 1)) * 65535 / m) same))))

@@ -2,6 +2,7 @@ use Rattle.world_contract.proofs.Calls.{asked_true}
 use Rattle.world_contract.proofs.Clear.{clears_by}
 use Rattle.world_contract.proofs.Led.{led_then}
 use Rattle.world_contract.proofs.Over.{cancel_ends, move_lowers, moves_fall, other_jobs_stay, over_stays}
+use Rattle.world_contract.proofs.Starved.{starved_stays}
 use Rattle.world_contract.proofs.moments.Delivered.{page_stays, starts_on_first}
 use Rattle.world_contract.proofs.moments.Holder.{one_holder}
 use Rattle.world_contract.proofs.moments.ImageLost.{image_loss_ends}
@@ -18,6 +19,7 @@ returns g c =
       led = λ h l. led_then h c.args.events.items _ _ l loads c.run.ensures;
       over = over_stays c.args.events.items _ _ c.run.ensures;
       others = other_jobs_stay c.args.events.items _ _ c.run.ensures;
+      starved = starved_stays c.args.events.items _ _ c.run.ensures;
       moves = moves_fall c.args.events.items _ _ c.run.ensures;
       lowers = move_lowers c.args.events.items _ _ c.run.ensures;
       cancel = cancel_ends c.args.events.items _ _ c.run.ensures;

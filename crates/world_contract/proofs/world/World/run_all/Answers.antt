@@ -2,6 +2,7 @@ use Rattle.scan_world.specs.Rounds.{all_made}
 use Rattle.world_contract.proofs.Calls.{ran_out}
 use Rattle.world_contract.proofs.Clear.{clears_up, shares_clear}
 use Rattle.world_contract.proofs.Over.{over_stays}
+use Rattle.world_contract.proofs.Starved.{starved_stays}
 use Rattle.world_contract.proofs.moments.Holder.{one_holder}
 use Rattle.world_contract.proofs.world.World.run_all.Goals as goal
 
@@ -11,5 +12,6 @@ returns g c = record {
   clear = clears_up c.what_stands_below.ensures _ _ c.run_all.ensures;
   shared = shares_clear c.what_stands_below.ensures _ _ c.run_all.ensures;
   over = over_stays (all_made c.run_all.ensures.rounds) _ _ c.run_all.ensures.events;
+  starved = starved_stays (all_made c.run_all.ensures.rounds) _ _ c.run_all.ensures.events;
   one_holder = λ h l. one_holder c.what_stands_below.ensures.kept _ _ (ran_out c.what_stands_below.ensures _ _ c.run_all.ensures h l).led;
 }
