@@ -36,6 +36,14 @@ struct Newcomer {
     is_his: bool,
 }
 
+/// The first of the connections that waited, and whether no more did: who comes while the table is read is taken in the next
+/// turn, so that a stranger who dials without end costs one reading a turn.
+#[derive(Drop)]
+struct Newcomers {
+    made: Vec<Newcomer>,
+    are_all: bool,
+}
+
 /// Marks the newcomers whose end is that user's, by the table as it now is.
 fn mark_those_of<F: FileExt + Drop>(
     alloc: Global,
@@ -95,23 +103,29 @@ impl DataPort {
     }
 
     /// Takes the first of the connections that wait.
-    fn newcomers(&self, alloc: Global) -> Vec<Newcomer> {
-        let mut newcomers = Vec::new(alloc);
+    fn newcomers(&self, alloc: Global) -> Newcomers {
+        let mut made = Vec::new(alloc);
+        let mut are_all = false;
         for _ in 0..MOST_AT_ONCE {
             // The room comes first, so that nobody is lost who could not be kept.
-            if newcomers.try_reserve(1).is_err() {
-                return newcomers;
+            if made.try_reserve(1).is_err() {
+                break;
             }
-            let Ok((stream, SocketAddr::V4(peer))) = self.listener.accept() else {
-                return newcomers;
+            let (stream, peer) = match self.listener.accept() {
+                Ok((stream, SocketAddr::V4(peer))) => (stream, peer),
+                Ok(_) => break,
+                Err(e) => {
+                    are_all = is_for_now(&e);
+                    break;
+                }
             };
-            let _ = newcomers.push(Newcomer {
+            let _ = made.push(Newcomer {
                 stream,
                 peer,
                 is_his: false,
             });
         }
-        newcomers
+        Newcomers { made, are_all }
     }
 
     /// Keeps those of the newcomers that are the session's user's, and where he is not known all of them; the others are closed.
@@ -134,14 +148,17 @@ impl DataPort {
         }
         let ours = SocketAddrV4::new(Ipv4Addr::LOCALHOST, self.port);
         for _ in 0..MOST_READINGS {
-            let mut newcomers = self.newcomers(alloc);
-            if newcomers.is_empty() {
+            let Newcomers { mut made, are_all } = self.newcomers(alloc);
+            if made.is_empty() {
                 return;
             }
             if let Some(user) = self.owner {
-                mark_those_of(alloc, user, ours, sockets, newcomers.as_mut_slice());
+                mark_those_of(alloc, user, ours, sockets, made.as_mut_slice());
             }
-            self.admit(newcomers);
+            self.admit(made);
+            if are_all {
+                return;
+            }
         }
     }
 
