@@ -78,7 +78,7 @@ def comes(listener):
 
 
 def many_ports(tally):
-    """As many frames at once as there are seats, dialled from the last to the first: each has its own device's picture."""
+    """As many frames at once as there are slots, dialled from the last to the first: each has its own device's picture."""
     config = "".join(f"flatbed {it} 26 {page('P5 1 1 255', bytes([it + 1]))}\n" for it in range(SEATS))
     with Daemon(config) as daemon:
         controls = [session(daemon.port, f"flatbed:{it}", wire.PIXEL, len(wire.PIXEL_REPLIES)) for it in range(SEATS)]

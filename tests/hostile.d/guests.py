@@ -1,5 +1,5 @@
 """Clients that say nothing, speak slowly, never read, open the data connection late, twice or never, or are strangers to it;
-more clients than there are seats; a daemon that is stopped and goes on."""
+more clients than there are slots; a daemon that is stopped and goes on."""
 import socket
 import time
 

@@ -15,15 +15,15 @@ use Rattle.client_replies.specs.declared.progress.Progress.{Progress}
 use Rattle.client_replies.specs.declared.progress.Progress.TheVariants as stages
 use Rattle.client_replies.specs.declared.progress.Notes.{Notes}
 use Rattle.client_replies.specs.Asking.{request_for, goodbye, farewell}
-use Rattle.system_model.specs.Client as rules
+use Rattle.system_model.specs.Client as model
 use Rattle.client_refines.specs.ClientRefinement.{task_of, descs, WaitsAs, SetIsKnown, GetIsKnown, IsApt}
 use Rattle.client_refines.specs.RequestRefinement.{IsGet, IsSet, asks_of, RequestsAreAlike, AsksAlike, AreRequests, AsksAt}
 
-at_running : (target : JobTarget) (word : ℕ) (progress : Progress) (m : rules.ClientView) (g : rules.AbstractProgress) → m.stage ≡ rules.Running g
-    → AsksAt target word m.known progress (request_for target word progress) (rules.request_awaited g) → AreRequests target (farewell word progress) (asks_of word m.known (rules.abstract_farewell (rules.Running g))) → AsksAlike target word progress m
+at_running : (target : JobTarget) (word : ℕ) (progress : Progress) (m : model.ClientView) (g : model.AbstractProgress) → m.stage ≡ model.Running g
+    → AsksAt target word m.known progress (request_for target word progress) (model.request_awaited g) → AreRequests target (farewell word progress) (asks_of word m.known (model.abstract_farewell (model.Running g))) → AsksAlike target word progress m
 at_running target word progress m g e a b = record {
-  requests = subst (λ (s : rules.JobStage). AsksAt target word m.known progress (request_for target word progress) (rules.requests_sent (task_of target.task) s)) (sym e) a;
-  farewells = subst (λ (s : rules.JobStage). AreRequests target (farewell word progress) (asks_of word m.known (rules.abstract_farewell s))) (sym e) b;
+  requests = subst (λ (s : model.JobStage). AsksAt target word m.known progress (request_for target word progress) (model.requests_sent (task_of target.task) s)) (sym e) a;
+  farewells = subst (λ (s : model.JobStage). AreRequests target (farewell word progress) (asks_of word m.known (model.abstract_farewell s))) (sym e) b;
 }
 
 -- an option of the client's is one of the descriptors
@@ -54,7 +54,7 @@ is_set word known options n kind value k p = record {
   value_is = refl;
 }
 
-pub asks_alike : (target : JobTarget) (job : rules.AbstractJob) (progress : Progress) (notes : Notes) (past : JoinHistory) (m : rules.ClientView) → WaitsAs job progress notes past m → IsApt target progress notes → m.known ≡ descs notes.known
+pub asks_alike : (target : JobTarget) (job : model.AbstractJob) (progress : Progress) (notes : Notes) (past : JoinHistory) (m : model.ClientView) → WaitsAs job progress notes past m → IsApt target progress notes → m.known ≡ descs notes.known
     → AsksAlike target notes.word progress m
 asks_alike target job stages.Greeting notes past m w a k = at_running target notes.word stages.Greeting m _ w.0 ((refl, refl), tt) (tt, tt)
 asks_alike target job stages.Listing notes past m w a k = at_running target notes.word stages.Listing m _ w.0 (tt, tt) (tt, tt)
@@ -70,14 +70,14 @@ asks_alike target job (stages.Imaging port made) notes past m w a k = at_running
 asks_alike target job stages.Turning notes past m w a k = at_running target notes.word stages.Turning m _ w.0 (refl, refl) (tt, tt)
 asks_alike target job stages.Over notes past m w a k = absurd w
 
-goodbyes_by : (target : JobTarget) (task : Task) (word : ℕ) (known : List Descriptor) → AreRequests target (goodbye task word) (asks_of word known (rules.abstract_goodbye (task_of task)))
+goodbyes_by : (target : JobTarget) (task : Task) (word : ℕ) (known : List Descriptor) → AreRequests target (goodbye task word) (asks_of word known (model.abstract_goodbye (task_of task)))
 goodbyes_by target tasks.List word known = (tt, tt)
 goodbyes_by target tasks.Show word known = (refl, (tt, tt))
 goodbyes_by target tasks.SetOnly word known = (refl, (tt, tt))
 goodbyes_by target tasks.Scan word known = (refl, (tt, tt))
 goodbyes_by target (tasks.Batch count) word known = (refl, (tt, tt))
 
-pub goodbyes_alike : (target : JobTarget) (word : ℕ) (known : List Descriptor) → AreRequests target (goodbye target.task word) (asks_of word known (rules.abstract_goodbye (task_of target.task)))
+pub goodbyes_alike : (target : JobTarget) (word : ℕ) (known : List Descriptor) → AreRequests target (goodbye target.task word) (asks_of word known (model.abstract_goodbye (task_of target.task)))
 goodbyes_alike target word known = goodbyes_by target target.task word known
 
 pub requests_alike : RequestsAreAlike

@@ -15,7 +15,7 @@ use Rattle.client_replies.specs.declared.progress.Notes.{Notes}
 use Rattle.client_replies.specs.Asking.{request_for}
 use Rattle.client_replies.specs.ProtocolStates.{ProtocolState, shows, progress_connected}
 use Rattle.system_model.specs.AbstractMessages as words
-use Rattle.system_model.specs.Client as rules
+use Rattle.system_model.specs.Client as model
 use Rattle.system_model.specs.ClientReplies.{stage_after_stop, client_after_stop}
 use Rattle.system_model.specs.Devices.{abstract_status}
 use Rattle.client_refines.specs.DecodedReplies.{why_of}
@@ -32,7 +32,7 @@ begins_alike place target job settings e = record {
 -- ---- ends
 
 -- what a client waits for is waited for
-pub runs : (job : rules.AbstractJob) (progress : Progress) (notes : Notes) (past : JoinHistory) (m : rules.ClientView) → WaitsAs job progress notes past m → (g : rules.AbstractProgress) × (m.stage ≡ rules.Running g)
+pub runs : (job : model.AbstractJob) (progress : Progress) (notes : Notes) (past : JoinHistory) (m : model.ClientView) → WaitsAs job progress notes past m → (g : model.AbstractProgress) × (m.stage ≡ model.Running g)
 runs job stages.Greeting notes past m w = (_, w.0)
 runs job stages.Listing notes past m w = (_, w.0)
 runs job stages.Opening notes past m w = (_, w.0)
@@ -47,25 +47,25 @@ runs job (stages.Imaging port made) notes past m w = (_, w.stage)
 runs job stages.Turning notes past m w = (_, w.0)
 runs job stages.Over notes past m w = absurd w
 
-same_shown : (b : Bool) (options : List (Descriptor × Option Value)) (m : rules.ClientView) (s : rules.JobStage) → ShowRefines b options m → ShowRefines b options (record m { stage = s })
+same_shown : (b : Bool) (options : List (Descriptor × Option Value)) (m : model.ClientView) (s : model.JobStage) → ShowRefines b options m → ShowRefines b options (record m { stage = s })
 same_shown true options m s e = e
 same_shown false options m s e = tt
 
-stops_by : (place : DeviceInfo → ℕ) (target : JobTarget) (job : rules.AbstractJob) (pages : List (List Frame)) (protocol : ProtocolState) (m : rules.ClientView) (status : Status) (why : Why) (w : words.Why) (o : Outcome) → protocol.outcome ≡ o
+stops_by : (place : DeviceInfo → ℕ) (target : JobTarget) (job : model.AbstractJob) (pages : List (List Frame)) (protocol : ProtocolState) (m : model.ClientView) (status : Status) (why : Why) (w : words.Why) (o : Outcome) → protocol.outcome ≡ o
     → why_of why ≡ Some w → Files pages protocol.history m.frames m.pages → OutcomeRefines place target job pages o protocol.progress protocol.notes protocol.history m
     → ClientRefines place target job pages (stopped_by status why protocol o) (client_after_stop (abstract_status status) w m)
 stops_by place target job pages protocol m status why w Running o e f s =
     let g = runs job protocol.progress protocol.notes protocol.history m s.1 in
-    record { files = record { part = f.part; all = f.all }; stands = (w, (e, ap (λ (y : rules.JobStage). stage_after_stop (abstract_status status) w y) g.1)) }
+    record { files = record { part = f.part; all = f.all }; stands = (w, (e, ap (λ (y : model.JobStage). stage_after_stop (abstract_status status) w y) g.1)) }
 stops_by place target job pages protocol m status why w (Done reports) o e f s = record {
   files = record { part = f.part; all = f.all };
   stands = subst (λ (y : Outcome). OutcomeRefines place target job pages y protocol.progress protocol.notes protocol.history (client_after_stop (abstract_status status) w m)) (sym o)
-      (record { stage = ap (λ (y : rules.JobStage). stage_after_stop (abstract_status status) w y) s.stage; settings = s.settings; devices = s.devices; options = same_shown (shows target.task) reports.options m _ s.options });
+      (record { stage = ap (λ (y : model.JobStage). stage_after_stop (abstract_status status) w y) s.stage; settings = s.settings; devices = s.devices; options = same_shown (shows target.task) reports.options m _ s.options });
 }
 stops_by place target job pages protocol m status why w (Ended earlier reason) o e f s = record {
   files = record { part = f.part; all = f.all };
   stands = subst (λ (y : Outcome). OutcomeRefines place target job pages y protocol.progress protocol.notes protocol.history (client_after_stop (abstract_status status) w m)) (sym o)
-      (s.0, (s.1.0, ap (λ (y : rules.JobStage). stage_after_stop (abstract_status status) w y) s.1.1));
+      (s.0, (s.1.0, ap (λ (y : model.JobStage). stage_after_stop (abstract_status status) w y) s.1.1));
 }
 
 pub stops_alike : JobsStopAlike
@@ -73,11 +73,11 @@ stops_alike place target job pages protocol m status why w e r = stops_by place 
 
 -- ---- what no rule speaks of
 
-pulled_waits : (job : rules.AbstractJob) (progress : Progress) (notes : Notes) (past : JoinHistory) (m : rules.ClientView) (bytes : List ℕ) → WaitsAs job progress notes past m → WaitsAs job progress notes (after_pull bytes past) m
+pulled_waits : (job : model.AbstractJob) (progress : Progress) (notes : Notes) (past : JoinHistory) (m : model.ClientView) (bytes : List ℕ) → WaitsAs job progress notes past m → WaitsAs job progress notes (after_pull bytes past) m
 pulled_waits job (stages.Imaging port made) notes past m bytes w = record { params = w.params; payload = w.payload; stage = w.stage; under = w.under; accepted = w.accepted; part = w.part }
 pulled_waits job progress notes past m bytes w = w
 
-linked_waits : (job : rules.AbstractJob) (progress : Progress) (notes : Notes) (past : JoinHistory) (m : rules.ClientView) → WaitsAs job progress notes past m → WaitsAs job (progress_connected progress) notes past m
+linked_waits : (job : model.AbstractJob) (progress : Progress) (notes : Notes) (past : JoinHistory) (m : model.ClientView) → WaitsAs job progress notes past m → WaitsAs job (progress_connected progress) notes past m
 linked_waits job (stages.Imaging port true) notes past m w = w
 linked_waits job (stages.Imaging port false) notes past m w = w
 linked_waits job progress notes past m w = w
@@ -87,7 +87,7 @@ linked_apt target (stages.Imaging port true) notes a = tt
 linked_apt target (stages.Imaging port false) notes a = tt
 linked_apt target progress notes a = a
 
-pulled_stands : (place : DeviceInfo → ℕ) (target : JobTarget) (job : rules.AbstractJob) (pages : List (List Frame)) (o : Outcome) (progress : Progress) (notes : Notes) (past : JoinHistory) (m : rules.ClientView) (bytes : List ℕ)
+pulled_stands : (place : DeviceInfo → ℕ) (target : JobTarget) (job : model.AbstractJob) (pages : List (List Frame)) (o : Outcome) (progress : Progress) (notes : Notes) (past : JoinHistory) (m : model.ClientView) (bytes : List ℕ)
     → OutcomeRefines place target job pages o progress notes past m → OutcomeRefines place target job pages o progress notes (after_pull bytes past) m × OutcomeRefines place target job pages o (progress_connected progress) notes past m
 pulled_stands place target job pages Running progress notes past m bytes s =
     ((s.0, pulled_waits job progress notes past m bytes s.1, s.2), (s.0, linked_waits job progress notes past m s.1, linked_apt target progress notes s.2))

@@ -12,21 +12,21 @@ use Rattle.client_replies.specs.declared.progress.JobTarget.{JobTarget}
 use Rattle.client_replies.specs.declared.progress.Progress.{Progress}
 use Rattle.client_replies.specs.declared.progress.Notes.{Notes}
 use Rattle.system_model.specs.AbstractMessages as words
-use Rattle.system_model.specs.Client as rules
+use Rattle.system_model.specs.Client as model
 use Rattle.system_model.specs.Devices.{abstract_status}
 use Rattle.client_refines.specs.DecodedReplies.{why_of}
 use Rattle.client_refines.specs.ClientRefinement.{OutcomeRefines, DoneAs, EndedAs}
 use Rattle.client_refines.specs.ClientLives.{EndAlike, OutcomesAreAlike}
 use Rattle.client_refines.proofs.ClientEndings.{runs}
 
-ended_so : (s : Status) (w : Why) (found status : words.Status) (named why : words.Why) → found ≡ abstract_status s → why_of w ≡ Some named → rules.Ended found named ≡ rules.Ended status why
+ended_so : (s : Status) (w : Why) (found status : words.Status) (named why : words.Why) → found ≡ abstract_status s → why_of w ≡ Some named → model.Ended found named ≡ model.Ended status why
     → (t : Status) × (v : Why) × (Ended s w ≡ Ended t v) × (abstract_status t ≡ status) × (why_of v ≡ Some why)
 ended_so s w found status named why f n e =
     let same_status : found ≡ status = cc in
     let same_why : named ≡ why = cc in
     (s, w, refl, sym f ∙ same_status, n ∙ ap (λ (y : words.Why). Some y) same_why)
 
-ends_alike : (place : DeviceInfo → ℕ) (target : JobTarget) (job : rules.AbstractJob) (pages : List (List Frame)) (o : Outcome) (progress : Progress) (notes : Notes) (past : JoinHistory) (m : rules.ClientView)
+ends_alike : (place : DeviceInfo → ℕ) (target : JobTarget) (job : model.AbstractJob) (pages : List (List Frame)) (o : Outcome) (progress : Progress) (notes : Notes) (past : JoinHistory) (m : model.ClientView)
     → OutcomeRefines place target job pages o progress notes past m → EndAlike place target.task o m
 ends_alike place target job pages Running progress notes past m s =
     let g = runs job progress notes past m s.1 in
@@ -35,16 +35,16 @@ ends_alike place target job pages Running progress notes past m s =
       done = λ reports e. absurd (let clash : Running ≡ Done reports = e in cc);
       ended = λ status why e. absurd (let clash : Running ≡ Ended status why = e in cc);
       runs_by = λ p e. refl;
-      done_by = λ e. absurd (let clash : rules.Running g.0 ≡ rules.Done = sym g.1 ∙ e in cc);
-      ended_by = λ status why e. absurd (let clash : rules.Running g.0 ≡ rules.Ended status why = sym g.1 ∙ e in cc);
+      done_by = λ e. absurd (let clash : model.Running g.0 ≡ model.Done = sym g.1 ∙ e in cc);
+      ended_by = λ status why e. absurd (let clash : model.Running g.0 ≡ model.Ended status why = sym g.1 ∙ e in cc);
     }
 ends_alike place target job pages (Done reports) progress notes past m s = record {
   runs = λ e. absurd (let clash : Done reports ≡ Running = e in cc);
   done = λ found e. let same : reports ≡ found = cc in subst (λ (r : Reports). DoneAs place target.task r m) same s;
   ended = λ status why e. absurd (let clash : Done reports ≡ Ended status why = e in cc);
-  runs_by = λ p e. absurd (let clash : rules.Done ≡ rules.Running p = sym s.stage ∙ e in cc);
+  runs_by = λ p e. absurd (let clash : model.Done ≡ model.Running p = sym s.stage ∙ e in cc);
   done_by = λ e. (reports, refl);
-  ended_by = λ status why e. absurd (let clash : rules.Done ≡ rules.Ended status why = sym s.stage ∙ e in cc);
+  ended_by = λ status why e. absurd (let clash : model.Done ≡ model.Ended status why = sym s.stage ∙ e in cc);
 }
 ends_alike place target job pages (Ended status why) progress notes past m s = record {
   runs = λ e. absurd (let clash : Ended status why ≡ Running = e in cc);
@@ -53,8 +53,8 @@ ends_alike place target job pages (Ended status why) progress notes past m s = r
       let same_status : status ≡ found = cc in
       let same_why : why ≡ reason = cc in
       subst (λ (x : Status). EndedAs x reason m) same_status (subst (λ (x : Why). EndedAs status x m) same_why s);
-  runs_by = λ p e. absurd (let clash : rules.Ended (abstract_status status) s.0 ≡ rules.Running p = sym s.1.1 ∙ e in cc);
-  done_by = λ e. absurd (let clash : rules.Ended (abstract_status status) s.0 ≡ rules.Done = sym s.1.1 ∙ e in cc);
+  runs_by = λ p e. absurd (let clash : model.Ended (abstract_status status) s.0 ≡ model.Running p = sym s.1.1 ∙ e in cc);
+  done_by = λ e. absurd (let clash : model.Ended (abstract_status status) s.0 ≡ model.Done = sym s.1.1 ∙ e in cc);
   ended_by = λ found reason e. ended_so status why (abstract_status status) found s.0 reason refl s.1.0 (sym s.1.1 ∙ e);
 }
 

@@ -25,7 +25,7 @@ use Rattle.client_replies.specs.ReplyTurns.{turn, page_whole, frame_joined, fram
 use Rattle.client_replies.specs.ProtocolStates.{ProtocolState, protocol_after_turn, scans, is_batch, suits, FitsAt, protocol_of_next_page}
 use Rattle.scan_job.specs.JobSize.{HasCount}
 use Rattle.system_model.specs.AbstractMessages as words
-use Rattle.system_model.specs.Client as rules
+use Rattle.system_model.specs.Client as model
 use Rattle.system_model.specs.ClientReplies.{client_after_bytes, reads_on, finish_in, end_frame, close_frame, close_page, after_page}
 use Rattle.system_model.specs.Devices.{abstract_status, frame_overflows, frame_fills}
 use Rattle.client_refines.specs.ClientRefinement.{task_of, IsApt, parts, wholes, Files, is_nil, KnowsAs, FrameIsShared, WaitsAs, OutcomeRefines, ClientRefines}
@@ -34,7 +34,7 @@ use Rattle.client_refines.proofs.Sides.{Side, onto, Goes, FilesAs, ends, part_is
 use Rattle.client_replies.specs.declared.progress.JobTarget.{JobTarget}
 use Rattle.client_refines.proofs.Apt.{end_later, later_apt}
 
-running_as : (place : DeviceInfo → ℕ) (target : JobTarget) (job : rules.AbstractJob) (pages : List (List Frame)) (protocol : ProtocolState) (m : rules.ClientView) (progress : Progress) → protocol.outcome ≡ Running → protocol.progress ≡ progress
+running_as : (place : DeviceInfo → ℕ) (target : JobTarget) (job : model.AbstractJob) (pages : List (List Frame)) (protocol : ProtocolState) (m : model.ClientView) (progress : Progress) → protocol.outcome ≡ Running → protocol.progress ≡ progress
     → ClientRefines place target job pages protocol m → KnowsAs target.task pages protocol.notes m × WaitsAs job progress protocol.notes protocol.history m × IsApt target progress protocol.notes
 running_as place target job pages protocol m progress o p r =
     subst (λ (y : Progress). KnowsAs target.task pages protocol.notes m × WaitsAs job y protocol.notes protocol.history m × IsApt target y protocol.notes) p
@@ -56,7 +56,7 @@ overflows_is : (params : Params) (heard bytes : List ℕ) → frame_overflows pa
 unfolding frame_overflows
 overflows_is params heard bytes = ap (λ (n : ℕ). nat_lt (most_bytes params) n) (length-append heard bytes)
 
-takes : (place : DeviceInfo → ℕ) (target : JobTarget) (job : rules.AbstractJob) (pages : List (List Frame)) (protocol : ProtocolState) (m : rules.ClientView) (bytes : List ℕ) (port : ℕ) (made b : Bool) (i : FrameIsShared protocol.history m)
+takes : (place : DeviceInfo → ℕ) (target : JobTarget) (job : model.AbstractJob) (pages : List (List Frame)) (protocol : ProtocolState) (m : model.ClientView) (bytes : List ℕ) (port : ℕ) (made b : Bool) (i : FrameIsShared protocol.history m)
     → protocol.outcome ≡ Running → protocol.progress ≡ stages.Imaging port made → protocol.history.fault ≡ None → Files pages protocol.history m.frames m.pages → KnowsAs target.task pages protocol.notes m
     → (past : JoinHistory) → past ≡ (if b then with_fault faults.Long protocol.history else record protocol.history { under = Some (record { params = i.params; order = m.order; payload = i.payload ++ bytes }) })
     → ClientRefines place target job pages (protocol_after_bytes_by target.task protocol past past.fault) (record m { stage = reads_on b i.params (i.payload ++ bytes) })
@@ -83,7 +83,7 @@ bytes_alike place target job pages protocol m bytes image o fits r =
     let i : FrameIsShared protocol.history m = s.1 in
     let at_image : FitsAt (stages.Imaging image.0 image.1.0) protocol.history = subst (λ (y : Progress). FitsAt y protocol.history) image.1.1 fits.1 in
     let b : Bool = nat_lt (most_bytes i.params) (length i.payload + length bytes) in
-    subst (λ (y : rules.JobStage). ClientRefines place target job pages (protocol_after_bytes target.task protocol bytes) (client_after_bytes y m bytes)) (sym i.stage)
+    subst (λ (y : model.JobStage). ClientRefines place target job pages (protocol_after_bytes target.task protocol bytes) (client_after_bytes y m bytes)) (sym i.stage)
     (subst (λ (t : Bool). ClientRefines place target job pages (protocol_after_bytes target.task protocol bytes) (record m { stage = reads_on t i.params (i.payload ++ bytes) })) (sym (overflows_is i.params i.payload bytes))
     (takes place target job pages protocol m bytes image.0 image.1.0 b i o image.1.1 at_image.0 r.files s.0 (after_feed bytes false protocol.history)
     (feeds protocol.history (record { params = i.params; order = m.order; payload = i.payload }) bytes b at_image.0 i.under refl)))
@@ -125,7 +125,7 @@ further_by : (p count : ℕ) (b : Bool) → nat_lt (suc p) count ≡ b → b ≡
 further_by p count true e = let l = ltb-true (suc p) count e in sym (lt-ltb p (count - 1) (omega arith))
 further_by p count false e = let l = ltb-false (suc p) count e in sym (le-ltb p (count - 1) (omega arith))
 
-batch_ends : (x : Side) (count : ℕ) (notes : Notes) (m : rules.ClientView) (b : Bool) → HasCount (tasks.Batch count) → nat_lt notes.file count ≡ b → FilesAs x m → KnowsAs (tasks.Batch count) x.pages notes m
+batch_ends : (x : Side) (count : ℕ) (notes : Notes) (m : model.ClientView) (b : Bool) → HasCount (tasks.Batch count) → nat_lt notes.file count ≡ b → FilesAs x m → KnowsAs (tasks.Batch count) x.pages notes m
     → Goes x (tasks.Batch count) (turn notes (if b then Wait stages.Turning else Finish [])) (record m { stage = after_page b })
 batch_ends x count notes m true h e f k =
     let l = ltb-true notes.file count e in
@@ -133,8 +133,8 @@ batch_ends x count notes m true h e f k =
     (f, (k, (refl, lt-ltb notes.file 4294967295 (omega arith))))
 batch_ends x count notes m false h e f k = (f, record { stage = refl; settings = k.answers; devices = k.none; options = tt })
 
-page_ends : (x : Side) (task : Task) (notes : Notes) (m : rules.ClientView) (p : ℕ) → HasCount task → scans task ≡ true → notes.file ≡ suc p → FilesAs x m → KnowsAs task x.pages notes m
-    → Goes x task (turn notes (page_whole task notes.file)) (record m { stage = after_page (ltb p (rules.further_pages (task_of task))) })
+page_ends : (x : Side) (task : Task) (notes : Notes) (m : model.ClientView) (p : ℕ) → HasCount task → scans task ≡ true → notes.file ≡ suc p → FilesAs x m → KnowsAs task x.pages notes m
+    → Goes x task (turn notes (page_whole task notes.file)) (record m { stage = after_page (ltb p (model.further_pages (task_of task))) })
 page_ends x tasks.List notes m p h s n f k = absurd (let clash : false ≡ true = s in cc)
 page_ends x tasks.Show notes m p h s n f k = absurd (let clash : false ≡ true = s in cc)
 page_ends x tasks.SetOnly notes m p h s n f k = absurd (let clash : false ≡ true = s in cc)
@@ -147,13 +147,13 @@ page_ends x (tasks.Batch count) notes m p h s n f k =
     (batch_ends x count notes m (nat_lt notes.file count) h refl f k)
 
 -- the frame has all its bytes, and the picture is whole or not
-frame_ends : (x : Side) (task : Task) (notes : Notes) (m : rules.ClientView) (f : Frame) (last : Bool) (past : JoinHistory) → x.job.task ≡ task_of task → HasCount task → scans task ≡ true → is_joined x.history.ended ≡ false
+frame_ends : (x : Side) (task : Task) (notes : Notes) (m : model.ClientView) (f : Frame) (last : Bool) (past : JoinHistory) → x.job.task ≡ task_of task → HasCount task → scans task ≡ true → is_joined x.history.ended ≡ false
     → past.ended ≡ x.history.ended ++ f ∷ [] → is_joined (x.history.ended ++ f ∷ []) ≡ last → FilesAs x m → KnowsAs task x.pages notes m
     → Goes (onto x past) task (turn notes (frame_joined task notes.file (Ok last))) (close_page last x.job.task f m)
 frame_ends x task notes m f true past t h s j e l files k =
     let pages : m.pages ≡ x.pages = pages_are x m j files in
     let number : notes.file ≡ suc (length m.pages) = k.number ∙ ap (λ (ps : List (List Frame)). suc (length ps)) (sym pages) in
-    subst (λ (y : rules.Task). Goes (onto x past) task (turn notes (page_whole task notes.file)) (record m { stage = after_page (ltb (length m.pages) (rules.further_pages y)); frames = []; pages = m.pages ++ (m.frames ++ f ∷ []) ∷ [] })) (sym t)
+    subst (λ (y : model.Task). Goes (onto x past) task (turn notes (page_whole task notes.file)) (record m { stage = after_page (ltb (length m.pages) (model.further_pages y)); frames = []; pages = m.pages ++ (m.frames ++ f ∷ []) ∷ [] })) (sym t)
     (page_ends (onto x past) task notes (record m { frames = []; pages = m.pages ++ (m.frames ++ f ∷ []) ∷ [] }) (length m.pages) h s number
     (record {
       part = sym (ap (λ (fs : List Frame). parts fs) e ∙ ap (λ (b : Bool). if b then [] else x.history.ended ++ f ∷ []) l);
@@ -180,11 +180,11 @@ fills_is : (params : Params) (order : ByteOrder) (payload : List ℕ) → frame_
 unfolding frame_fills
 fills_is params order payload = refl
 
-closes_by : (x : Side) (task : Task) (notes : Notes) (m : rules.ClientView) (i : FrameIsShared x.history m) (b : Bool) (past : JoinHistory) → x.job.task ≡ task_of task → HasCount task → scans task ≡ true → x.history.fault ≡ None
+closes_by : (x : Side) (task : Task) (notes : Notes) (m : model.ClientView) (i : FrameIsShared x.history m) (b : Bool) (past : JoinHistory) → x.job.task ≡ task_of task → HasCount task → scans task ≡ true → x.history.fault ≡ None
     → past ≡ (if b then record x.history { ended = x.history.ended ++ record { params = i.params; order = m.order; payload = i.payload } ∷ []; under = None } else with_fault faults.Short x.history) → FilesAs x m → KnowsAs task x.pages notes m
     → Goes (onto x past) task (turn notes (frame_joined task notes.file (answer_of_end past))) (close_frame b x.job.task i.params i.payload m)
 closes_by x task notes m i false past t h s c e f k =
-    subst (λ (y : JoinHistory). Goes (onto x y) task (turn notes (frame_joined task notes.file (answer_of_end y))) (rules.with_ending words.IoError words.Short m)) (sym e)
+    subst (λ (y : JoinHistory). Goes (onto x y) task (turn notes (frame_joined task notes.file (answer_of_end y))) (model.with_ending words.IoError words.Short m)) (sym e)
     (record { part = f.part; all = f.all }, (words.Short, (refl, refl)))
 closes_by x task notes m i true past t h s c e f k =
     let g : Frame = record { params = i.params; order = m.order; payload = i.payload } in
@@ -195,10 +195,10 @@ closes_by x task notes m i true past t h s c e f k =
     (sym (ap (λ (o : Option JoinFault). answer_by o None (x.history.ended ++ g ∷ [])) c ∙ ap (λ (b : Bool). Ok b) l))
     (frame_ends x task notes m g i.params.last_frame whole t h s i.part refl l f k))
 
-stays : (x : Side) (m : rules.ClientView) → FilesAs x m → FilesAs (onto x x.history) m
+stays : (x : Side) (m : model.ClientView) → FilesAs x m → FilesAs (onto x x.history) m
 stays x m f = record { part = f.part; all = f.all }
 
-ends_by : (x : Side) (task : Task) (notes : Notes) (m : rules.ClientView) (i : FrameIsShared x.history m) (status : Status) → x.job.task ≡ task_of task → HasCount task → scans task ≡ true → x.history.fault ≡ None → FilesAs x m → KnowsAs task x.pages notes m
+ends_by : (x : Side) (task : Task) (notes : Notes) (m : model.ClientView) (i : FrameIsShared x.history m) (status : Status) → x.job.task ≡ task_of task → HasCount task → scans task ≡ true → x.history.fault ≡ None → FilesAs x m → KnowsAs task x.pages notes m
     → Goes (onto x (frame_ended_by task notes.file x.history (Some status)).history) task (turn notes (frame_ended_by task notes.file x.history (Some status)).next) (end_frame (abstract_status status) x.job.task i.params i.payload m)
 ends_by x task notes m i statuses.Eof t h s c f k =
     subst (λ (b : Bool). Goes (onto x (after_end x.history)) task (turn notes (frame_joined task notes.file (answer_of_end (after_end x.history)))) (close_frame b x.job.task i.params i.payload m)) (sym (fills_is i.params m.order i.payload))
@@ -224,7 +224,7 @@ ends_alike place target job pages protocol m n status t h e image o fits r =
     let at_image : FitsAt (stages.Imaging image.0 image.1.0) protocol.history = subst (λ (y : Progress). FitsAt y protocol.history) image.1.1 fits.1 in
     let scan : suits target.task (stages.Imaging image.0 image.1.0) ≡ true = subst (λ (y : Progress). suits target.task y ≡ true) image.1.1 fits.0 in
     subst (λ (y : Option Status). ClientRefines place target job pages (protocol_after_turn target.task (turn protocol.notes (frame_ended_by target.task protocol.notes.file protocol.history y).next) (frame_ended_by target.task protocol.notes.file protocol.history y).history) (finish_in m.stage job.task m (abstract_status status))) (sym e)
-    (subst (λ (y : rules.JobStage). ClientRefines place target job pages (protocol_after_turn target.task (turn protocol.notes (frame_ended_by target.task protocol.notes.file protocol.history (Some status)).next) (frame_ended_by target.task protocol.notes.file protocol.history (Some status)).history) (finish_in y job.task m (abstract_status status))) (sym i.stage)
+    (subst (λ (y : model.JobStage). ClientRefines place target job pages (protocol_after_turn target.task (turn protocol.notes (frame_ended_by target.task protocol.notes.file protocol.history (Some status)).next) (frame_ended_by target.task protocol.notes.file protocol.history (Some status)).history) (finish_in y job.task m (abstract_status status))) (sym i.stage)
     (settled_reads (onto x (frame_ended_by target.task protocol.notes.file protocol.history (Some status)).history) target (turn protocol.notes (frame_ended_by target.task protocol.notes.file protocol.history (Some status)).next) _
     (ends_by x target.task protocol.notes m i status t h scan at_image.0 r.files s.0)
     (later_apt target (frame_ended_by target.task protocol.notes.file protocol.history (Some status)).next protocol.notes (end_later target protocol.notes target.task protocol.notes.file protocol.history (Some status)))))

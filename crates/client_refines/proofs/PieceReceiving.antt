@@ -29,7 +29,7 @@ use Rattle.scan_job.specs.JobSize.{HasCount}
 use Rattle.net_client.specs.FramePieces.{TakesBytes, TakesFrameEnd, FailsAtBytes}
 use Rattle.net_client.proofs.Ending.{ended_gives_by}
 use Rattle.system_model.specs.AbstractMessages as words
-use Rattle.system_model.specs.Client as rules
+use Rattle.system_model.specs.Client as model
 use Rattle.system_model.specs.ClientReplies.{client_after_bytes, finish_in, client_after_stop}
 use Rattle.system_model.specs.Devices.{abstract_status}
 use Rattle.client_refines.specs.ClientRefinement.{task_of, parts, wholes, OutcomeRefines, ClientRefines}
@@ -108,7 +108,7 @@ at old past e s =
     record { running = r.0; port = r.1.0; made = r.1.1.0; progress = r.1.1.1; fits = f; calm = w.0 }
 
 -- so many bytes more, within what the frame may have
-takes : (place : DeviceInfo → ℕ) (job : rules.AbstractJob) (pages : List (List Frame)) (old : ClientState) (past : JoinHistory) (f : Frame) (bytes : List ℕ) (m : rules.ClientView) → At old past → past.under ≡ Some f
+takes : (place : DeviceInfo → ℕ) (job : model.AbstractJob) (pages : List (List Frame)) (old : ClientState) (past : JoinHistory) (f : Frame) (bytes : List ℕ) (m : model.ClientView) → At old past → past.under ≡ Some f
     → length f.payload + length bytes ≤ most_bytes f.params → ClientRefines place old.target job pages (protocol_of old past) m → ClientRefines place old.target job pages (protocol_of old (with_payload past f bytes)) (client_after_bytes m.stage m bytes)
 takes place job pages old past f bytes m a u most r =
     let h = bytes_alike place old.target job pages (protocol_of old past) m bytes (a.port, (a.made, a.progress)) a.running a.fits r in
@@ -124,7 +124,7 @@ took_short past f bytes v c s =
 
 -- ---- what comes of a piece
 
-went : (place : DeviceInfo → ℕ) (job : rules.AbstractJob) (pages : List (List Frame)) (old new : ClientState) (past : JoinHistory) (piece : List ℕ) (m : rules.ClientView) → At old past
+went : (place : DeviceInfo → ℕ) (job : model.AbstractJob) (pages : List (List Frame)) (old new : ClientState) (past : JoinHistory) (piece : List ℕ) (m : model.ClientView) → At old past
     → ClientRefines place old.target job pages (protocol_of old past) m → TakesBytes old past piece new → ReceivesPiece place job pages m old past piece new
 went place job pages old new past piece m a r g =
     let given = g.reads.given in
@@ -145,7 +145,7 @@ behind_some old new None e = absurd (cc)
 behind_some old new (Some said) e = (said, refl, sym (cc (e)))
 
 -- an end record, by its status
-closes : (place : DeviceInfo → ℕ) (job : rules.AbstractJob) (pages : List (List Frame)) (old new : ClientState) (past : JoinHistory) (n : ℕ) (sent : List ℕ) (m : rules.ClientView) (o : Option Status) → status_at n ≡ o → job.task ≡ task_of old.target.task
+closes : (place : DeviceInfo → ℕ) (job : model.AbstractJob) (pages : List (List Frame)) (old new : ClientState) (past : JoinHistory) (n : ℕ) (sent : List ℕ) (m : model.ClientView) (o : Option Status) → status_at n ≡ o → job.task ≡ task_of old.target.task
     → HasCount old.target.task → At old past → ClientRefines place old.target job pages (protocol_of old past) m → ClientRepresents (frame_ended old.target.task old.notes.file past n).history new
     → protocol_of new (frame_ended old.target.task old.notes.file past n).history ≡ protocol_after_turn old.target.task (turn old.notes (frame_ended old.target.task old.notes.file past n).next) (frame_ended old.target.task old.notes.file past n).history
     → sends old.target old.notes.word (frame_ended old.target.task old.notes.file past n).next ≡ Some sent
@@ -178,7 +178,7 @@ closes place job pages old new past n sent m (Some status) e t count a r serves 
           (settled_spells (record { place = place; job = job; pages = pages; history = end.history }) old.target end.next old.notes _ sent t (end_is_later old.target old.notes past n) h said));
     }
 
-ended : (place : DeviceInfo → ℕ) (job : rules.AbstractJob) (pages : List (List Frame)) (old new : ClientState) (past : JoinHistory) (piece : List ℕ) (m : rules.ClientView) → job.task ≡ task_of old.target.task → HasCount old.target.task → At old past
+ended : (place : DeviceInfo → ℕ) (job : model.AbstractJob) (pages : List (List Frame)) (old new : ClientState) (past : JoinHistory) (piece : List ℕ) (m : model.ClientView) → job.task ≡ task_of old.target.task → HasCount old.target.task → At old past
     → ClientRefines place old.target job pages (protocol_of old past) m → TakesFrameEnd old past piece new → ReceivesPiece place job pages m old past piece new
 ended place job pages old new past piece m t count a r g =
     let given = g.reads.reads.given in
@@ -195,7 +195,7 @@ ended place job pages old new past piece m t count a r g =
 -- ---- out of memory behind so many bytes, and too many bytes
 
 -- of a job that has ended another history of the same frames is read alike
-other_past : (place : DeviceInfo → ℕ) (target : JobTarget) (job : rules.AbstractJob) (pages : List (List Frame)) (new : ClientState) (past other : JoinHistory) (m : rules.ClientView) (status : Status) (why : Why) → new.outcome ≡ Ended status why → other.ended ≡ past.ended
+other_past : (place : DeviceInfo → ℕ) (target : JobTarget) (job : model.AbstractJob) (pages : List (List Frame)) (new : ClientState) (past other : JoinHistory) (m : model.ClientView) (status : Status) (why : Why) → new.outcome ≡ Ended status why → other.ended ≡ past.ended
     → ClientRefines place target job pages (protocol_of new past) m → ClientRefines place target job pages (protocol_of new other) m
 other_past place target job pages new past other m status why n e r = record {
   files = record {
@@ -207,7 +207,7 @@ other_past place target job pages new past other m status why n e r = record {
       (subst (λ (y : Outcome). OutcomeRefines place target job pages y new.progress new.notes past m) n r.stands);
 }
 
-starved : (place : DeviceInfo → ℕ) (job : rules.AbstractJob) (pages : List (List Frame)) (old new : ClientState) (past now : JoinHistory) (piece : List ℕ) (f : Frame) (given more : List ℕ) (phase : RecordPhase) (m : rules.ClientView) → At old past → past.under ≡ Some f
+starved : (place : DeviceInfo → ℕ) (job : model.AbstractJob) (pages : List (List Frame)) (old new : ClientState) (past now : JoinHistory) (piece : List ℕ) (f : Frame) (given more : List ℕ) (phase : RecordPhase) (m : model.ClientView) → At old past → past.under ≡ Some f
     → length f.payload + length given ≤ most_bytes f.params → ClientRefines place old.target job pages (protocol_of old past) m → RecordsBring old.phase phase piece (given ++ more) → new.out ≡ old.out → new.outcome ≡ Ended statuses.NoMem whys.Memory
     → now ≡ with_fault faults.NoMem (with_payload past f given) → ClientRepresents now new → ReceivesPiece place job pages m old past piece new
 starved place job pages old new past now piece f given more phase m a u most r b o n is serves =
@@ -221,7 +221,7 @@ starved place job pages old new past now piece f given more phase m a u most r b
           (ends_so place old.target job pages (protocol_of old (with_payload past f given)) new (client_after_bytes m.stage m given) statuses.NoMem whys.Memory words.Memory refl a.running n read);
     })
 
-long_reads : (place : DeviceInfo → ℕ) (job : rules.AbstractJob) (pages : List (List Frame)) (old new : ClientState) (past : JoinHistory) (f : Frame) (bytes : List ℕ) (fault : JoinFault) (m : rules.ClientView) → At old past → past.under ≡ Some f
+long_reads : (place : DeviceInfo → ℕ) (job : model.AbstractJob) (pages : List (List Frame)) (old new : ClientState) (past : JoinHistory) (f : Frame) (bytes : List ℕ) (fault : JoinFault) (m : model.ClientView) → At old past → past.under ≡ Some f
     → nat_lt (most_bytes f.params) (length f.payload + length bytes) ≡ true → fault ≡ faults.Long → ClientRefines place old.target job pages (protocol_of old past) m
     → protocol_of new (with_fault faults.Long past) ≡ record { outcome = next_outcome old.target.task old.notes (stop_unjoined fault); progress = stages.Over; notes = old.notes; history = with_fault faults.Long past }
     → ClientRefines place old.target job pages (protocol_of new (with_fault faults.Long past)) (client_after_bytes m.stage m bytes)
@@ -232,7 +232,7 @@ long_reads place job pages old new past f bytes fault m a u b l r n =
     (sym (n ∙ ap (λ (x : JoinFault). record { outcome = next_outcome old.target.task old.notes (stop_unjoined x); progress = stages.Over; notes = old.notes; history = with_fault faults.Long past }) l))
     (subst (λ (y : JoinHistory). ClientRefines place old.target job pages (protocol_after_bytes_by old.target.task (protocol_of old past) y y.fault) (client_after_bytes m.stage m bytes)) e h)
 
-fails_by : (place : DeviceInfo → ℕ) (job : rules.AbstractJob) (pages : List (List Frame)) (old new : ClientState) (past : JoinHistory) (piece : List ℕ) (m : rules.ClientView) (g : FailsAtBytes old past piece new) (b s : Bool) → At old past
+fails_by : (place : DeviceInfo → ℕ) (job : model.AbstractJob) (pages : List (List Frame)) (old new : ClientState) (past : JoinHistory) (piece : List ℕ) (m : model.ClientView) (g : FailsAtBytes old past piece new) (b s : Bool) → At old past
     → ClientRefines place old.target job pages (protocol_of old past) m → nat_lt (most_bytes g.frame.params) (length (g.frame.payload ++ g.reads.before) + length g.reads.last) ≡ b
     → after_feed g.reads.last g.reads.starved (with_payload past g.frame g.reads.before)
     ≡ (if b then with_fault faults.Long (with_payload past g.frame g.reads.before) else (if s then with_fault faults.NoMem (with_payload past g.frame g.reads.before) else with_payload (with_payload past g.frame g.reads.before) (record g.frame { payload = g.frame.payload ++ g.reads.before }) g.reads.last))
@@ -263,7 +263,7 @@ fails_by place job pages old new past piece m g false true a r e w =
     (ap (λ (v : ClientState). v.out) g.rest) (ap (λ (v : ClientState). v.outcome) g.rest ∙ ap (λ (x : JoinFault). next_outcome old.target.task old.notes (stop_unjoined x)) l) w g.serves
 fails_by place job pages old new past piece m g false false a r e w = absurd (let clash : None ≡ Some g.fault = sym a.calm ∙ sym (ap (λ (y : JoinHistory). y.fault) w) ∙ g.reads.fails in cc)
 
-fails : (place : DeviceInfo → ℕ) (job : rules.AbstractJob) (pages : List (List Frame)) (old new : ClientState) (past : JoinHistory) (piece : List ℕ) (m : rules.ClientView) → At old past
+fails : (place : DeviceInfo → ℕ) (job : model.AbstractJob) (pages : List (List Frame)) (old new : ClientState) (past : JoinHistory) (piece : List ℕ) (m : model.ClientView) → At old past
     → ClientRefines place old.target job pages (protocol_of old past) m → FailsAtBytes old past piece new → ReceivesPiece place job pages m old past piece new
 fails place job pages old new past piece m a r g =
     let b = nat_lt (most_bytes g.frame.params) (length (g.frame.payload ++ g.reads.before) + length g.reads.last) in

@@ -28,7 +28,7 @@ use Rattle.client_replies.specs.ProtocolStates.{ProtocolState, HistoryFits, Next
 use Rattle.net_client.specs.ReplyPieces.{HearsReplies, IsReply, awaited_procedure, HasHeard, Whole, Garbled, OutOfMemoryBehind, OutOfMemoryAtOnce}
 use Rattle.client_replies.proofs.Fitting.{answer_fits}
 use Rattle.system_model.specs.AbstractMessages as words
-use Rattle.system_model.specs.Client as rules
+use Rattle.system_model.specs.Client as model
 use Rattle.system_model.specs.ClientReplies.{hear_in, client_after_stop}
 use Rattle.system_model.specs.Devices.{abstract_status}
 use Rattle.client_refines.specs.DecodedReplies.{DecodedReply, Before, Says, Demands, decoded_reply_at, HasShortArray, IsShortAt, why_of}
@@ -127,21 +127,21 @@ spell_none target front back asks qs s e n =
 -- ---- one reply after another
 
 -- a client that has heard a reply, and sent that, goes on so
-abbrev Then : (DeviceInfo → ℕ) → JobTarget → rules.AbstractJob → List (List Frame) → ProtocolState → List Reply → List ℕ → (ListeningClient → Type 0) → Type 0
+abbrev Then : (DeviceInfo → ℕ) → JobTarget → model.AbstractJob → List (List Frame) → ProtocolState → List Reply → List ℕ → (ListeningClient → Type 0) → Type 0
 Then place target job pages t rs sent Holds = (n : ListeningClient) → ClientRefines place target job pages t n.client → SpellsSent target sent n.asks → HearingAll place target job t rs Holds n
 
-goes_on : (place : DeviceInfo → ℕ) (target : JobTarget) (job : rules.AbstractJob) (pages : List (List Frame)) (t : ProtocolState) (rs : List Reply) (h : ListeningClient) (decoded : DecodedReply) (Holds : ListeningClient → Type 0) (word : ℕ) (next : Next) (front back : List ℕ)
+goes_on : (place : DeviceInfo → ℕ) (target : JobTarget) (job : model.AbstractJob) (pages : List (List Frame)) (t : ProtocolState) (rs : List Reply) (h : ListeningClient) (decoded : DecodedReply) (Holds : ListeningClient → Type 0) (word : ℕ) (next : Next) (front back : List ℕ)
     → SpellsSent target front h.asks → requests_text (requests_by target word next) ≡ Some back → HeardAs place target job pages t h.client decoded → Saying target word job next h.client decoded
     → Then place target job pages t rs (front ++ back) Holds → Hearing job word h decoded (λ n. HearingAll place target job t rs Holds n)
 goes_on place target job pages t rs h Before Holds word next front back s e heard said more = more h heard (spell_none target front back h.asks (requests_by target word next) s e said)
 goes_on place target job pages t rs h (Says answer) Holds word next front back s e heard said more =
-    let m : rules.ClientView = hear_in h.client.stage job h.client answer in
-    more (listening_after job word h m) heard (spell_more target front back h.asks (requests_by target word next) (asks_of word m.known (rules.requests_sent job.task m.stage)) s e said)
+    let m : model.ClientView = hear_in h.client.stage job h.client answer in
+    more (listening_after job word h m) heard (spell_more target front back h.asks (requests_by target word next) (asks_of word m.known (model.requests_sent job.task m.stage)) s e said)
 goes_on place target job pages t rs h Demands Holds word next front back s e heard said more =
-    let m : rules.ClientView = client_refusing h.client in
-    more (listening_after job word h m) heard (spell_more target front back h.asks (requests_by target word next) (asks_of word m.known (rules.requests_sent job.task m.stage)) s e said)
+    let m : model.ClientView = client_refusing h.client in
+    more (listening_after job word h m) heard (spell_more target front back h.asks (requests_by target word next) (asks_of word m.known (model.requests_sent job.task m.stage)) s e said)
 
-hears : (place : DeviceInfo → ℕ) (target : JobTarget) (job : rules.AbstractJob) (pages : List (List Frame)) (t u : ProtocolState) (rs : List Reply) (text sent : List ℕ) (h : ListeningClient) (front : List ℕ) (Holds : ListeningClient → Type 0)
+hears : (place : DeviceInfo → ℕ) (target : JobTarget) (job : model.AbstractJob) (pages : List (List Frame)) (t u : ProtocolState) (rs : List Reply) (text sent : List ℕ) (h : ListeningClient) (front : List ℕ) (Holds : ListeningClient → Type 0)
     → job.task ≡ task_of target.task → Lives target.task t.outcome t.progress t.history → ClientRefines place target job pages t h.client → SpellsSent target front h.asks → HearsReplies target t rs text sent u
     → ((n : ListeningClient) → ListeningRefines place target job pages u n.client (front ++ sent) n.asks → Holds n) → HearingAll place target job t rs Holds h
 hears place target job pages t u [] text sent h front Holds e l r s hs k =
@@ -176,14 +176,14 @@ silence : (target : JobTarget) → SpellsSent target [] []
 silence target = record { requests = []; text = refl; same = tt }
 
 -- of a job that ran, and has ended so, no more is read than that
-pub ends_so : (place : DeviceInfo → ℕ) (target : JobTarget) (job : rules.AbstractJob) (pages : List (List Frame)) (protocol : ProtocolState) (new : ClientState) (m : rules.ClientView) (status : Status) (why : Why) (w : words.Why) → why_of why ≡ Some w
+pub ends_so : (place : DeviceInfo → ℕ) (target : JobTarget) (job : model.AbstractJob) (pages : List (List Frame)) (protocol : ProtocolState) (new : ClientState) (m : model.ClientView) (status : Status) (why : Why) (w : words.Why) → why_of why ≡ Some w
     → protocol.outcome ≡ Running → new.outcome ≡ Ended status why → ClientRefines place target job pages protocol m → ClientRefines place target job pages (protocol_of new protocol.history) (client_after_stop (abstract_status status) w m)
 ends_so place target job pages protocol new m status why w e o n r =
     let h : ClientRefines place target job pages (stopped_by status why protocol Running) (client_after_stop (abstract_status status) w m) =
     subst (λ (y : Outcome). ClientRefines place target job pages (stopped_by status why protocol y) (client_after_stop (abstract_status status) w m)) o (stops_alike place target job pages protocol m status why w e r) in
     record { files = h.files; stands = subst (λ (y : Outcome). OutcomeRefines place target job pages y new.progress new.notes protocol.history (client_after_stop (abstract_status status) w m)) (sym n) h.stands }
 
-hears_all : (place : DeviceInfo → ℕ) (job : rules.AbstractJob) (pages : List (List Frame)) (old was : ClientState) (past : JoinHistory) (piece : List ℕ) (m : rules.ClientView) (Holds : ListeningClient → Type 0) (h : HasHeard old past piece was)
+hears_all : (place : DeviceInfo → ℕ) (job : model.AbstractJob) (pages : List (List Frame)) (old was : ClientState) (past : JoinHistory) (piece : List ℕ) (m : model.ClientView) (Holds : ListeningClient → Type 0) (h : HasHeard old past piece was)
     → job.task ≡ task_of old.target.task → is_running old.outcome ≡ true → ClientRepresents past old → ClientRefines place old.target job pages (protocol_of old past) m
     → ((n : ListeningClient) → ListeningRefines place old.target job pages (protocol_of was h.history_then) n.client h.sent n.asks → Holds n) → HearingAll place old.target job (protocol_of old past) h.told Holds (new_listening_client m)
 hears_all place job pages old was past piece m Holds h t o s r k =

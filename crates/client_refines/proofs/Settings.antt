@@ -27,7 +27,7 @@ use Rattle.scan_job.specs.declared.report.Report.{Report}
 use Rattle.client_replies.specs.GivenValues.{given_like}
 use Rattle.client_replies.specs.ReplyTurns.{turn, stop_bad_setting, element_number, next_shown, after_settings, option_number_of, puts, puts_at, puts_named, next_of, next_setting, with_no_value, after_describe_reply, after_put, given_to, of_kind, put_good, put_without_resource, was_put}
 use Rattle.system_model.specs.AbstractMessages as words
-use Rattle.system_model.specs.Client as rules
+use Rattle.system_model.specs.Client as model
 use Rattle.system_model.specs.ClientReplies.{hear_at}
 use Rattle.system_model.specs.Devices.{abstract_info, resolve_setting, readable_options, readable_from}
 use Rattle.client_refines.specs.DecodedReplies.{reply_if_good, reply_without_resource, gave_or_acked, decoded_reply_at, HasShortArray}
@@ -42,17 +42,17 @@ readable_is : (notes : Notes) (known : List Descriptor) → AreBlank notes.known
 unfolding readable_options
 readable_is notes known b e = blank_wanted 0 notes.known b ∙ ap (λ (ds : List Descriptor). readable_from 0 ds) (sym e)
 
-all_put : (x : Side) (task : Task) (notes : Notes) (m : rules.ClientView) → FilesAs x m → KnowsAs task x.pages notes m → Early notes m
-    → Goes x task (turn notes (after_settings task notes.known)) (record m { stage = rules.stage_after_settings (task_of task) m.known })
+all_put : (x : Side) (task : Task) (notes : Notes) (m : model.ClientView) → FilesAs x m → KnowsAs task x.pages notes m → Early notes m
+    → Goes x task (turn notes (after_settings task notes.known)) (record m { stage = model.stage_after_settings (task_of task) m.known })
 all_put x tasks.List notes m f k b = (f, record { stage = refl; settings = k.answers; devices = k.none; options = tt })
 all_put x tasks.Show notes m f k b =
-    subst (λ (ns : List ℕ). Goes x tasks.Show (turn notes (next_shown notes.known)) (record m { stage = rules.next_value ns })) (readable_is notes m.known b.0 k.descriptors)
+    subst (λ (ns : List ℕ). Goes x tasks.Show (turn notes (next_shown notes.known)) (record m { stage = model.next_value ns })) (readable_is notes m.known b.0 k.descriptors)
     (shows_next x notes m (blank_filled notes.known b.0) f k)
 all_put x tasks.SetOnly notes m f k b = (f, record { stage = refl; settings = k.answers; devices = k.none; options = tt })
 all_put x tasks.Scan notes m f k b = (f, (k, (refl, sym (ap is_nil b.1))))
 all_put x (tasks.Batch count) notes m f k b = (f, (k, (refl, sym (ap is_nil b.1))))
 
-bad : (x : Side) (task : Task) (notes : Notes) (m : rules.ClientView) → FilesAs x m → Goes x task (turn notes stop_bad_setting) (rules.with_ending words.Inval words.Setting m)
+bad : (x : Side) (task : Task) (notes : Notes) (m : model.ClientView) → FilesAs x m → Goes x task (turn notes stop_bad_setting) (model.with_ending words.Inval words.Setting m)
 bad x task notes m f = ends x task notes m statuses.Inval whys.Setting words.Setting refl f
 
 abbrev read_of : List ℕ → ℕ → Option Descriptor → Option (ℕ × Value)
@@ -61,21 +61,21 @@ read_of text n desc = desc >>= (λ d. read_value d text >>= (λ asked. Some (n, 
 abbrev found_of : List ℕ → List Descriptor → Option ℕ → Option (ℕ × Value)
 found_of text known place = place >>= (λ n. read_of text n (slice_get known n))
 
-puts_one : (x : Side) (task : Task) (notes : Notes) (m : rules.ClientView) (name text : List ℕ) (n : ℕ) (kind : Kind) (v : Option Value) → FilesAs x m → KnowsAs task x.pages notes m → Early notes m
-    → Goes x task (turn notes (puts name n kind v)) (record m { stage = rules.asks_setting (record { name = name; text = text }) (map requested_setting notes.left) (v >>= (λ asked. Some (n, asked))) })
+puts_one : (x : Side) (task : Task) (notes : Notes) (m : model.ClientView) (name text : List ℕ) (n : ℕ) (kind : Kind) (v : Option Value) → FilesAs x m → KnowsAs task x.pages notes m → Early notes m
+    → Goes x task (turn notes (puts name n kind v)) (record m { stage = model.asks_setting (record { name = name; text = text }) (map requested_setting notes.left) (v >>= (λ asked. Some (n, asked))) })
 puts_one x task notes m name text n kind None f k b = bad x task notes m f
 puts_one x task notes m name text n kind (Some asked) f k b = (f, (k, ((record { name = name; text = text }, (refl, refl)), b)))
 
-puts_one_at : (x : Side) (task : Task) (notes : Notes) (m : rules.ClientView) (name text : List ℕ) (n : ℕ) (o : Option (Descriptor × Option Value)) → FilesAs x m → KnowsAs task x.pages notes m → Early notes m
-    → Goes x task (turn notes (puts_at name text n o)) (record m { stage = rules.asks_setting (record { name = name; text = text }) (map requested_setting notes.left) (read_of text n (option_map (λ o. o.0) o)) })
+puts_one_at : (x : Side) (task : Task) (notes : Notes) (m : model.ClientView) (name text : List ℕ) (n : ℕ) (o : Option (Descriptor × Option Value)) → FilesAs x m → KnowsAs task x.pages notes m → Early notes m
+    → Goes x task (turn notes (puts_at name text n o)) (record m { stage = model.asks_setting (record { name = name; text = text }) (map requested_setting notes.left) (read_of text n (option_map (λ o. o.0) o)) })
 puts_one_at x task notes m name text n None f k b = bad x task notes m f
 puts_one_at x task notes m name text n (Some o) f k b = puts_one x task notes m name text n o.0.kind (read_value o.0 text) f k b
 
-puts_one_named : (x : Side) (task : Task) (notes : Notes) (m : rules.ClientView) (name text : List ℕ) (place : Option ℕ) → FilesAs x m → KnowsAs task x.pages notes m → Early notes m
-    → Goes x task (turn notes (puts_named name text notes.known place)) (record m { stage = rules.asks_setting (record { name = name; text = text }) (map requested_setting notes.left) (found_of text (descs notes.known) place) })
+puts_one_named : (x : Side) (task : Task) (notes : Notes) (m : model.ClientView) (name text : List ℕ) (place : Option ℕ) → FilesAs x m → KnowsAs task x.pages notes m → Early notes m
+    → Goes x task (turn notes (puts_named name text notes.known place)) (record m { stage = model.asks_setting (record { name = name; text = text }) (map requested_setting notes.left) (found_of text (descs notes.known) place) })
 puts_one_named x task notes m name text None f k b = bad x task notes m f
 puts_one_named x task notes m name text (Some n) f k b =
-    subst (λ (d : Option Descriptor). Goes x task (turn notes (puts_at name text n (slice_get notes.known n))) (record m { stage = rules.asks_setting (record { name = name; text = text }) (map requested_setting notes.left) (read_of text n d) }))
+    subst (λ (d : Option Descriptor). Goes x task (turn notes (puts_at name text n (slice_get notes.known n))) (record m { stage = model.asks_setting (record { name = name; text = text }) (map requested_setting notes.left) (read_of text n d) }))
     (sym (slice_get-map (λ (o : Descriptor × Option Value). o.0) notes.known n))
     (puts_one_at x task notes m name text n (slice_get notes.known n) f k b)
 
@@ -103,20 +103,20 @@ resolve_is : (known : List Descriptor) (requested : words.RequestedSetting) → 
 unfolding resolve_setting
 resolve_is known requested = refl
 
-sets_next : (x : Side) (task : Task) (notes : Notes) (m : rules.ClientView) (left : List (List ℕ × List ℕ)) → x.job.task ≡ task_of task → FilesAs x m → KnowsAs task x.pages notes m → Early notes m
-    → Goes x task (next_of task notes left) (record m { stage = rules.stage_of_next_setting x.job.task m.known (map requested_setting left) })
+sets_next : (x : Side) (task : Task) (notes : Notes) (m : model.ClientView) (left : List (List ℕ × List ℕ)) → x.job.task ≡ task_of task → FilesAs x m → KnowsAs task x.pages notes m → Early notes m
+    → Goes x task (next_of task notes left) (record m { stage = model.stage_of_next_setting x.job.task m.known (map requested_setting left) })
 sets_next x task notes m [] t f k b =
-    subst (λ (y : rules.Task). Goes x task (turn notes (after_settings task notes.known)) (record m { stage = rules.stage_after_settings y m.known })) (sym t) (all_put x task notes m f k b)
+    subst (λ (y : model.Task). Goes x task (turn notes (after_settings task notes.known)) (record m { stage = model.stage_after_settings y m.known })) (sym t) (all_put x task notes m f k b)
 sets_next x task notes m (setting ∷ left) t f k b =
     let stays : Notes = record notes { left = left } in
     let e : resolve_setting m.known (requested_setting setting) ≡ found_of setting.1 (descs notes.known) (option_number_of setting.0 notes.known) =
     ap (λ (ds : List Descriptor). resolve_setting ds (requested_setting setting)) k.descriptors ∙ resolve_is (descs notes.known) (requested_setting setting)
     ∙ ap (λ (p : Option ℕ). found_of setting.1 (descs notes.known) p) (sym (named_is setting.0 notes.known k.few)) in
-    subst (λ (r : Option (ℕ × Value)). Goes x task (turn stays (puts_named setting.0 setting.1 notes.known (option_number_of setting.0 notes.known))) (record m { stage = rules.asks_setting (requested_setting setting) (map requested_setting left) r })) (sym e)
+    subst (λ (r : Option (ℕ × Value)). Goes x task (turn stays (puts_named setting.0 setting.1 notes.known (option_number_of setting.0 notes.known))) (record m { stage = model.asks_setting (requested_setting setting) (map requested_setting left) r })) (sym e)
     (puts_one_named x task stays m setting.0 setting.1 (option_number_of setting.0 notes.known) f k b)
 
-sets : (x : Side) (task : Task) (notes : Notes) (m : rules.ClientView) → x.job.task ≡ task_of task → FilesAs x m → KnowsAs task x.pages notes m → Early notes m
-    → Goes x task (next_setting task notes) (record m { stage = rules.stage_of_next_setting x.job.task m.known (map requested_setting notes.left) })
+sets : (x : Side) (task : Task) (notes : Notes) (m : model.ClientView) → x.job.task ≡ task_of task → FilesAs x m → KnowsAs task x.pages notes m → Early notes m
+    → Goes x task (next_setting task notes) (record m { stage = model.stage_of_next_setting x.job.task m.known (map requested_setting notes.left) })
 unfolding next_setting
 sets x task notes m t f k b = sets_next x task notes m notes.left t f k b
 
@@ -126,8 +126,8 @@ short_told descriptors e =
     let b : length descriptors < 1025 = ltb-true (length descriptors) 1025 e in
     omega arith
 
-pub describes : (x : Side) (task : Task) (notes : Notes) (m : rules.ClientView) (r : Reply) → HasShortArray r → x.job.task ≡ task_of task → FilesAs x m → KnowsAs task x.pages notes m → Early notes m
-    → Hears x task (after_describe_reply task notes r) m (rules.Describing (map requested_setting notes.left)) (decoded_reply_at x.place stages.Describing r)
+pub describes : (x : Side) (task : Task) (notes : Notes) (m : model.ClientView) (r : Reply) → HasShortArray r → x.job.task ≡ task_of task → FilesAs x m → KnowsAs task x.pages notes m → Early notes m
+    → Hears x task (after_describe_reply task notes r) m (model.Describing (map requested_setting notes.left)) (decoded_reply_at x.place stages.Describing r)
 describes x task notes m (replies.GetOptionDescriptors descriptors) short t f k b =
     sets x task (record notes { known = map with_no_value descriptors }) (record m { known = descriptors }) t f
     (record {
@@ -149,13 +149,13 @@ more_answers : (puts : List Report) (reports : List words.Report) (p : Report) (
 more_answers puts reports p r e h =
     map-append common_abstract_report reports (r ∷ []) ∙ ap (λ (ps : List CommonReport). ps ++ common_abstract_report r ∷ []) e ∙ ap (λ (q : CommonReport). map common_report puts ++ q ∷ []) h ∙ sym (map-append common_report puts (p ∷ []))
 
-after_putting : (x : Side) (task : Task) (notes : Notes) (m : rules.ClientView) (reloads : Bool) → x.job.task ≡ task_of task → FilesAs x m → KnowsAs task x.pages notes m → Early notes m
-    → Goes x task (after_put task notes reloads) (record m { stage = rules.stage_after_put x.job.task m.known (map requested_setting notes.left) reloads })
+after_putting : (x : Side) (task : Task) (notes : Notes) (m : model.ClientView) (reloads : Bool) → x.job.task ≡ task_of task → FilesAs x m → KnowsAs task x.pages notes m → Early notes m
+    → Goes x task (after_put task notes reloads) (record m { stage = model.stage_after_put x.job.task m.known (map requested_setting notes.left) reloads })
 after_putting x task notes m true t f k b = (f, (k, (refl, b)))
 after_putting x task notes m false t f k b = sets x task notes m t f k b
 
-puts_given : (x : Side) (task : Task) (notes : Notes) (m : rules.ClientView) (n : ℕ) (kind : Kind) (name : List ℕ) (asked : Value) (requested : words.RequestedSetting) (info : Info) (v : Option Value) → requested.name ≡ name → x.job.task ≡ task_of task → FilesAs x m
-    → KnowsAs task x.pages notes m → Early notes m → Goes x task (given_to task notes kind name asked info v) (hear_at (rules.Putting n asked requested (map requested_setting notes.left)) x.job m (gave_or_acked v info))
+puts_given : (x : Side) (task : Task) (notes : Notes) (m : model.ClientView) (n : ℕ) (kind : Kind) (name : List ℕ) (asked : Value) (requested : words.RequestedSetting) (info : Info) (v : Option Value) → requested.name ≡ name → x.job.task ≡ task_of task → FilesAs x m
+    → KnowsAs task x.pages notes m → Early notes m → Goes x task (given_to task notes kind name asked info v) (hear_at (model.Putting n asked requested (map requested_setting notes.left)) x.job m (gave_or_acked v info))
 puts_given x task notes m n kind name asked requested info None w t f k b = awry_ends x task notes m f
 puts_given x task notes m n kind name asked requested info (Some given) w t f k b =
     after_putting x task (record notes { reports = notes.reports ++ record { name = name; kind = kind; asked = asked; given = given; info = info } ∷ [] })
@@ -173,19 +173,19 @@ puts_given x task notes m n kind name asked requested info (Some given) w t f k 
     })
     b
 
-puts_told : (x : Side) (task : Task) (notes : Notes) (m : rules.ClientView) (n : ℕ) (kind : Kind) (name : List ℕ) (asked : Value) (requested : words.RequestedSetting) (status : Status) (info : Info) (given : Kind) (found : WireValue)
+puts_told : (x : Side) (task : Task) (notes : Notes) (m : model.ClientView) (n : ℕ) (kind : Kind) (name : List ℕ) (asked : Value) (requested : words.RequestedSetting) (status : Status) (info : Info) (given : Kind) (found : WireValue)
     → requested.name ≡ name → x.job.task ≡ task_of task → FilesAs x m → KnowsAs task x.pages notes m → Early notes m
-    → Hears x task (put_good task notes kind name asked status info given found) m (rules.Putting n asked requested (map requested_setting notes.left)) (reply_if_good status (gave_or_acked (of_kind kind given (given_like asked found)) info))
+    → Hears x task (put_good task notes kind name asked status info given found) m (model.Putting n asked requested (map requested_setting notes.left)) (reply_if_good status (gave_or_acked (of_kind kind given (given_like asked found)) info))
 puts_told x task notes m n kind name asked requested statuses.Good info given found w t f k b = puts_given x task notes m n kind name asked requested info (of_kind kind given (given_like asked found)) w t f k b
-puts_told x task notes m n kind name asked requested status info given found w t f k b = refused x task notes m (rules.Putting n asked requested (map requested_setting notes.left)) status (λ s. refl) f
+puts_told x task notes m n kind name asked requested status info given found w t f k b = refused x task notes m (model.Putting n asked requested (map requested_setting notes.left)) status (λ s. refl) f
 
-puts_plain : (x : Side) (task : Task) (notes : Notes) (m : rules.ClientView) (n : ℕ) (kind : Kind) (name : List ℕ) (asked : Value) (requested : words.RequestedSetting) (status : Status) (info : Info) (given : Kind) (found : WireValue) (resource : List ℕ)
+puts_plain : (x : Side) (task : Task) (notes : Notes) (m : model.ClientView) (n : ℕ) (kind : Kind) (name : List ℕ) (asked : Value) (requested : words.RequestedSetting) (status : Status) (info : Info) (given : Kind) (found : WireValue) (resource : List ℕ)
     → requested.name ≡ name → x.job.task ≡ task_of task → FilesAs x m → KnowsAs task x.pages notes m → Early notes m
-    → Hears x task (put_without_resource task notes kind name asked status info given found resource) m (rules.Putting n asked requested (map requested_setting notes.left)) (reply_without_resource resource (reply_if_good status (gave_or_acked (of_kind kind given (given_like asked found)) info)))
+    → Hears x task (put_without_resource task notes kind name asked status info given found resource) m (model.Putting n asked requested (map requested_setting notes.left)) (reply_without_resource resource (reply_if_good status (gave_or_acked (of_kind kind given (given_like asked found)) info)))
 puts_plain x task notes m n kind name asked requested status info given found [] w t f k b = puts_told x task notes m n kind name asked requested status info given found w t f k b
 puts_plain x task notes m n kind name asked requested status info given found (c ∷ bytes) w t f k b = awry_ends x task notes m f
 
-pub puts_reply : (x : Side) (task : Task) (notes : Notes) (m : rules.ClientView) (n : ℕ) (kind : Kind) (name : List ℕ) (asked : Value) (requested : words.RequestedSetting) (r : Reply) → requested.name ≡ name → x.job.task ≡ task_of task → FilesAs x m
-    → KnowsAs task x.pages notes m → Early notes m → Hears x task (was_put task notes kind name asked r) m (rules.Putting n asked requested (map requested_setting notes.left)) (decoded_reply_at x.place (stages.Putting n kind name asked) r)
+pub puts_reply : (x : Side) (task : Task) (notes : Notes) (m : model.ClientView) (n : ℕ) (kind : Kind) (name : List ℕ) (asked : Value) (requested : words.RequestedSetting) (r : Reply) → requested.name ≡ name → x.job.task ≡ task_of task → FilesAs x m
+    → KnowsAs task x.pages notes m → Early notes m → Hears x task (was_put task notes kind name asked r) m (model.Putting n asked requested (map requested_setting notes.left)) (decoded_reply_at x.place (stages.Putting n kind name asked) r)
 puts_reply x task notes m n kind name asked requested (replies.ControlOption status info given found resource) w t f k b = puts_plain x task notes m n kind name asked requested status info given found resource w t f k b
 puts_reply x task notes m n kind name asked requested r w t f k b = awry_ends x task notes m f

@@ -15,7 +15,7 @@ use Rattle.client_replies.specs.declared.progress.Next.TheVariants.{Wait, Finish
 use Rattle.client_replies.specs.ReplyTurns.{Turn, turn, stop_by_answer, stop_malformed, if_good}
 use Rattle.client_replies.specs.ProtocolStates.{reports_of, next_outcome, next_progress, next_notes, protocol_after_turn}
 use Rattle.system_model.specs.AbstractMessages as words
-use Rattle.system_model.specs.Client as rules
+use Rattle.system_model.specs.Client as model
 use Rattle.system_model.specs.ClientReplies.{hear_at}
 use Rattle.system_model.specs.Devices.{abstract_status}
 use Rattle.client_refines.specs.DecodedReplies.{DecodedReply, Before, Says, Demands, reply_if_good, why_of}
@@ -28,7 +28,7 @@ use Rattle.client_refines.specs.Replies.{client_refusing}
 
 pub record Side : Type 0 where
   pub place : DeviceInfo → ℕ
-  pub job : rules.AbstractJob
+  pub job : model.AbstractJob
   pub pages : List (List Frame)
   pub history : JoinHistory
 
@@ -36,49 +36,49 @@ pub record Side : Type 0 where
 abbrev pub onto : Side → JoinHistory → Side
 onto x past = record { place = x.place; job = x.job; pages = x.pages; history = past }
 
-abbrev pub NextAs : Side → Task → Next → Notes → rules.ClientView → Type 0
+abbrev pub NextAs : Side → Task → Next → Notes → model.ClientView → Type 0
 NextAs x task (Wait progress) notes m = KnowsAs task x.pages notes m × WaitsAs x.job progress notes x.history m
 NextAs x task (Finish devices) notes m = DoneAs x.place task (reports_of task notes devices) m
 NextAs x task (Stop status why) notes m = EndedAs status why m
 
-abbrev pub FilesAs : Side → rules.ClientView → Type 0
+abbrev pub FilesAs : Side → model.ClientView → Type 0
 FilesAs x m = Files x.pages x.history m.frames m.pages
 
-abbrev pub Goes : Side → Task → Turn → rules.ClientView → Type 0
+abbrev pub Goes : Side → Task → Turn → model.ClientView → Type 0
 Goes x task t m = FilesAs x m × NextAs x task t.next t.notes m
 
-abbrev pub Hears : Side → Task → Turn → rules.ClientView → rules.AbstractProgress → DecodedReply → Type 0
+abbrev pub Hears : Side → Task → Turn → model.ClientView → model.AbstractProgress → DecodedReply → Type 0
 Hears x task t m g Before = Goes x task t m
 Hears x task t m g (Says answer) = Goes x task t (hear_at g x.job m answer)
 Hears x task t m g Demands = Goes x task t (client_refusing m)
 
-next_stands : (x : Side) (target : JobTarget) (next : Next) (notes : Notes) (m : rules.ClientView) → NextAs x target.task next notes m → NextApt target next notes
+next_stands : (x : Side) (target : JobTarget) (next : Next) (notes : Notes) (m : model.ClientView) → NextAs x target.task next notes m → NextApt target next notes
     → OutcomeRefines x.place target x.job x.pages (next_outcome target.task notes next) (next_progress next) (next_notes notes next) x.history m
 next_stands x target (Wait progress) notes m n a = (n.0, n.1, a)
 next_stands x target (Finish devices) notes m n a = n
 next_stands x target (Stop status why) notes m n a = n
 
-pub settled_reads : (x : Side) (target : JobTarget) (t : Turn) (m : rules.ClientView) → Goes x target.task t m → NextApt target t.next t.notes → ClientRefines x.place target x.job x.pages (protocol_after_turn target.task t x.history) m
+pub settled_reads : (x : Side) (target : JobTarget) (t : Turn) (m : model.ClientView) → Goes x target.task t m → NextApt target t.next t.notes → ClientRefines x.place target x.job x.pages (protocol_after_turn target.task t x.history) m
 settled_reads x target t m g a = record { files = g.0; stands = next_stands x target t.next t.notes m g.1 a }
 
 -- ---- endings
 
-pub ends : (x : Side) (task : Task) (notes : Notes) (m : rules.ClientView) (status : Status) (why : Why) (w : words.Why) → why_of why ≡ Some w → FilesAs x m
-    → Goes x task (turn notes (Stop status why)) (rules.with_ending (abstract_status status) w m)
+pub ends : (x : Side) (task : Task) (notes : Notes) (m : model.ClientView) (status : Status) (why : Why) (w : words.Why) → why_of why ≡ Some w → FilesAs x m
+    → Goes x task (turn notes (Stop status why)) (model.with_ending (abstract_status status) w m)
 ends x task notes m status why w e f = (f, (w, (e, refl)))
 
-pub awry_ends : (x : Side) (task : Task) (notes : Notes) (m : rules.ClientView) → FilesAs x m → Goes x task (turn notes stop_malformed) (rules.with_malformed m)
+pub awry_ends : (x : Side) (task : Task) (notes : Notes) (m : model.ClientView) → FilesAs x m → Goes x task (turn notes stop_malformed) (model.with_malformed m)
 awry_ends x task notes m f = ends x task notes m statuses.IoError whys.Malformed words.Malformed refl f
 
-abbrev pub Refuses : rules.AbstractProgress → rules.AbstractJob → rules.ClientView → Type 0
-Refuses g job m = (s : words.Status) → hear_at g job m (words.Refused s) ≡ rules.with_ending s words.Answer m
+abbrev pub Refuses : model.AbstractProgress → model.AbstractJob → model.ClientView → Type 0
+Refuses g job m = (s : words.Status) → hear_at g job m (words.Refused s) ≡ model.with_ending s words.Answer m
 
-pub refused : (x : Side) (task : Task) (notes : Notes) (m : rules.ClientView) (g : rules.AbstractProgress) (status : Status) → Refuses g x.job m → FilesAs x m
+pub refused : (x : Side) (task : Task) (notes : Notes) (m : model.ClientView) (g : model.AbstractProgress) (status : Status) → Refuses g x.job m → FilesAs x m
     → Goes x task (turn notes (stop_by_answer status)) (hear_at g x.job m (words.Refused (abstract_status status)))
 refused x task notes m g status r f =
-    subst (λ (n : rules.ClientView). Goes x task (turn notes (stop_by_answer status)) n) (sym (r (abstract_status status))) (ends x task notes m status whys.Answer words.Answer refl f)
+    subst (λ (n : model.ClientView). Goes x task (turn notes (stop_by_answer status)) n) (sym (r (abstract_status status))) (ends x task notes m status whys.Answer words.Answer refl f)
 
-pub good_hears : (x : Side) (task : Task) (notes : Notes) (m : rules.ClientView) (g : rules.AbstractProgress) (status : Status) (next : Next) (answer : words.AbstractReply) → Refuses g x.job m → FilesAs x m
+pub good_hears : (x : Side) (task : Task) (notes : Notes) (m : model.ClientView) (g : model.AbstractProgress) (status : Status) (next : Next) (answer : words.AbstractReply) → Refuses g x.job m → FilesAs x m
     → Goes x task (turn notes next) (hear_at g x.job m answer) → Hears x task (turn notes (if_good status next)) m g (reply_if_good status answer)
 good_hears x task notes m g statuses.Good next answer r f h = h
 good_hears x task notes m g status next answer r f h = refused x task notes m g status r f
@@ -91,5 +91,5 @@ part_is ended e = ap (λ (b : Bool). if b then [] else ended) e
 pub no_whole : (ended : List Frame) → is_joined ended ≡ false → wholes ended ≡ []
 no_whole ended e = ap (λ (b : Bool). if b then ended ∷ [] else []) e
 
-pub pages_are : (x : Side) (m : rules.ClientView) → is_joined x.history.ended ≡ false → FilesAs x m → m.pages ≡ x.pages
+pub pages_are : (x : Side) (m : model.ClientView) → is_joined x.history.ended ≡ false → FilesAs x m → m.pages ≡ x.pages
 pages_are x m e f = f.all ∙ ap (λ (ps : List (List Frame)). x.pages ++ ps) (no_whole x.history.ended e) ∙ append-nil x.pages

@@ -14,7 +14,7 @@ use Rattle.net_client.specs.Sending.{requests_text}
 use Rattle.net_client.specs.ClientStates.{ClientState, protocol_of, after_client_end}
 use Rattle.frame_join.specs.FrameHistory.{empty_history}
 use Rattle.system_model.specs.AbstractMessages as words
-use Rattle.system_model.specs.Client as rules
+use Rattle.system_model.specs.Client as model
 use Rattle.client_refines.specs.ClientRefinement.{OutcomeRefines, ClientRefines}
 use Rattle.client_refines.specs.Calls.{NewClientsAreAlike, CancelsAreAlike, LossesAreAlike, ConnectionsAreUnseen}
 use Rattle.client_refines.proofs.Said.{one_text}
@@ -25,7 +25,7 @@ use Rattle.client_refines.proofs.PieceReceiving.{behind_some}
 
 pub made_alike : NewClientsAreAlike
 made_alike place wanted job new e fresh = (
-  subst (λ (t : ProtocolState). ClientRefines place (target_of wanted) job [] t (rules.with_progress rules.Greeting rules.initial_client)) (sym (ap (λ (v : ClientState). protocol_of v empty_history) fresh.value))
+  subst (λ (t : ProtocolState). ClientRefines place (target_of wanted) job [] t (model.with_progress model.Greeting model.initial_client)) (sym (ap (λ (v : ClientState). protocol_of v empty_history) fresh.value))
       (begins_alike place (target_of wanted) job wanted.settings.items e),
   record { requests = requests.Init 16777219 wanted.user ∷ []; text = one_text (Some (requests.Init 16777219 wanted.user)) ∙ fresh.text; same = ((refl, refl), tt) },
 )

@@ -14,7 +14,7 @@ use Rattle.client_replies.specs.ProtocolStates.{progress_connected, target_of, i
 use Rattle.net_client.specs.Sending.{requests_text}
 use Rattle.net_client.specs.ClientStates.{ClientState, protocol_of, IsNewClient, after_client_end, phase_connected}
 use Rattle.system_model.specs.AbstractMessages as words
-use Rattle.system_model.specs.Client as rules
+use Rattle.system_model.specs.Client as model
 use Rattle.system_model.specs.ClientReplies.{client_after_stop}
 use Rattle.client_refines.specs.ClientRefinement.{requested_setting, ClientRefines}
 use Rattle.client_refines.specs.RequestRefinement.{asks_of}
@@ -26,31 +26,31 @@ use Rattle.client_refines.specs.PieceRefinement.{SpellsSent}
 -- a client that is made for a job asks for its greeting
 abbrev pub NewClientsAreAlike : Type 0
 NewClientsAreAlike =
-    (place : DeviceInfo → ℕ) (wanted : Job) (job : rules.AbstractJob) (new : ClientState)
+    (place : DeviceInfo → ℕ) (wanted : Job) (job : model.AbstractJob) (new : ClientState)
     → map requested_setting wanted.settings.items ≡ job.settings → IsNewClient wanted new
     → ClientRefines place (target_of wanted) job [] (protocol_of new empty_history)
-    (rules.with_progress rules.Greeting rules.initial_client)
+    (model.with_progress model.Greeting model.initial_client)
     × SpellsSent (target_of wanted) new.out (asks_of 0 [] (words.Init ∷ []))
 
 -- a cancel ends a job that runs, and says farewell
 abbrev pub CancelsAreAlike : Type 0
 CancelsAreAlike =
-    (place : DeviceInfo → ℕ) (job : rules.AbstractJob) (pages : List (List Frame)) (old new : ClientState)
-    (past : JoinHistory) (m : rules.ClientView)
+    (place : DeviceInfo → ℕ) (job : model.AbstractJob) (pages : List (List Frame)) (old new : ClientState)
+    (past : JoinHistory) (m : model.ClientView)
     → is_running old.outcome ≡ true
     → new ≡ record (after_client_end statuses.Cancelled whys.Cancelled old) { out = new.out }
     → behind old.out (requests_text (farewell old.notes.word old.progress)) ≡ Some new.out
     → ClientRefines place old.target job pages (protocol_of old past) m
     → (sent : List ℕ) × (new.out ≡ old.out ++ sent)
-    × SpellsSent old.target sent (asks_of old.notes.word m.known (rules.abstract_farewell m.stage))
+    × SpellsSent old.target sent (asks_of old.notes.word m.known (model.abstract_farewell m.stage))
     × ClientRefines place old.target job pages (protocol_of new past)
     (client_after_stop words.GivenUp words.Cancelled m)
 
 -- a link that counts is lost
 abbrev pub LossesAreAlike : Type 0
 LossesAreAlike =
-    (place : DeviceInfo → ℕ) (job : rules.AbstractJob) (pages : List (List Frame)) (old : ClientState) (link : Link)
-    (past : JoinHistory) (m : rules.ClientView)
+    (place : DeviceInfo → ℕ) (job : model.AbstractJob) (pages : List (List Frame)) (old : ClientState) (link : Link)
+    (past : JoinHistory) (m : model.ClientView)
     → is_lost_by link old.outcome old.progress ≡ true
     → ClientRefines place old.target job pages (protocol_of old past) m
     → ClientRefines place old.target job pages (protocol_of (after_client_end statuses.IoError whys.Lost old) past)
@@ -59,8 +59,8 @@ LossesAreAlike =
 -- the data connection is made
 abbrev pub ConnectionsAreUnseen : Type 0
 ConnectionsAreUnseen =
-    (place : DeviceInfo → ℕ) (job : rules.AbstractJob) (pages : List (List Frame)) (old : ClientState)
-    (past : JoinHistory) (m : rules.ClientView) → ClientRefines place old.target job pages (protocol_of old past) m
+    (place : DeviceInfo → ℕ) (job : model.AbstractJob) (pages : List (List Frame)) (old : ClientState)
+    (past : JoinHistory) (m : model.ClientView) → ClientRefines place old.target job pages (protocol_of old past) m
     → ClientRefines place old.target job pages
     (protocol_of
     (record old { progress = progress_connected old.progress; phase = phase_connected old.progress old.phase }) past)

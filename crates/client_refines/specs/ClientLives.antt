@@ -11,7 +11,7 @@ use Rattle.client_replies.specs.declared.progress.JobTarget.{JobTarget}
 use Rattle.client_replies.specs.declared.progress.Progress.TheVariants as stages
 use Rattle.client_replies.specs.ProtocolStates.{ProtocolState, progress_connected}
 use Rattle.system_model.specs.AbstractMessages as words
-use Rattle.system_model.specs.Client as rules
+use Rattle.system_model.specs.Client as model
 use Rattle.system_model.specs.ClientReplies.{client_after_stop}
 use Rattle.system_model.specs.Devices.{abstract_status}
 use Rattle.client_refines.specs.DecodedReplies.{why_of}
@@ -35,10 +35,10 @@ initial_protocol settings =
 
 abbrev pub ClientsBeginAlike : Type 0
 ClientsBeginAlike =
-    (place : DeviceInfo → ℕ) (target : JobTarget) (job : rules.AbstractJob) (settings : List (List ℕ × List ℕ))
+    (place : DeviceInfo → ℕ) (target : JobTarget) (job : model.AbstractJob) (settings : List (List ℕ × List ℕ))
     → map requested_setting settings ≡ job.settings
     → ClientRefines place target job [] (initial_protocol settings)
-    (rules.with_progress rules.Greeting rules.initial_client)
+    (model.with_progress model.Greeting model.initial_client)
 
 -- a job that runs ends so; another keeps its outcome
 abbrev pub stopped_by : Status → Why → ProtocolState → Outcome → ProtocolState
@@ -48,8 +48,8 @@ stopped_by status why protocol (Ended earlier reason) = protocol
 
 abbrev pub JobsStopAlike : Type 0
 JobsStopAlike =
-    (place : DeviceInfo → ℕ) (target : JobTarget) (job : rules.AbstractJob) (pages : List (List Frame))
-    (protocol : ProtocolState) (m : rules.ClientView) (status : Status) (why : Why) (w : words.Why)
+    (place : DeviceInfo → ℕ) (target : JobTarget) (job : model.AbstractJob) (pages : List (List Frame))
+    (protocol : ProtocolState) (m : model.ClientView) (status : Status) (why : Why) (w : words.Why)
     → why_of why ≡ Some w → ClientRefines place target job pages protocol m
     → ClientRefines place target job pages (stopped_by status why protocol protocol.outcome)
     (client_after_stop (abstract_status status) w m)
@@ -58,8 +58,8 @@ JobsStopAlike =
 
 abbrev pub PullsAndLinksAreUnseen : Type 0
 PullsAndLinksAreUnseen =
-    (place : DeviceInfo → ℕ) (target : JobTarget) (job : rules.AbstractJob) (pages : List (List Frame))
-    (protocol : ProtocolState) (m : rules.ClientView) (bytes : List ℕ)
+    (place : DeviceInfo → ℕ) (target : JobTarget) (job : model.AbstractJob) (pages : List (List Frame))
+    (protocol : ProtocolState) (m : model.ClientView) (bytes : List ℕ)
     → ClientRefines place target job pages protocol m
     → ClientRefines place target job pages (record protocol { history = after_pull bytes protocol.history }) m
     × ClientRefines place target job pages (record protocol { progress = progress_connected protocol.progress }) m
@@ -68,17 +68,17 @@ PullsAndLinksAreUnseen =
 
 -- The job runs, is done or has ended for the client just where it does for the client view: done with the same reports,
 -- ended with the same status and why.
-pub record EndAlike (place : DeviceInfo → ℕ) (task : Task) (outcome : Outcome) (m : rules.ClientView) : Type 0 where
-  pub runs : outcome ≡ Running → (progress : rules.AbstractProgress) × (m.stage ≡ rules.Running progress)
+pub record EndAlike (place : DeviceInfo → ℕ) (task : Task) (outcome : Outcome) (m : model.ClientView) : Type 0 where
+  pub runs : outcome ≡ Running → (progress : model.AbstractProgress) × (m.stage ≡ model.Running progress)
   pub done : (reports : Reports) → outcome ≡ Done reports → DoneAs place task reports m
   pub ended : (status : Status) (why : Why) → outcome ≡ Ended status why → EndedAs status why m
-  pub runs_by : (progress : rules.AbstractProgress) → m.stage ≡ rules.Running progress → outcome ≡ Running
-  pub done_by : m.stage ≡ rules.Done → (reports : Reports) × (outcome ≡ Done reports)
-  pub ended_by : (status : words.Status) (why : words.Why) → m.stage ≡ rules.Ended status why
+  pub runs_by : (progress : model.AbstractProgress) → m.stage ≡ model.Running progress → outcome ≡ Running
+  pub done_by : m.stage ≡ model.Done → (reports : Reports) × (outcome ≡ Done reports)
+  pub ended_by : (status : words.Status) (why : words.Why) → m.stage ≡ model.Ended status why
       → (s : Status) × (w : Why) × (outcome ≡ Ended s w) × (abstract_status s ≡ status) × (why_of w ≡ Some why)
 
 abbrev pub OutcomesAreAlike : Type 0
 OutcomesAreAlike =
-    (place : DeviceInfo → ℕ) (target : JobTarget) (job : rules.AbstractJob) (pages : List (List Frame))
-    (protocol : ProtocolState) (m : rules.ClientView) → ClientRefines place target job pages protocol m
+    (place : DeviceInfo → ℕ) (target : JobTarget) (job : model.AbstractJob) (pages : List (List Frame))
+    (protocol : ProtocolState) (m : model.ClientView) → ClientRefines place target job pages protocol m
     → EndAlike place target.task protocol.outcome m

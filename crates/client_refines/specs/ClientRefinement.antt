@@ -26,16 +26,16 @@ use Rattle.scan_job.specs.KnownValues.{tells_value}
 use Rattle.client_replies.specs.ReplyTurns.{wants_value}
 use Rattle.client_replies.specs.ProtocolStates.{ProtocolState, shows, is_batch}
 use Rattle.system_model.specs.AbstractMessages as words
-use Rattle.system_model.specs.Client as rules
+use Rattle.system_model.specs.Client as model
 use Rattle.system_model.specs.Devices.{abstract_status, abstract_info}
 use Rattle.client_refines.specs.DecodedReplies.{why_of}
 
-abbrev pub task_of : Task → rules.Task
-task_of tasks.List = rules.List_
-task_of tasks.Show = rules.Show
-task_of tasks.SetOnly = rules.SetOnly
-task_of tasks.Scan = rules.Scan
-task_of (tasks.Batch count) = rules.Batch (count - 1)
+abbrev pub task_of : Task → model.Task
+task_of tasks.List = model.List_
+task_of tasks.Show = model.Show
+task_of tasks.SetOnly = model.SetOnly
+task_of tasks.Scan = model.Scan
+task_of (tasks.Batch count) = model.Batch (count - 1)
 
 abbrev pub requested_setting : List ℕ × List ℕ → words.RequestedSetting
 requested_setting setting = record { name = setting.0; text = setting.1 }
@@ -125,48 +125,48 @@ pub record Knows (task : Task) (pages : List (List Frame)) (puts : List Report)
   pub number : file ≡ suc (length pages)
   pub alone : is_batch task ≡ false → pages ≡ []
 
-abbrev pub KnowsAs : Task → List (List Frame) → Notes → rules.ClientView → Type 0
+abbrev pub KnowsAs : Task → List (List Frame) → Notes → model.ClientView → Type 0
 KnowsAs task pages notes m = Knows task pages notes.reports notes.known notes.file m.reports m.devices m.known m.values
 
 -- the settings are not all put
-abbrev pub Early : Notes → rules.ClientView → Type 0
+abbrev pub Early : Notes → model.ClientView → Type 0
 Early notes m = AreBlank notes.known × (m.frames ≡ [])
 
-abbrev pub NoSettingPut : rules.AbstractJob → Notes → rules.ClientView → Type 0
+abbrev pub NoSettingPut : model.AbstractJob → Notes → model.ClientView → Type 0
 NoSettingPut job notes m = Early notes m × (map requested_setting notes.left ≡ job.settings)
 
-pub record FrameIsShared (past : JoinHistory) (m : rules.ClientView) : Type 0 where
+pub record FrameIsShared (past : JoinHistory) (m : model.ClientView) : Type 0 where
   pub params : Params
   pub payload : List ℕ
-  pub stage : m.stage ≡ rules.Running (rules.Imaging params payload)
+  pub stage : m.stage ≡ model.Running (model.Imaging params payload)
   pub under : past.under ≡ Some (record { params = params; order = m.order; payload = payload })
   pub accepted : is_accepted past.ended params m.order ≡ true
   pub part : is_joined past.ended ≡ false
 
-abbrev pub WaitsAs : rules.AbstractJob → Progress → Notes → JoinHistory → rules.ClientView → Type 0
-WaitsAs job stages.Greeting notes past m = (m.stage ≡ rules.Running rules.Greeting) × NoSettingPut job notes m
-WaitsAs job stages.Listing notes past m = (m.stage ≡ rules.Running rules.Listing) × NoSettingPut job notes m
-WaitsAs job stages.Opening notes past m = (m.stage ≡ rules.Running rules.Opening) × NoSettingPut job notes m
+abbrev pub WaitsAs : model.AbstractJob → Progress → Notes → JoinHistory → model.ClientView → Type 0
+WaitsAs job stages.Greeting notes past m = (m.stage ≡ model.Running model.Greeting) × NoSettingPut job notes m
+WaitsAs job stages.Listing notes past m = (m.stage ≡ model.Running model.Listing) × NoSettingPut job notes m
+WaitsAs job stages.Opening notes past m = (m.stage ≡ model.Running model.Opening) × NoSettingPut job notes m
 WaitsAs job (stages.Allowing resource answer) notes past m =
-    ((challenge : words.Challenge) × ((m.stage ≡ rules.Running (rules.Allowing challenge)) × (resource ≡ challenge)))
+    ((challenge : words.Challenge) × ((m.stage ≡ model.Running (model.Allowing challenge)) × (resource ≡ challenge)))
     × NoSettingPut job notes m
 WaitsAs job stages.Reopening notes past m =
-    ((challenge : words.Challenge) × (m.stage ≡ rules.Running (rules.Allowing challenge))) × NoSettingPut job notes m
+    ((challenge : words.Challenge) × (m.stage ≡ model.Running (model.Allowing challenge))) × NoSettingPut job notes m
 WaitsAs job stages.Describing notes past m =
-    (m.stage ≡ rules.Running (rules.Describing (map requested_setting notes.left))) × Early notes m
+    (m.stage ≡ model.Running (model.Describing (map requested_setting notes.left))) × Early notes m
 WaitsAs job (stages.Putting n kind name asked) notes past m =
     ((requested : words.RequestedSetting)
-    × ((m.stage ≡ rules.Running (rules.Putting n asked requested (map requested_setting notes.left)))
+    × ((m.stage ≡ model.Running (model.Putting n asked requested (map requested_setting notes.left)))
     × (requested.name ≡ name))) × Early notes m
 WaitsAs job (stages.Getting n kind size) notes past m =
     ((left : List ℕ)
-    × ((m.stage ≡ rules.Running (rules.Getting n left)) × (values_wanted_from 0 notes.known ≡ n ∷ left)))
+    × ((m.stage ≡ model.Running (model.Getting n left)) × (values_wanted_from 0 notes.known ≡ n ∷ left)))
     × AreFilled notes.known
-WaitsAs job (stages.Starting first) notes past m = (m.stage ≡ rules.Running rules.Starting) × (first ≡ is_nil m.frames)
-WaitsAs job (stages.Shaping port order) notes past m = (m.stage ≡ rules.Running rules.Shaping) × (m.order ≡ order)
+WaitsAs job (stages.Starting first) notes past m = (m.stage ≡ model.Running model.Starting) × (first ≡ is_nil m.frames)
+WaitsAs job (stages.Shaping port order) notes past m = (m.stage ≡ model.Running model.Shaping) × (m.order ≡ order)
 WaitsAs job (stages.Imaging port made) notes past m = FrameIsShared past m
 -- the model asks for the next page at the end of the one before
-WaitsAs job stages.Turning notes past m = (m.stage ≡ rules.Running rules.Starting)
+WaitsAs job stages.Turning notes past m = (m.stage ≡ model.Running model.Starting)
     × (nat_lt notes.file 4294967295 ≡ true)
 WaitsAs job stages.Over notes past m = ⊥
 
@@ -194,24 +194,24 @@ IsApt target progress notes = Unit {0}
 
 -- ---- a job that is over
 
-abbrev pub ShowRefines : Bool → List (Descriptor × Option Value) → rules.ClientView → Type 0
+abbrev pub ShowRefines : Bool → List (Descriptor × Option Value) → model.ClientView → Type 0
 ShowRefines true options m = (m.known ≡ descs options) × (m.values ≡ known_values options)
     × OnlyReadableHaveValues options
 ShowRefines false options m = Unit {0}
 
-pub record DoneAs (place : DeviceInfo → ℕ) (task : Task) (reports : Reports) (m : rules.ClientView) : Type 0 where
-  pub stage : m.stage ≡ rules.Done
+pub record DoneAs (place : DeviceInfo → ℕ) (task : Task) (reports : Reports) (m : model.ClientView) : Type 0 where
+  pub stage : m.stage ≡ model.Done
   pub settings : map common_abstract_report m.reports ≡ map common_report reports.settings
   pub devices : m.devices ≡ map place reports.devices
   pub options : ShowRefines (shows task) reports.options m
 
-abbrev pub EndedAs : Status → Why → rules.ClientView → Type 0
-EndedAs status why m = (w : words.Why) × ((why_of why ≡ Some w) × (m.stage ≡ rules.Ended (abstract_status status) w))
+abbrev pub EndedAs : Status → Why → model.ClientView → Type 0
+EndedAs status why m = (w : words.Why) × ((why_of why ≡ Some w) × (m.stage ≡ model.Ended (abstract_status status) w))
 
 -- ---- the reading
 
-abbrev pub OutcomeRefines : (DeviceInfo → ℕ) → JobTarget → rules.AbstractJob → List (List Frame) → Outcome → Progress
-    → Notes → JoinHistory → rules.ClientView → Type 0
+abbrev pub OutcomeRefines : (DeviceInfo → ℕ) → JobTarget → model.AbstractJob → List (List Frame) → Outcome → Progress
+    → Notes → JoinHistory → model.ClientView → Type 0
 OutcomeRefines place target job pages Running progress notes past m = KnowsAs target.task pages notes m
     × WaitsAs job progress notes past m × IsApt target progress notes
 OutcomeRefines place target job pages (Done reports) progress notes past m = DoneAs place target.task reports m
@@ -221,8 +221,8 @@ OutcomeRefines place target job pages (Ended status why) progress notes past m =
 -- the frames of the page under way, and of the pages before it, whose join may be gone), and, where the job runs, what
 -- both know and what both wait for; where it is done, the reports, the devices, the options shown; where it ended,
 -- status and why. It is a relation: the model keeps the texts of settings, the client ports, kinds and its device word.
-pub record ClientRefines (place : DeviceInfo → ℕ) (target : JobTarget) (job : rules.AbstractJob)
-    (pages : List (List Frame)) (protocol : ProtocolState) (m : rules.ClientView) : Type 0 where
+pub record ClientRefines (place : DeviceInfo → ℕ) (target : JobTarget) (job : model.AbstractJob)
+    (pages : List (List Frame)) (protocol : ProtocolState) (m : model.ClientView) : Type 0 where
   pub files : Files pages protocol.history m.frames m.pages
   pub stands
       : OutcomeRefines place target job pages protocol.outcome protocol.progress protocol.notes protocol.history m

@@ -13,7 +13,7 @@ use Rattle.client_replies.specs.declared.progress.Progress.TheVariants as stages
 use Rattle.client_replies.specs.ReplyTurns.{turn, stop_unjoined, frame_ended, status_of as status_at}
 use Rattle.client_replies.specs.ProtocolStates.{ProtocolState, HistoryFits, protocol_after_turn, protocol_of_next_page}
 use Rattle.scan_job.specs.JobSize.{HasCount}
-use Rattle.system_model.specs.Client as rules
+use Rattle.system_model.specs.Client as model
 use Rattle.system_model.specs.ClientReplies.{client_after_bytes, finish_in}
 use Rattle.system_model.specs.Devices.{abstract_status}
 use Rattle.client_refines.specs.ClientRefinement.{task_of, ClientRefines}
@@ -36,8 +36,8 @@ IsImagingProtocol protocol = (port : ℕ) × ((made : Bool) × (protocol.progres
 
 abbrev pub BytesAreReadAlike : Type 0
 BytesAreReadAlike =
-    (place : DeviceInfo → ℕ) (target : JobTarget) (job : rules.AbstractJob) (pages : List (List Frame))
-    (protocol : ProtocolState) (m : rules.ClientView) (bytes : List ℕ)
+    (place : DeviceInfo → ℕ) (target : JobTarget) (job : model.AbstractJob) (pages : List (List Frame))
+    (protocol : ProtocolState) (m : model.ClientView) (bytes : List ℕ)
     → IsImagingProtocol protocol → protocol.outcome ≡ Running
     → HistoryFits target.task Running protocol.progress protocol.history
     → ClientRefines place target job pages protocol m
@@ -52,8 +52,8 @@ protocol_after_end task protocol n =
 
 abbrev pub FramesEndAlike : Type 0
 FramesEndAlike =
-    (place : DeviceInfo → ℕ) (target : JobTarget) (job : rules.AbstractJob) (pages : List (List Frame))
-    (protocol : ProtocolState) (m : rules.ClientView) (n : ℕ) (status : Status)
+    (place : DeviceInfo → ℕ) (target : JobTarget) (job : model.AbstractJob) (pages : List (List Frame))
+    (protocol : ProtocolState) (m : model.ClientView) (n : ℕ) (status : Status)
     → job.task ≡ task_of target.task → HasCount target.task → status_at n ≡ Some status → IsImagingProtocol protocol
     → protocol.outcome ≡ Running → HistoryFits target.task Running protocol.progress protocol.history
     → ClientRefines place target job pages protocol m
@@ -64,8 +64,8 @@ FramesEndAlike =
 
 abbrev pub PagesTurnUnseen : Type 0
 PagesTurnUnseen =
-    (place : DeviceInfo → ℕ) (target : JobTarget) (job : rules.AbstractJob) (pages : List (List Frame))
-    (protocol : ProtocolState) (m : rules.ClientView)
+    (place : DeviceInfo → ℕ) (target : JobTarget) (job : model.AbstractJob) (pages : List (List Frame))
+    (protocol : ProtocolState) (m : model.ClientView)
     → protocol.outcome ≡ Running → protocol.progress ≡ stages.Turning
     → HistoryFits target.task Running protocol.progress protocol.history
     → ClientRefines place target job pages protocol m

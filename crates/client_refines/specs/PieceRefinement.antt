@@ -24,7 +24,7 @@ use Rattle.net_client.specs.ClientStates.{ClientState, protocol_of, ClientRepres
 use Rattle.net_client.specs.ReplyPieces.{Heeds, Whole, Garbled, OutOfMemoryBehind, OutOfMemoryAtOnce}
 use Rattle.net_client.specs.FramePieces.{Receives}
 use Rattle.system_model.specs.AbstractMessages as words
-use Rattle.system_model.specs.Client as rules
+use Rattle.system_model.specs.Client as model
 use Rattle.system_model.specs.ClientReplies.{hear_in, client_after_bytes, finish_in, client_after_stop}
 use Rattle.system_model.specs.Devices.{abstract_status}
 use Rattle.client_refines.specs.DecodedReplies.{DecodedReply, Before, Says, Demands, decoded_reply_at}
@@ -41,26 +41,26 @@ pub record SpellsSent (target : JobTarget) (sent : List ℕ) (asks : List Expect
   pub same : AreRequests target requests asks
 
 -- the START of a further page goes out as the page's file is taken
-abbrev pub SpellsSentAt : JobTarget → ℕ → Progress → List ℕ → rules.AbstractJob → rules.ClientView → Type 0
+abbrev pub SpellsSentAt : JobTarget → ℕ → Progress → List ℕ → model.AbstractJob → model.ClientView → Type 0
 SpellsSentAt target word stages.Turning sent job m = (sent ≡ [])
-    × (rules.requests_sent job.task m.stage ≡ words.Start ∷ [])
+    × (model.requests_sent job.task m.stage ≡ words.Start ∷ [])
 SpellsSentAt target word progress sent job m =
-    SpellsSent target sent (asks_of word m.known (rules.requests_sent job.task m.stage))
+    SpellsSent target sent (asks_of word m.known (model.requests_sent job.task m.stage))
 
 -- ---- the replies of a piece
 
 -- a client view, and what it has asked for since the call
 pub record ListeningClient : Type 0 where
-  pub client : rules.ClientView
+  pub client : model.ClientView
   pub asks : List ExpectedRequest
 
 -- it comes to know that, and asks for what it waits for then, as the client has that device word
-abbrev pub listening_after : rules.AbstractJob → ℕ → ListeningClient → rules.ClientView → ListeningClient
+abbrev pub listening_after : model.AbstractJob → ℕ → ListeningClient → model.ClientView → ListeningClient
 listening_after job word h m =
-    record { client = m; asks = h.asks ++ asks_of word m.known (rules.requests_sent job.task m.stage) }
+    record { client = m; asks = h.asks ++ asks_of word m.known (model.requests_sent job.task m.stage) }
 
 -- what is so of it once it has heard that
-abbrev pub Hearing : rules.AbstractJob → ℕ → ListeningClient → DecodedReply → (ListeningClient → Type 0) → Type 0
+abbrev pub Hearing : model.AbstractJob → ℕ → ListeningClient → DecodedReply → (ListeningClient → Type 0) → Type 0
 Hearing job word h Before Holds = Holds h
 Hearing job word h (Says answer) Holds = Holds (listening_after job word h (hear_in h.client.stage job h.client answer))
 Hearing job word h Demands Holds = Holds (listening_after job word h (client_refusing h.client))
@@ -70,7 +70,7 @@ Hearing job word h Demands Holds = Holds (listening_after job word h (client_ref
 -- then, and what was sent: of a piece of the control connection, of a data connection, and as a page's file is taken.
 --
 -- what is so of it once it has heard these, one after another
-abbrev pub HearingAll : (DeviceInfo → ℕ) → JobTarget → rules.AbstractJob → ProtocolState → List Reply
+abbrev pub HearingAll : (DeviceInfo → ℕ) → JobTarget → model.AbstractJob → ProtocolState → List Reply
     → (ListeningClient → Type 0) → ListeningClient → Type 0
 HearingAll place target job t [] Holds h = Holds h
 HearingAll place target job t (r ∷ rs) Holds h =
@@ -78,18 +78,18 @@ HearingAll place target job t (r ∷ rs) Holds h =
     HearingAll place target job (after_reply target t r) rs Holds n)
 
 -- the client reads so, and what it has sent is what the client view has asked for
-pub record ListeningRefines (place : DeviceInfo → ℕ) (target : JobTarget) (job : rules.AbstractJob)
-    (pages : List (List Frame)) (protocol : ProtocolState) (m : rules.ClientView) (sent : List ℕ)
+pub record ListeningRefines (place : DeviceInfo → ℕ) (target : JobTarget) (job : model.AbstractJob)
+    (pages : List (List Frame)) (protocol : ProtocolState) (m : model.ClientView) (sent : List ℕ)
     (asks : List ExpectedRequest) : Type 0 where
   pub reads : ClientRefines place target job pages protocol m
   pub spells : SpellsSent target sent asks
 
-abbrev pub new_listening_client : rules.ClientView → ListeningClient
+abbrev pub new_listening_client : model.ClientView → ListeningClient
 new_listening_client m = record { client = m; asks = [] }
 
 -- What is so as a call ends: the replies were heard, and then the job has ended, where what comes next is none, or
 -- where memory runs out.
-abbrev pub HeedsAs : (DeviceInfo → ℕ) → rules.AbstractJob → List (List Frame) → rules.ClientView → (old : ClientState)
+abbrev pub HeedsAs : (DeviceInfo → ℕ) → model.AbstractJob → List (List Frame) → model.ClientView → (old : ClientState)
     → (past : JoinHistory) → (piece : List ℕ) → (new : ClientState) → Heeds old past piece new → Type 0
 HeedsAs place job pages m old past piece new (Whole h wants) =
     HearingAll place old.target job (protocol_of old past) h.told (λ n.
@@ -112,8 +112,8 @@ HeedsAs place job pages m old past piece new (OutOfMemoryAtOnce s) =
 
 abbrev pub PiecesAreHeardAlike : Type 0
 PiecesAreHeardAlike =
-    (place : DeviceInfo → ℕ) (job : rules.AbstractJob) (pages : List (List Frame)) (old new : ClientState)
-    (past : JoinHistory) (piece : List ℕ) (m : rules.ClientView)
+    (place : DeviceInfo → ℕ) (job : model.AbstractJob) (pages : List (List Frame)) (old new : ClientState)
+    (past : JoinHistory) (piece : List ℕ) (m : model.ClientView)
     → job.task ≡ task_of old.target.task → is_running old.outcome ≡ true → ClientRepresents past old
     → ClientRefines place old.target job pages (protocol_of old past) m
     → (heeds : Heeds old past piece new) → HeedsAs place job pages m old past piece new heeds
@@ -128,23 +128,23 @@ pub record RecordsBring (old new : RecordPhase) (piece given : List ℕ) : Type 
   pub carries : CarriesRecords old new used given
 
 -- the client stands for that history, of which so much was given, and reads so
-pub record RefinesWithGiven (place : DeviceInfo → ℕ) (target : JobTarget) (job : rules.AbstractJob)
+pub record RefinesWithGiven (place : DeviceInfo → ℕ) (target : JobTarget) (job : model.AbstractJob)
     (pages : List (List Frame)) (given : List ℕ) (past : JoinHistory) (new : ClientState)
-    (m : rules.ClientView) : Type 0 where
+    (m : model.ClientView) : Type 0 where
   pub serves : ClientRepresents past new
   pub given_is : past.given ≡ given
   pub reads : ClientRefines place target job pages (protocol_of new past) m
 
 -- an end record came: how the client reads then, and what it sends
-pub record EndRecordRefines (place : DeviceInfo → ℕ) (target : JobTarget) (job : rules.AbstractJob)
-    (pages : List (List Frame)) (given : List ℕ) (past : JoinHistory) (new : ClientState) (m : rules.ClientView)
+pub record EndRecordRefines (place : DeviceInfo → ℕ) (target : JobTarget) (job : model.AbstractJob)
+    (pages : List (List Frame)) (given : List ℕ) (past : JoinHistory) (new : ClientState) (m : model.ClientView)
     (sent : List ℕ) : Type 0 where
   pub stands : RefinesWithGiven place target job pages given past new m
   pub spells : SpellsSentAt target new.notes.word new.progress sent job m
 
 -- a byte that is no status ends the job as malformed
-abbrev pub EndByteRefines : (DeviceInfo → ℕ) → JobTarget → rules.AbstractJob → List (List Frame) → List ℕ → JoinHistory
-    → ClientState → rules.ClientView → List ℕ → Option Status → Type 0
+abbrev pub EndByteRefines : (DeviceInfo → ℕ) → JobTarget → model.AbstractJob → List (List Frame) → List ℕ → JoinHistory
+    → ClientState → model.ClientView → List ℕ → Option Status → Type 0
 EndByteRefines place target job pages given past new m sent None =
     RefinesWithGiven place target job pages given past new (client_after_stop words.IoError words.Malformed m)
     × (sent ≡ [])
@@ -153,8 +153,8 @@ EndByteRefines place target job pages given past new m sent (Some status) =
 
 -- What comes of a piece: bytes of the frame, and of these more than it may have, behind which no more is read; an end
 -- behind them; or out of memory behind a front of them. Of the file nothing more is given.
-pub data ReceivesPiece (place : DeviceInfo → ℕ) (job : rules.AbstractJob) (pages : List (List Frame))
-    (m : rules.ClientView) (old : ClientState) (was : JoinHistory) (piece : List ℕ) (new : ClientState) : Type 0 where
+pub data ReceivesPiece (place : DeviceInfo → ℕ) (job : model.AbstractJob) (pages : List (List Frame))
+    (m : model.ClientView) (old : ClientState) (was : JoinHistory) (piece : List ℕ) (new : ClientState) : Type 0 where
   Goes : (given : List ℕ) (past : JoinHistory) → CarriesRecords old.phase new.phase piece given
       → new ≡ record old { phase = new.phase; join = new.join } → (HasEnded new.phase → ⊥)
       → RefinesWithGiven place old.target job pages was.given past new (client_after_bytes m.stage m given)
@@ -176,8 +176,8 @@ pub data ReceivesPiece (place : DeviceInfo → ℕ) (job : rules.AbstractJob) (p
 
 abbrev pub PiecesAreReceivedAlike : Type 0
 PiecesAreReceivedAlike =
-    (place : DeviceInfo → ℕ) (job : rules.AbstractJob) (pages : List (List Frame)) (old new : ClientState)
-    (past : JoinHistory) (piece : List ℕ) (m : rules.ClientView)
+    (place : DeviceInfo → ℕ) (job : model.AbstractJob) (pages : List (List Frame)) (old new : ClientState)
+    (past : JoinHistory) (piece : List ℕ) (m : model.ClientView)
     → job.task ≡ task_of old.target.task → HasCount old.target.task → is_receiving old.outcome old.progress ≡ true
     → ClientRepresents past old → ClientRefines place old.target job pages (protocol_of old past) m
     → Receives old past piece new → ReceivesPiece place job pages m old past piece new
@@ -186,7 +186,7 @@ PiecesAreReceivedAlike =
 
 -- Bytes of the file are taken, and the reading stays; behind the last of them START goes out, for which the model has
 -- asked, and the page is one of those before.
-abbrev pub TakesAs : (DeviceInfo → ℕ) → rules.AbstractJob → List (List Frame) → rules.ClientView → (old : ClientState)
+abbrev pub TakesAs : (DeviceInfo → ℕ) → model.AbstractJob → List (List Frame) → model.ClientView → (old : ClientState)
     → (past : JoinHistory) → (bytes : List ℕ) → (new : ClientState) → TakesPage old past bytes new → Type 0
 TakesAs place job pages m old past bytes new (Stays short rest serves) = (new.out ≡ old.out)
     × ClientRefines place old.target job pages (protocol_of new (after_pull bytes past)) m
@@ -197,8 +197,8 @@ TakesAs place job pages m old past bytes new (Turns whole shows turns serves) =
 
 abbrev pub PagesAreTakenAlike : Type 0
 PagesAreTakenAlike =
-    (place : DeviceInfo → ℕ) (job : rules.AbstractJob) (pages : List (List Frame)) (old new : ClientState)
-    (past : JoinHistory) (bytes : List ℕ) (m : rules.ClientView)
+    (place : DeviceInfo → ℕ) (job : model.AbstractJob) (pages : List (List Frame)) (old new : ClientState)
+    (past : JoinHistory) (bytes : List ℕ) (m : model.ClientView)
     → turns old.outcome old.progress ≡ true → ClientRepresents past old
     → ClientRefines place old.target job pages (protocol_of old past) m
     → (takes : TakesPage old past bytes new) → TakesAs place job pages m old past bytes new takes

@@ -7,20 +7,20 @@ use Rattle.scan_job.specs.declared.outcome.Outcome.TheVariants.{Running}
 use Rattle.client_replies.specs.declared.progress.JobTarget.{JobTarget}
 use Rattle.client_replies.specs.ProtocolStates.{ProtocolState, HistoryFits, after_reply}
 use Rattle.system_model.specs.AbstractMessages as words
-use Rattle.system_model.specs.Client as rules
+use Rattle.system_model.specs.Client as model
 use Rattle.system_model.specs.ClientReplies.{hear_in}
 use Rattle.client_refines.specs.DecodedReplies.{DecodedReply, Before, Says, Demands, decoded_reply_at, IsShortAt}
 use Rattle.client_refines.specs.ClientRefinement.{task_of, ClientRefines}
 
 -- the password is not sent: the job ends
-abbrev pub client_refusing : rules.ClientView → rules.ClientView
-client_refusing m = rules.with_ending words.AccessDenied words.Plain m
+abbrev pub client_refusing : model.ClientView → model.ClientView
+client_refusing m = model.with_ending words.AccessDenied words.Plain m
 
 -- **heard (`HeardAs`), read and closed (`protocol_after_bytes`, `protocol_after_end`), turned
 -- (`protocol_of_next_page`)**: how the client reads once a reply, bytes of a frame, its end record came, and once it
 -- turned to the next page.
-abbrev pub HeardAs : (DeviceInfo → ℕ) → JobTarget → rules.AbstractJob → List (List Frame) → ProtocolState
-    → rules.ClientView → DecodedReply → Type 0
+abbrev pub HeardAs : (DeviceInfo → ℕ) → JobTarget → model.AbstractJob → List (List Frame) → ProtocolState
+    → model.ClientView → DecodedReply → Type 0
 HeardAs place target job pages protocol m Before = ClientRefines place target job pages protocol m
 HeardAs place target job pages protocol m (Says answer) =
     ClientRefines place target job pages protocol (hear_in m.stage job m answer)
@@ -29,8 +29,8 @@ HeardAs place target job pages protocol m Demands = ClientRefines place target j
 -- what a reply makes of a client is what its decoded reply makes of the reading
 abbrev pub RepliesAreHeardAlike : Type 0
 RepliesAreHeardAlike =
-    (place : DeviceInfo → ℕ) (target : JobTarget) (job : rules.AbstractJob) (pages : List (List Frame))
-    (protocol : ProtocolState) (m : rules.ClientView) (r : Reply)
+    (place : DeviceInfo → ℕ) (target : JobTarget) (job : model.AbstractJob) (pages : List (List Frame))
+    (protocol : ProtocolState) (m : model.ClientView) (r : Reply)
     → job.task ≡ task_of target.task → IsShortAt protocol.progress r → protocol.outcome ≡ Running
     → HistoryFits target.task Running protocol.progress protocol.history
     → ClientRefines place target job pages protocol m

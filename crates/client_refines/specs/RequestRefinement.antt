@@ -13,7 +13,7 @@ use Rattle.client_replies.specs.declared.progress.Progress.{Progress}
 use Rattle.client_replies.specs.declared.progress.Progress.TheVariants as stages
 use Rattle.client_replies.specs.declared.progress.Notes.{Notes}
 use Rattle.system_model.specs.AbstractMessages as words
-use Rattle.system_model.specs.Client as rules
+use Rattle.system_model.specs.Client as model
 use Rattle.client_refines.specs.ClientRefinement.{task_of, descs, WaitsAs, IsApt}
 use Rattle.sane_fixed.specs.declared.kind.Kind.{Kind}
 use Rattle.option_desc.specs.declared.descriptor.Descriptor.{Descriptor}
@@ -92,18 +92,18 @@ AsksAt target word known stages.Reopening q rs = q ≡ None
 AsksAt target word known stages.Turning q rs = (q ≡ None) × (rs ≡ words.Start ∷ [])
 AsksAt target word known progress q rs = AreRequests target (request_list q) (asks_of word known rs)
 
-pub record AsksAlike (target : JobTarget) (word : ℕ) (progress : Progress) (m : rules.ClientView) : Type 0 where
+pub record AsksAlike (target : JobTarget) (word : ℕ) (progress : Progress) (m : model.ClientView) : Type 0 where
   pub requests
       : AsksAt target word m.known progress (request_for target word progress)
-      (rules.requests_sent (task_of target.task) m.stage)
-  pub farewells : AreRequests target (farewell word progress) (asks_of word m.known (rules.abstract_farewell m.stage))
+      (model.requests_sent (task_of target.task) m.stage)
+  pub farewells : AreRequests target (farewell word progress) (asks_of word m.known (model.abstract_farewell m.stage))
 
 abbrev pub RequestsAreAlike : Type 0
 RequestsAreAlike =
-    ((target : JobTarget) (job : rules.AbstractJob) (progress : Progress) (notes : Notes) (past : JoinHistory)
-    (m : rules.ClientView)
+    ((target : JobTarget) (job : model.AbstractJob) (progress : Progress) (notes : Notes) (past : JoinHistory)
+    (m : model.ClientView)
     → WaitsAs job progress notes past m → IsApt target progress notes → m.known ≡ descs notes.known
     → AsksAlike target notes.word progress m)
     × ((target : JobTarget) (word : ℕ) (known : List Descriptor)
     → AreRequests target (goodbye target.task word)
-    (asks_of word known (rules.abstract_goodbye (task_of target.task))))
+    (asks_of word known (model.abstract_goodbye (task_of target.task))))

@@ -5,7 +5,7 @@ use Rattle.dispatch.specs.declared.table.place.Lease.{Lease}
 use Rattle.dispatch.specs.Table.{Table}
 use Rattle.saned_requests.specs.declared.session.DataPhase.{DataPhase as WordCarriage}
 use Rattle.saned_requests.specs.declared.session.DataPhase.TheVariants as word
-use Rattle.saned_requests.specs.declared.session.Session.{Session as DeskSession}
+use Rattle.saned_requests.specs.declared.session.Session.{Session as RequestSession}
 use Rattle.saned_requests.specs.Holding.{given_back, held_by}
 use Rattle.saned_core.specs.declared.session_slot.DataStep.{DataStep}
 use Rattle.saned_core.specs.declared.session_slot.SessionSlot.{SessionSlot}
@@ -29,7 +29,7 @@ use Rattle.daemon_refines.specs.Cores.{SessionRefines}
 use Rattle.saned_core.specs.Feeding.{core_context}
 use Rattle.daemon_refines.specs.CoreCalls.{CoreConnects, CoreEnds, CoreLoses, CoreTurned, CoreTurns, CoreTurnsOff, SessionRefinesAs}
 use Rattle.daemon_refines.proofs.DataLinks.{connects_agree, loss_agrees}
-use Rattle.daemon_refines.proofs.Cores.{Behind, own_seat, stands_as}
+use Rattle.daemon_refines.proofs.Cores.{Behind, own_slot, stands_as}
 use Rattle.daemon_refines.proofs.SessionEndings.{ends}
 use Rattle.daemon_refines.proofs.Leaves.{AreKept, IsKept, changed, ends_leave, has_own, held_own, kept, leaves_kept, put_one}
 use Rattle.daemon_refines.proofs.Moved.{unsome}
@@ -39,19 +39,19 @@ use Rattle.daemon_refines.proofs.SessionTurns.{endings_agree, streams_agree}
 -- ---- a call that changes one session, and no table
 
 -- what becomes of the slot of a number
-abbrev Becomes : (SessionSlot DeviceState → Option (SessionSlot DeviceState)) → DeskSession DeviceState → DeskSession DeviceState → Type 0
+abbrev Becomes : (SessionSlot DeviceState → Option (SessionSlot DeviceState)) → RequestSession DeviceState → RequestSession DeviceState → Type 0
 Becomes f session now = (slot : SessionSlot DeviceState) → slot.session ≡ Some session → (new : SessionSlot DeviceState) × (f slot ≡ Some new) × (new.number ≡ slot.number) × (new.session ≡ Some now)
 
-session_behind : (f : SessionSlot DeviceState → Option (SessionSlot DeviceState)) (n : ℕ) (slots : List (Option (SessionSlot DeviceState))) (o : Option (SessionSlot DeviceState)) (session now : DeskSession DeviceState) → session_slot_of slots n ≡ o → session_in o ≡ Some session → Becomes f session now → session_in (session_slot_of (on_session_slot f n slots) n) ≡ Some now
+session_behind : (f : SessionSlot DeviceState → Option (SessionSlot DeviceState)) (n : ℕ) (slots : List (Option (SessionSlot DeviceState))) (o : Option (SessionSlot DeviceState)) (session now : RequestSession DeviceState) → session_slot_of slots n ≡ o → session_in o ≡ Some session → Becomes f session now → session_in (session_slot_of (on_session_slot f n slots) n) ≡ Some now
 session_behind f n slots None session now e is b = absurd (let clash : None ≡ Some session = is in cc)
 session_behind f n slots (Some slot) session now e is b =
     let new = b slot is in
-    ap session_in (own_seat f n slots slot new.0 e new.1 new.2) ∙ new.3
+    ap session_in (own_slot f n slots slot new.0 e new.1 new.2) ∙ new.3
 
 abbrev KeepsNumber : (SessionSlot DeviceState → Option (SessionSlot DeviceState)) → Type 0
 KeepsNumber f = (slot new : SessionSlot DeviceState) → f slot ≡ Some new → new.number ≡ slot.number
 
-one_changed : (f : SessionSlot DeviceState → Option (SessionSlot DeviceState)) (i : ℕ) (make : ℕ → Make) (n : ℕ) (old new : Core) (table devices : ℕ → AbstractDevice) (s u : AbstractSession) (now : DeskSession DeviceState) → (stands : SessionRefines i make old n table s) → new ≡ record old { slots = on_session_slot f n old.slots } → KeepsNumber f →
+one_changed : (f : SessionSlot DeviceState → Option (SessionSlot DeviceState)) (i : ℕ) (make : ℕ → Make) (n : ℕ) (old new : Core) (table devices : ℕ → AbstractDevice) (s u : AbstractSession) (now : RequestSession DeviceState) → (stands : SessionRefines i make old n table s) → new ≡ record old { slots = on_session_slot f n old.slots } → KeepsNumber f →
     Becomes f stands.session now → ContextRefines i make (core_context old now) devices u → IsSessionBegun (core_context old now) → LeavesOthers i old.registry old.registry table devices → SessionRefinesAs i make n old new table devices u
 one_changed f i make n old new table devices s u now stands is number becomes shows begun leaves =
     subst (λ (c : Core). SessionRefinesAs i make n old c table devices u) (sym is) (record {
@@ -60,10 +60,10 @@ one_changed f i make n old new table devices s u now stands is number becomes sh
           stands_as i j m make old (record old { slots = on_session_slot f n old.slots }) table devices v apart_i (ap session_in (apart old.slots f n m number (λ e. apart_n (sym e)))) (record { held = now.held; shows = shows.devices; others = leaves }) h;
     })
 
-on_number : (g : DeskSession DeviceState → DeskSession DeviceState) → KeepsNumber (on_session g)
+on_number : (g : RequestSession DeviceState → RequestSession DeviceState) → KeepsNumber (on_session g)
 on_number g slot new e = ap (λ (x : SessionSlot DeviceState). x.number) (sym (unsome (record slot { session = option_map g slot.session }) new e))
 
-on_becomes : (g : DeskSession DeviceState → DeskSession DeviceState) (session : DeskSession DeviceState) → Becomes (on_session g) session (g session)
+on_becomes : (g : RequestSession DeviceState → RequestSession DeviceState) (session : RequestSession DeviceState) → Becomes (on_session g) session (g session)
 on_becomes g session slot is = (record slot { session = option_map g slot.session }, refl, refl, ap (option_map g) is)
 
 -- ---- its data connection
@@ -73,7 +73,7 @@ core_connects i make n old new table s stands is =
     one_changed (on_session after_connected) i make n old new table table s (record s { transfer = transfer_connected s.transfer }) (after_connected stands.session) stands is (on_number after_connected) (on_becomes after_connected stands.session)
     (connects_agree i make (core_context old stands.session) table s stands.shows) stands.begun (leaves_all i old.registry table)
 
-lost_begun : (old : Core) (session : DeskSession DeviceState) (c : WordCarriage) → IsSessionBegun (core_context old session) → IsSessionBegun (core_context old (lost_from c session))
+lost_begun : (old : Core) (session : RequestSession DeviceState) (c : WordCarriage) → IsSessionBegun (core_context old session) → IsSessionBegun (core_context old (lost_from c session))
 lost_begun old session word.Quiet h = h
 lost_begun old session (word.Waiting w) h = h
 lost_begun old session (word.Streaming w) h = h
@@ -103,13 +103,13 @@ core_loses i make n old new table s stands is =
 
 -- ---- a turn
 
-same_begun : (old : Core) (session now : DeskSession DeviceState) → now.greeted ≡ session.greeted → now.awaited ≡ session.awaited → IsSessionBegun (core_context old session) → IsSessionBegun (core_context old now)
+same_begun : (old : Core) (session now : RequestSession DeviceState) → now.greeted ≡ session.greeted → now.awaited ≡ session.awaited → IsSessionBegun (core_context old session) → IsSessionBegun (core_context old now)
 same_begun old session now e f (inl greeted) = inl (e ∙ greeted)
 same_begun old session now e f (inr none) = inr (f ∙ none)
 
-from_begun : (old : Core) (h : Option (Lease DeviceState)) (w : ℕ) (session now : DeskSession DeviceState) (step : DataStep) (buf : List ℕ) → StreamsFrom h w session step now buf → IsSessionBegun (core_context old session) → IsSessionBegun (core_context old now)
-from_begun old None w session now step buf g h = same_begun old session now (ap (λ (x : DeskSession DeviceState). x.greeted) g.1) (ap (λ (x : DeskSession DeviceState). x.awaited) g.1) h
-from_begun old (Some l) w session now step buf g h = same_begun old session now (ap (λ (x : DeskSession DeviceState). x.greeted) g.new_is) (ap (λ (x : DeskSession DeviceState). x.awaited) g.new_is) h
+from_begun : (old : Core) (h : Option (Lease DeviceState)) (w : ℕ) (session now : RequestSession DeviceState) (step : DataStep) (buf : List ℕ) → StreamsFrom h w session step now buf → IsSessionBegun (core_context old session) → IsSessionBegun (core_context old now)
+from_begun old None w session now step buf g h = same_begun old session now (ap (λ (x : RequestSession DeviceState). x.greeted) g.1) (ap (λ (x : RequestSession DeviceState). x.awaited) g.1) h
+from_begun old (Some l) w session now step buf g h = same_begun old session now (ap (λ (x : RequestSession DeviceState). x.greeted) g.new_is) (ap (λ (x : RequestSession DeviceState). x.awaited) g.new_is) h
 
 -- the actions of a turn keep their device
 turn_kept : (i : ℕ) (k : Make) (listed : List ℕ) (p : JobState) (dev : AbstractDevice) (step : DataStep) (buf : List ℕ) (action : Action) → SendsAs step buf action → IsHeldByNoOther i dev.holder → IsKept i dev (device_after i k listed p dev action)
@@ -131,10 +131,10 @@ turn_kept i k listed p dev step buf (actions.Breaks memory) sends own = absurd s
 turn_kept i k listed p dev step buf actions.RunsOutOfMemory sends own = absurd sends
 turn_kept i k listed p dev step buf actions.Stops sends own = absurd sends
 
-same_session : (a b : DeskSession DeviceState) → ◌≡◌ {A = Option (DeskSession DeviceState)} (Some a) (Some b) → a ≡ b
+same_session : (a b : RequestSession DeviceState) → ◌≡◌ {A = Option (RequestSession DeviceState)} (Some a) (Some b) → a ≡ b
 same_session a b e = cc
 
-turned : (i : ℕ) (make : ℕ → Make) (n : ℕ) (old new : Core) (table : ℕ → AbstractDevice) (s : AbstractSession) (listed : List ℕ) (p : JobState) (place : ℕ) (step : DataStep) (buf : List ℕ) (now : DeskSession DeviceState) → (stands : SessionRefines i make old n table s) → new ≡ record old { slots = on_session_slot (with_session now) n old.slots } → IsSessionBegun (core_context old now) →
+turned : (i : ℕ) (make : ℕ → Make) (n : ℕ) (old new : Core) (table : ℕ → AbstractDevice) (s : AbstractSession) (listed : List ℕ) (p : JobState) (place : ℕ) (step : DataStep) (buf : List ℕ) (now : RequestSession DeviceState) → (stands : SessionRefines i make old n table s) → new ≡ record old { slots = on_session_slot (with_session now) n old.slots } → IsSessionBegun (core_context old now) →
     (t : StreamServed i make (core_context old stands.session) table s listed p place step now buf) → IsKept i (table place) (device_after i (make place) listed p (table place) t.action) → CoreTurned i make n old new table s listed p place step buf
 turned i make n old new table s listed p place step buf now stands is begun t keeps =
     let dev = device_after i (make place) listed p (table place) t.action in
@@ -144,14 +144,14 @@ turned i make n old new table s listed p place step buf now stands is begun t ke
       may = t.may;
       sends = t.sends;
       counted = λ a b first last.
-          subst (λ (x : DeskSession DeviceState). IsCountedAt x.held b.held s.words place t.action) (same_session stands.session a (sym stands.stands ∙ first))
-          (subst (λ (x : DeskSession DeviceState). IsCountedAt stands.session.held x.held s.words place t.action) (same_session now b (sym there ∙ last)) t.counted);
+          subst (λ (x : RequestSession DeviceState). IsCountedAt x.held b.held s.words place t.action) (same_session stands.session a (sym stands.stands ∙ first))
+          (subst (λ (x : RequestSession DeviceState). IsCountedAt stands.session.held x.held s.words place t.action) (same_session now b (sym there ∙ last)) t.counted);
       stands = one_changed (with_session now) i make n old new table (with_entry table place dev) s _ now stands is (λ slot next e. ap (λ (x : SessionSlot DeviceState). x.number) (sym (unsome (record slot { session = Some now }) next e)))
           (λ slot going. (record slot { session = Some now }, refl, refl, refl)) t.shows begun (leaves_kept i old.registry table (with_entry table place dev) (put_one i table place dev keeps));
     }
 
 -- the session behind a turn
-behind_turn : (old new : Core) (n : ℕ) (now : DeskSession DeviceState) → new ≡ record old { slots = new.slots } → new.slots ≡ on_session_slot (with_session now) n old.slots → new ≡ record old { slots = on_session_slot (with_session now) n old.slots }
+behind_turn : (old new : Core) (n : ℕ) (now : RequestSession DeviceState) → new ≡ record old { slots = new.slots } → new.slots ≡ on_session_slot (with_session now) n old.slots → new ≡ record old { slots = on_session_slot (with_session now) n old.slots }
 behind_turn old new n now is slots = is ∙ ap (λ (x : List (Option (SessionSlot DeviceState))). record old { slots = x }) slots
 
 turned_in : (i : ℕ) (make : ℕ → Make) (n : ℕ) (old new : Core) (table : ℕ → AbstractDevice) (s : AbstractSession) (listed : List ℕ) (p : JobState) (w : ℕ) (step : DataStep) (buf : List ℕ) → (stands : SessionRefines i make old n table s) → p.session.transfer ≡ s.transfer → stands.session.transfer ≡ word.Streaming w →
@@ -173,15 +173,15 @@ turned_off i make n old new table s listed p place step buf stands same off is (
     let t = endings_agree i make (core_context old stands.session) table s listed p place step now buf stands.shows same off g in
     let ended : now ≡ record stands.session { transfer = word.Quiet } = (subst (λ (c : WordCarriage). StreamsIn c stands.session step now buf) off g).1 in
     let keeps : IsKept i (table place) (device_after i (make place) listed p (table place) t.0.action) = subst (λ (x : Action). IsKept i (table place) (device_after i (make place) listed p (table place) x)) (sym t.1) (kept i (table place)) in
-    (turned i make n old new table s listed p place step buf now stands (behind_turn old new n now is slots) (same_begun old stands.session now (ap (λ (x : DeskSession DeviceState). x.greeted) ended) (ap (λ (x : DeskSession DeviceState). x.awaited) ended) stands.begun) t.0 keeps, t.1)
+    (turned i make n old new table s listed p place step buf now stands (behind_turn old new n now is slots) (same_begun old stands.session now (ap (λ (x : RequestSession DeviceState). x.greeted) ended) (ap (λ (x : RequestSession DeviceState). x.awaited) ended) stands.begun) t.0 keeps, t.1)
 
 pub core_turns_off : CoreTurnsOff
 core_turns_off i make n old new table s listed p place step buf stands same off g =
-    turned_off i make n old new table s listed p place step buf stands same off g.others (subst (λ (o : Option (DeskSession DeviceState)). TurnsSessions o n old.slots step new.slots buf) stands.stands g.slots)
+    turned_off i make n old new table s listed p place step buf stands same off g.others (subst (λ (o : Option (RequestSession DeviceState)). TurnsSessions o n old.slots step new.slots buf) stands.stands g.slots)
 
 pub core_turns : CoreTurns
 core_turns i make n old new table s listed p w step buf stands same streams g =
-    turned_in i make n old new table s listed p w step buf stands same streams g.others (subst (λ (o : Option (DeskSession DeviceState)). TurnsSessions o n old.slots step new.slots buf) stands.stands g.slots)
+    turned_in i make n old new table s listed p w step buf stands same streams g.others (subst (λ (o : Option (RequestSession DeviceState)). TurnsSessions o n old.slots step new.slots buf) stands.stands g.slots)
 
 -- ---- an end
 

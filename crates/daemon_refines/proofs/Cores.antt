@@ -6,7 +6,7 @@ use Rattle.rand_chacha.specs.ChaCha.{ChaCha}
 use Rattle.md5_auth.specs.declared.users.Entry.{Entry}
 use Rattle.device_api.specs.State.{DeviceState}
 use Rattle.dispatch.specs.Table.{Table}
-use Rattle.saned_requests.specs.declared.session.Session.{Session as DeskSession}
+use Rattle.saned_requests.specs.declared.session.Session.{Session as RequestSession}
 use Rattle.saned_requests.specs.RequestAnswers.{RequestContext}
 use Rattle.saned_core.specs.declared.session_slot.Fed.{Fed}
 use Rattle.saned_core.specs.declared.session_slot.Fed.TheVariants.{Standing, Over, Starved}
@@ -30,12 +30,12 @@ use Rattle.daemon_refines.proofs.OtherSessions.{others_stand}
 
 -- ---- slots
 
-standing_number : (o : Option (DeskSession DeviceState)) (replies : List ℕ) (slot new : SessionSlot DeviceState) → slot_if_open o replies slot ≡ Some new → new.number ≡ slot.number
+standing_number : (o : Option (RequestSession DeviceState)) (replies : List ℕ) (slot new : SessionSlot DeviceState) → slot_if_open o replies slot ≡ Some new → new.number ≡ slot.number
 standing_number (Some session) replies slot new e = ap (λ (x : SessionSlot DeviceState). x.number) (sym (unsome slot new e))
 standing_number None [] slot new e = absurd (let clash : None ≡ Some new = e in cc)
 standing_number None (b ∷ bytes) slot new e = ap (λ (x : SessionSlot DeviceState). x.number) (sym (unsome slot new e))
 
-fed_number : (fed : Fed) (session : DeskSession DeviceState) (rest text : List ℕ) (slot : SessionSlot DeviceState) → (slot_after_feed fed session rest text slot).number ≡ slot.number
+fed_number : (fed : Fed) (session : RequestSession DeviceState) (rest text : List ℕ) (slot : SessionSlot DeviceState) → (slot_after_feed fed session rest text slot).number ≡ slot.number
 fed_number Standing session rest text slot = refl
 fed_number Over session rest text slot = refl
 fed_number Starved session rest text slot = refl
@@ -55,16 +55,16 @@ own_at f n x slots slot new true e is becomes same more =
     rw (now, numbered) refl
 own_at f n x slots slot new false e is becomes same more = rw e (more is)
 
-pub own_seat : (f : SessionSlot DeviceState → Option (SessionSlot DeviceState)) (n : ℕ) (slots : List (Option (SessionSlot DeviceState))) (slot new : SessionSlot DeviceState) → session_slot_of slots n ≡ Some slot → f slot ≡ Some new → new.number ≡ slot.number → session_slot_of (on_session_slot f n slots) n ≡ Some new
+pub own_slot : (f : SessionSlot DeviceState → Option (SessionSlot DeviceState)) (n : ℕ) (slots : List (Option (SessionSlot DeviceState))) (slot new : SessionSlot DeviceState) → session_slot_of slots n ≡ Some slot → f slot ≡ Some new → new.number ≡ slot.number → session_slot_of (on_session_slot f n slots) n ≡ Some new
 unfolding session_slot_of on_session_slot
-own_seat f n [] slot new is becomes same = absurd (let clash : None ≡ Some slot = is in cc)
-own_seat f n (x ∷ slots) slot new is becomes same = own_at f n x slots slot new (is_slot_number n x) refl is becomes same (λ there. own_seat f n slots slot new there becomes same)
+own_slot f n [] slot new is becomes same = absurd (let clash : None ≡ Some slot = is in cc)
+own_slot f n (x ∷ slots) slot new is becomes same = own_at f n x slots slot new (is_slot_number n x) refl is becomes same (λ there. own_slot f n slots slot new there becomes same)
 
 -- the session that goes on
-going_on : (o : Option (SessionSlot DeviceState)) (session : DeskSession DeviceState) (slots : List (Option (SessionSlot DeviceState))) (n : ℕ) (context : RequestContext) (rest text : List ℕ) → session_slot_of slots n ≡ o → session_in o ≡ Some session → session_in (session_slot_of (on_session_slot (slot_or_none_after_feed Standing context rest text) n slots) n) ≡ Some context.session
+going_on : (o : Option (SessionSlot DeviceState)) (session : RequestSession DeviceState) (slots : List (Option (SessionSlot DeviceState))) (n : ℕ) (context : RequestContext) (rest text : List ℕ) → session_slot_of slots n ≡ o → session_in o ≡ Some session → session_in (session_slot_of (on_session_slot (slot_or_none_after_feed Standing context rest text) n slots) n) ≡ Some context.session
 going_on None session slots n context rest text e is = absurd (let clash : None ≡ Some session = is in cc)
 going_on (Some slot) session slots n context rest text e is =
-    ap session_in (own_seat (slot_or_none_after_feed Standing context rest text) n slots slot (slot_after_feed Standing context.session rest text slot) e refl refl)
+    ap session_in (own_slot (slot_or_none_after_feed Standing context rest text) n slots slot (slot_after_feed Standing context.session rest text slot) e refl refl)
 
 -- ---- the others
 
@@ -92,7 +92,7 @@ stands_as i j m make old new table devices u n same b h =
 
 -- ---- both
 
-own_behind : (fed : Fed) (i : ℕ) (make : ℕ → Make) (n : ℕ) (old new : Core) (session : DeskSession DeviceState) (table : ℕ → AbstractDevice) (s : AbstractSession) (piece rest text : List ℕ) (context : RequestContext) → session_of old n ≡ Some session → new.slots ≡ on_session_slot (slot_or_none_after_feed fed context rest text) n old.slots →
+own_behind : (fed : Fed) (i : ℕ) (make : ℕ → Make) (n : ℕ) (old new : Core) (session : RequestSession DeviceState) (table : ℕ → AbstractDevice) (s : AbstractSession) (piece rest text : List ℕ) (context : RequestContext) → session_of old n ≡ Some session → new.slots ≡ on_session_slot (slot_or_none_after_feed fed context rest text) n old.slots →
     new.registry ≡ registry_after fed context → new.stream ≡ context.stream → (ran : IsFed fed i make old.users (core_context old session) table s (input_in (session_slot_of old.slots n)) piece rest context) →
     RefinesAfterFeed fed i make new n (devices_behind fed i make old.users (core_context old session) table s (input_in (session_slot_of old.slots n)) piece rest context ran)
 own_behind Standing i make n old new session table s piece rest text context stands slots registry stream ran = (
@@ -108,7 +108,7 @@ own_behind Standing i make n old new session table s piece rest text context sta
 own_behind Over i make n old new session table s piece rest text context stands slots registry stream ran = subst (λ (t : Table). TableRefines i make [] t (devices_behind Over i make old.users (core_context old session) table s (input_in (session_slot_of old.slots n)) piece rest context ran)) (sym registry) ran.3.back
 own_behind Starved i make n old new session table s piece rest text context stands slots registry stream ran = subst (λ (t : Table). TableRefines i make [] t (devices_behind Starved i make old.users (core_context old session) table s (input_in (session_slot_of old.slots n)) piece rest context ran)) (sym registry) ran.3.back
 
-fed_in : (i : ℕ) (make : ℕ → Make) (n : ℕ) (old new : Core) (session : DeskSession DeviceState) (table : ℕ → AbstractDevice) (s : AbstractSession) (piece : List ℕ) (fed : Fed) → session_of old n ≡ Some session → ContextRefines i make (core_context old session) table s → IsSessionBegun (core_context old session) →
+fed_in : (i : ℕ) (make : ℕ → Make) (n : ℕ) (old new : Core) (session : RequestSession DeviceState) (table : ℕ → AbstractDevice) (s : AbstractSession) (piece : List ℕ) (fed : Fed) → session_of old n ≡ Some session → ContextRefines i make (core_context old session) table s → IsSessionBegun (core_context old session) →
     FeedsIn session old.users n (input_in (session_slot_of old.slots n)) old.slots old.registry old.stream piece fed new.slots new.registry new.stream → CoreFed i make n old session table s piece fed new
 fed_in i make n old new session table s piece fed stands shows begun g =
     let ran = feeds_agree i make old.users (core_context old session) table s (input_in (session_slot_of old.slots n)) piece g.rest g.text fed g.context shows begun g.feeds in

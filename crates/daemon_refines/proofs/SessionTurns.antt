@@ -11,7 +11,7 @@ use Rattle.device_api.proofs.SameLaws.{read_same}
 use Rattle.dispatch.specs.declared.table.place.Lease.{Lease}
 use Rattle.saned_requests.specs.declared.session.DataPhase.{DataPhase as WordCarriage}
 use Rattle.saned_requests.specs.declared.session.DataPhase.TheVariants as word
-use Rattle.saned_requests.specs.declared.session.Session.{Session as DeskSession}
+use Rattle.saned_requests.specs.declared.session.Session.{Session as RequestSession}
 use Rattle.saned_requests.specs.Holding.{free_word, held_by, on_word, with_device}
 use Rattle.saned_requests.specs.RequestAnswers.{RequestContext}
 use Rattle.saned_core.specs.declared.session_slot.DataStep.{DataStep}
@@ -111,7 +111,7 @@ counted_at held now words place w l after (actions.TurnsFault fault) named stood
 counted_at held now words place w l after action named stood stands h = tt
 
 turn_served : (i : ℕ) (make : ℕ → Make) (d : RequestContext) (table : ℕ → AbstractDevice) (s : AbstractSession) (listed : List ℕ) (p : JobState) (w : ℕ) (l : Lease DeviceState) (pass given : ℕ) (step : DataStep) (buf : List ℕ) → ContextRefines i make d table s → p.session.transfer ≡ s.transfer → d.session.transfer ≡ word.Streaming w → held_by d.session.held w ≡ Some l → l.device.phase ≡ Reading pass given →
-    (new : DeskSession DeviceState) → StreamsOn l w d.session step new buf → StreamServed i make d table s listed p l.place step new buf
+    (new : RequestSession DeviceState) → StreamsOn l w d.session step new buf → StreamServed i make d table s listed p l.place step new buf
 turn_served i make d table s listed p w l pass given step buf old same is e at new g =
     let shown = old.devices.leases w l e in
     let k = make l.place in
@@ -119,7 +119,7 @@ turn_served i make d table s listed p w l pass given step buf old same is e at n
     let streams : p.session.transfer ≡ Streaming = same ∙ transfer.0 in
     let t = turns_agree i k listed p l.device g.after pass given g.answer g.window shown.made at streams g.reads in
     let dev = device_after i k listed p (table l.place) t.action in
-    let behind : DeskSession DeviceState = record d.session { held = on_word (λ _. with_device l g.after) d.session.held w; transfer = data_phase_after d.session.transfer g.answer } in
+    let behind : RequestSession DeviceState = record d.session { held = on_word (λ _. with_device l g.after) d.session.held w; transfer = data_phase_after d.session.transfer g.answer } in
     let after : RequestContext = record d { session = behind } in
     let device : dev ≡ abstract_device (Some i) g.after = ap (λ (x : AbstractDevice). device_after i k listed p x t.action) shown.device ∙ t.device in
     let stays : Stays i make d w l after dev = record {
@@ -141,9 +141,9 @@ turn_served i make d table s listed p w l pass given step buf old same is e at n
       action = t.action;
       may = subst (λ (x : AbstractDevice). IsActionEnabled i k p x t.action) (sym shown.device) t.may;
       sends = sent g.answer l.device g.after pass given g.window step buf t.action at g.reads t.is g.written;
-      counted = subst (λ (x : DeskSession DeviceState). IsCountedAt d.session.held x.held s.words l.place t.action) (sym g.new_is)
+      counted = subst (λ (x : RequestSession DeviceState). IsCountedAt d.session.held x.held s.words l.place t.action) (sym g.new_is)
           (counted_at d.session.held after.session.held s.words l.place w l g.after t.action (old.words w ∙ ap place_in e) e (on_same (λ _. with_device l g.after) d.session.held w l e) t.counted);
-      shows = subst (λ (x : DeskSession DeviceState). ContextRefines i make (record d { session = x }) (with_entry table l.place dev) (record s { transfer = job_state.session.transfer })) (sym g.new_is) (record {
+      shows = subst (λ (x : RequestSession DeviceState). ContextRefines i make (record d { session = x }) (with_entry table l.place dev) (record s { transfer = job_state.session.transfer })) (sym g.new_is) (record {
         words = words;
         four = four;
         transfer = subst (λ (c : WordCarriage). TransferRefines (data_phase_after c g.answer) job_state.session.transfer s.framed) (sym is) (framed_behind g.answer g.window i k listed p (table l.place) t.action w s.framed t.is streams transfer.1);
@@ -154,7 +154,7 @@ turn_served i make d table s listed p w l pass given step buf old same is e at n
       });
     }
 
-from_lease : (h : Option (Lease DeviceState)) (l : Lease DeviceState) (w : ℕ) (old : DeskSession DeviceState) (step : DataStep) (new : DeskSession DeviceState) (buf : List ℕ) → h ≡ Some l → StreamsFrom h w old step new buf → StreamsOn l w old step new buf
+from_lease : (h : Option (Lease DeviceState)) (l : Lease DeviceState) (w : ℕ) (old : RequestSession DeviceState) (step : DataStep) (new : RequestSession DeviceState) (buf : List ℕ) → h ≡ Some l → StreamsFrom h w old step new buf → StreamsOn l w old step new buf
 from_lease h l w old step new buf e g = subst (λ (o : Option (Lease DeviceState)). StreamsFrom o w old step new buf) e g
 
 pub streams_agree : StreamsAgree
@@ -179,7 +179,7 @@ endings_agree i make d table s listed p place step new buf old same is g =
         may = same ∙ transfer;
         sends = ended.0;
         counted = tt;
-        shows = subst (λ (x : DeskSession DeviceState). ContextRefines i make (record d { session = x }) (with_entry table place (table place)) (record s { transfer = Quiet })) (sym ended.1) (record {
+        shows = subst (λ (x : RequestSession DeviceState). ContextRefines i make (record d { session = x }) (with_entry table place (table place)) (record s { transfer = Quiet })) (sym ended.1) (record {
           words = old.words;
           four = old.four;
           transfer = refl;

@@ -40,8 +40,8 @@ Told = Wire × WordCarriage
 told_is : (a b : Told) → ◌≡◌ {A = Result Told Starved} (Ok a) (Ok b) → a ≡ b
 told_is a b e = cc
 
-abbrev pub desk_with : RequestContext → Option (Lease DeviceState) → ℕ → WordCarriage → RequestContext
-desk_with d lease w c = with_data_phase (with_held d (on_word (λ _. lease) d.session.held w)) c
+abbrev pub context_with : RequestContext → Option (Lease DeviceState) → ℕ → WordCarriage → RequestContext
+context_with d lease w c = with_data_phase (with_held d (on_word (λ _. lease) d.session.held w)) c
 
 refield : (i : ℕ) (make : ℕ → Make) (d : RequestContext) (table : ℕ → AbstractDevice) (s : AbstractSession) (held : Held) (c : WordCarriage) → ContextRefines i make d table s → d.session.held ≡ held → d.session.transfer ≡ c → ContextRefines i make (with_data_phase (with_held d held) c) table s
 refield i make d table s held c old e f =
@@ -66,17 +66,17 @@ busy_is k dev x Ending n = refl
 
 -- a frame stands
 busy_at : (i : ℕ) (make : ℕ → Make) (d : RequestContext) (table : ℕ → AbstractDevice) (s : AbstractSession) (w : ℕ) (l : Lease DeviceState) (wc : WordCarriage) → ContextRefines i make d table s → d.session.awaited ≡ None → held_by d.session.held w ≡ Some l → d.session.transfer ≡ wc → s.transfer ≢ Quiet →
-    StartBound i make d table s w (Some l.place) (reply_of_start code.DeviceBusy 0 l.device.setup.order) (desk_with d (Some l) w wc)
+    StartBound i make d table s w (Some l.place) (reply_of_start code.DeviceBusy 0 l.device.setup.order) (context_with d (Some l) w wc)
 busy_at i make d table s w l wc old none e is busy =
     let shown = old.devices.leases w l e in (
       None,
       tt,
       tt,
       λ x f.
-          answered i make (manner d w) _ table s x Start w l.place (Refused Busy) _ (desk_with d (Some l) w wc) (reply_effect (Refused Busy) (table l.place) s.transfer)
+          answered i make (manner d w) _ table s x Start w l.place (Refused Busy) _ (context_with d (Some l) w wc) (reply_effect (Refused Busy) (table l.place) s.transfer)
           (starts (eqb w s.framed) i (make l.place) (table l.place) s.transfer x ∙ busy_is (make l.place) (table l.place) x s.transfer busy) refl refl refl
           (code.DeviceBusy, refl, ap (λ (h : Option (Lease DeviceState)). reply_of_start code.DeviceBusy 0 (order_by h)) (sym e))
-          (moved i make d table s w l old e (desk_with d (Some l) w wc) (table l.place) _
+          (moved i make d table s w l old e (context_with d (Some l) w wc) (table l.place) _
           (record {
             lease = l;
             registry = refl;
@@ -113,13 +113,13 @@ counted_there held now w l after (Some f) stood stands h = record { lease = l; s
 
 device_at : (i : ℕ) (make : ℕ → Make) (d : RequestContext) (table : ℕ → AbstractDevice) (s : AbstractSession) (w : ℕ) (l : Lease DeviceState) (answer : Result Unit Code) (after : DeviceState) → ContextRefines i make d table s → d.session.awaited ≡ None → held_by d.session.held w ≡ Some l → s.transfer ≡ Quiet →
     Starts l.device answer after → answer ≢ Err code.NoMem →
-    StartBound i make d table s w (Some l.place) (start_answer word.Quiet d.session.port w l.device.setup.order answer).0 (desk_with d (with_device l after) w (start_answer word.Quiet d.session.port w l.device.setup.order answer).1)
+    StartBound i make d table s w (Some l.place) (start_answer word.Quiet d.session.port w l.device.setup.order answer).0 (context_with d (with_device l after) w (start_answer word.Quiet d.session.port w l.device.setup.order answer).1)
 device_at i make d table s w l answer after old none e quiet h n =
     let shown = old.devices.leases w l e in
     let k = make l.place in
     let done = start_served k l.device after (Some i) answer shown.made h n in
     let c2 = (start_answer word.Quiet d.session.port w l.device.setup.order answer).1 in
-    let new = desk_with d (with_device l after) w c2 in (
+    let new = context_with d (with_device l after) w c2 in (
       done.fault,
       done.may,
       counted_there d.session.held new.session.held w l after done.fault e (on_same (λ _. with_device l after) d.session.held w l e) done.counted,
@@ -147,7 +147,7 @@ device_at i make d table s w l answer after old none e quiet h n =
 -- by the word and the frame
 pub start_at_word : (i : ℕ) (make : ℕ → Make) (d : RequestContext) (table : ℕ → AbstractDevice) (s : AbstractSession) (w : ℕ) (h : Option (Lease DeviceState)) (wc : WordCarriage) (told : Told) (lease : Option (Lease DeviceState)) →
     ContextRefines i make d table s → d.session.awaited ≡ None → held_by d.session.held w ≡ h → d.session.transfer ≡ wc → TransferRefines wc s.transfer s.framed → StartsLease wc d.session.port w h (Ok told) lease →
-    StartBound i make d table s w (place_in h) told.0 (desk_with d lease w told.1)
+    StartBound i make d table s w (place_in h) told.0 (context_with d lease w told.1)
 start_at_word i make d table s w None wc told lease old none e is transfer h =
     let r = reply_of_start code.Inval 0 Little in
     let same = told_is told (r, wc) h.0 in (
@@ -155,37 +155,37 @@ start_at_word i make d table s w None wc told lease old none e is transfer h =
       refl,
       tt,
       λ x f.
-          subst (λ (t : Told). Agrees i make (manner d w) (requests.Start w) (word_call i make table s x Start w None) (One t.0) (desk_with d lease w t.1)) (sym same)
-          (subst (λ (n : Option (Lease DeviceState)). Agrees i make (manner d w) (requests.Start w) (word_call i make table s x Start w None) (One r) (desk_with d n w wc)) (sym h.1)
-          (says_one i make (manner d w) _ (word_call i make table s x Start w None) (Refused Inval) r (desk_with d None w wc) refl refl
+          subst (λ (t : Told). Agrees i make (manner d w) (requests.Start w) (word_call i make table s x Start w None) (One t.0) (context_with d lease w t.1)) (sym same)
+          (subst (λ (n : Option (Lease DeviceState)). Agrees i make (manner d w) (requests.Start w) (word_call i make table s x Start w None) (One r) (context_with d n w wc)) (sym h.1)
+          (says_one i make (manner d w) _ (word_call i make table s x Start w None) (Refused Inval) r (context_with d None w wc) refl refl
           (code.Inval, refl, ap (λ (n : Option (Lease DeviceState)). reply_of_start code.Inval 0 (order_by n)) (sym e))
           (refield i make d table s (on_word (λ _. None) d.session.held w) wc old (sym (on_nothing (λ _. None) d.session.held w refl e)) is))),
     )
 start_at_word i make d table s w (Some l) word.Quiet told lease old none e is transfer h = by_told h.told_is
   where
-    by_told : ((h.answer ≢ Err code.NoMem) × (◌≡◌ {A = Result Told Starved} (Ok told) (Ok (start_answer word.Quiet d.session.port w l.device.setup.order h.answer)))) ⊎ ((h.answer ≡ Err code.NoMem) × (◌≡◌ {A = Result Told Starved} (Ok told) (Err (record {})))) → StartBound i make d table s w (Some l.place) told.0 (desk_with d lease w told.1)
+    by_told : ((h.answer ≢ Err code.NoMem) × (◌≡◌ {A = Result Told Starved} (Ok told) (Ok (start_answer word.Quiet d.session.port w l.device.setup.order h.answer)))) ⊎ ((h.answer ≡ Err code.NoMem) × (◌≡◌ {A = Result Told Starved} (Ok told) (Err (record {})))) → StartBound i make d table s w (Some l.place) told.0 (context_with d lease w told.1)
     by_told (inl t) =
-        subst (λ (y : Told). StartBound i make d table s w (Some l.place) y.0 (desk_with d lease w y.1)) (sym (told_is told (start_answer word.Quiet d.session.port w l.device.setup.order h.answer) t.1))
-        (subst (λ (n : Option (Lease DeviceState)). StartBound i make d table s w (Some l.place) (start_answer word.Quiet d.session.port w l.device.setup.order h.answer).0 (desk_with d n w (start_answer word.Quiet d.session.port w l.device.setup.order h.answer).1)) (sym h.new_is)
+        subst (λ (y : Told). StartBound i make d table s w (Some l.place) y.0 (context_with d lease w y.1)) (sym (told_is told (start_answer word.Quiet d.session.port w l.device.setup.order h.answer) t.1))
+        (subst (λ (n : Option (Lease DeviceState)). StartBound i make d table s w (Some l.place) (start_answer word.Quiet d.session.port w l.device.setup.order h.answer).0 (context_with d n w (start_answer word.Quiet d.session.port w l.device.setup.order h.answer).1)) (sym h.new_is)
         (device_at i make d table s w l h.answer h.after old none e transfer h.starts t.0))
     by_told (inr t) = absurd (let clash : ◌≡◌ {A = Result Told Starved} (Ok told) (Err (record {})) = t.1 in cc)
 start_at_word i make d table s w (Some l) (word.Waiting v) told lease old none e is transfer h =
-    subst (λ (y : Told). StartBound i make d table s w (Some l.place) y.0 (desk_with d lease w y.1)) (sym (told_is told _ h.0))
-    (subst (λ (n : Option (Lease DeviceState)). StartBound i make d table s w (Some l.place) (reply_of_start code.DeviceBusy 0 l.device.setup.order) (desk_with d n w (word.Waiting v))) (sym h.1)
+    subst (λ (y : Told). StartBound i make d table s w (Some l.place) y.0 (context_with d lease w y.1)) (sym (told_is told _ h.0))
+    (subst (λ (n : Option (Lease DeviceState)). StartBound i make d table s w (Some l.place) (reply_of_start code.DeviceBusy 0 l.device.setup.order) (context_with d n w (word.Waiting v))) (sym h.1)
     (busy_at i make d table s w l (word.Waiting v) old none e is (λ q. let clash : Waiting ≡ Quiet = sym transfer.0 ∙ q in cc)))
 start_at_word i make d table s w (Some l) (word.Streaming v) told lease old none e is transfer h =
-    subst (λ (y : Told). StartBound i make d table s w (Some l.place) y.0 (desk_with d lease w y.1)) (sym (told_is told _ h.0))
-    (subst (λ (n : Option (Lease DeviceState)). StartBound i make d table s w (Some l.place) (reply_of_start code.DeviceBusy 0 l.device.setup.order) (desk_with d n w (word.Streaming v))) (sym h.1)
+    subst (λ (y : Told). StartBound i make d table s w (Some l.place) y.0 (context_with d lease w y.1)) (sym (told_is told _ h.0))
+    (subst (λ (n : Option (Lease DeviceState)). StartBound i make d table s w (Some l.place) (reply_of_start code.DeviceBusy 0 l.device.setup.order) (context_with d n w (word.Streaming v))) (sym h.1)
     (busy_at i make d table s w l (word.Streaming v) old none e is (λ q. let clash : Streaming ≡ Quiet = sym transfer.0 ∙ q in cc)))
 start_at_word i make d table s w (Some l) word.Ending told lease old none e is transfer h =
-    subst (λ (y : Told). StartBound i make d table s w (Some l.place) y.0 (desk_with d lease w y.1)) (sym (told_is told _ h.0))
-    (subst (λ (n : Option (Lease DeviceState)). StartBound i make d table s w (Some l.place) (reply_of_start code.DeviceBusy 0 l.device.setup.order) (desk_with d n w word.Ending)) (sym h.1)
+    subst (λ (y : Told). StartBound i make d table s w (Some l.place) y.0 (context_with d lease w y.1)) (sym (told_is told _ h.0))
+    (subst (λ (n : Option (Lease DeviceState)). StartBound i make d table s w (Some l.place) (reply_of_start code.DeviceBusy 0 l.device.setup.order) (context_with d n w word.Ending)) (sym h.1)
     (busy_at i make d table s w l word.Ending old none e is (λ q. let clash : Ending ≡ Quiet = sym transfer ∙ q in cc)))
 
 pub start_agrees : StartAgrees
 start_agrees i make d table s w place said new shows none begins =
     let found = start_at_word i make d table s w (held_by d.session.held w) d.session.transfer (begins.reply, begins.transfer) begins.starts.lease shows none refl refl shows.transfer begins.starts.starts in
-    let new_is : new ≡ desk_with d begins.starts.lease w begins.transfer = begins.gives.1 ∙ ap (λ (t : RequestContext). with_data_phase t begins.transfer) begins.starts.new_is in (
+    let new_is : new ≡ context_with d begins.starts.lease w begins.transfer = begins.gives.1 ∙ ap (λ (t : RequestContext). with_data_phase t begins.transfer) begins.starts.new_is in (
       found.0,
       subst (λ (p : Option ℕ). MayFailAt make p found.0) (sym (shows.words w)) found.1,
       subst (λ (t : RequestContext). IsCounted d.session.held t.session.held w found.0) (sym new_is) found.2,

@@ -2,7 +2,7 @@
 use Rattle.std.specs.Prelude.{ℕ, ◌≡◌, ◌≢◌, Some, List, []}
 use Rattle.saned_requests.specs.declared.session.DataPhase.TheVariants as word
 use Rattle.saned_core.specs.declared.session_slot.DataStep.{DataStep}
-use Rattle.saned_requests.specs.declared.session.Session.{Session as DeskSession}
+use Rattle.saned_requests.specs.declared.session.Session.{Session as RequestSession}
 use Rattle.device_api.specs.State.{DeviceState}
 use Rattle.saned_core.specs.DaemonStates.{Core, after_connected, after_lost, after_end_session, on_session_slot}
 use Rattle.saned_core.specs.DaemonStates.{on_session, session_of}
@@ -54,7 +54,7 @@ pub record CoreTurned (i : ℕ) (make : ℕ → Make) (n : ℕ) (old new : Core)
   pub may : IsActionEnabled i (make place) p (table place) action
   pub sends : SendsAs step buf action
   -- a failure is counted at a device that the session of that number held before and holds behind it
-  pub counted : (a b : DeskSession DeviceState) → session_of old n ≡ Some a → session_of new n ≡ Some b
+  pub counted : (a b : RequestSession DeviceState) → session_of old n ≡ Some a → session_of new n ≡ Some b
       → IsCountedAt a.held b.held s.words place action
   pub stands
       : SessionRefinesAs i make n old new table

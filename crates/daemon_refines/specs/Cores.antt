@@ -7,7 +7,7 @@ use Rattle.md5_auth.specs.declared.users.Entry.{Entry}
 use Rattle.device_api.specs.State.{DeviceState, after_reset}
 use Rattle.device_api.specs.Values as values
 use Rattle.dispatch.specs.Table.{Table, fresh_table}
-use Rattle.saned_requests.specs.declared.session.Session.{Session as DeskSession}
+use Rattle.saned_requests.specs.declared.session.Session.{Session as RequestSession}
 use Rattle.saned_requests.specs.declared.session.StringSize.{StringSize}
 use Rattle.saned_requests.specs.Holding.{fresh_session}
 use Rattle.saned_requests.specs.RequestAnswers.{RequestContext}
@@ -66,7 +66,7 @@ OpeningsRefine =
 -- the session of that number is this one of client i
 pub record SessionRefines (i : ℕ) (make : ℕ → Make) (core : Core) (n : ℕ) (table : ℕ → AbstractDevice)
     (s : AbstractSession) : Type 0 where
-  pub session : DeskSession DeviceState
+  pub session : RequestSession DeviceState
   pub stands : session_of core n ≡ Some session
   pub shows : ContextRefines i make (core_context core session) table s
   pub begun : IsSessionBegun (core_context core session)
@@ -85,7 +85,7 @@ RefinesAfterFeed Standing i make new n devices = (s : AbstractSession) × Sessio
 RefinesAfterFeed Over i make new n devices = TableRefines i make [] new.registry devices
 RefinesAfterFeed Starved i make new n devices = TableRefines i make [] new.registry devices
 
-pub record CoreFed (i : ℕ) (make : ℕ → Make) (n : ℕ) (old : Core) (session : DeskSession DeviceState)
+pub record CoreFed (i : ℕ) (make : ℕ → Make) (n : ℕ) (old : Core) (session : RequestSession DeviceState)
     (table : ℕ → AbstractDevice) (s : AbstractSession) (piece : List ℕ) (fed : Fed) (new : Core) : Type 0 where
   pub context : RequestContext
   pub rest : List ℕ

@@ -5,7 +5,7 @@ use Rattle.sane_fixed.specs.declared.status.Status.{Status as Code}
 use Rattle.sane_fixed.specs.declared.status.Status.TheVariants as code
 use Rattle.device_api.specs.State.{DeviceState}
 use Rattle.saned_requests.specs.declared.session.DataPhase.TheVariants as word
-use Rattle.saned_requests.specs.declared.session.Session.{Session as DeskSession}
+use Rattle.saned_requests.specs.declared.session.Session.{Session as RequestSession}
 use Rattle.saned_requests.specs.RequestAnswers.{RequestContext}
 use Rattle.saned_core.specs.declared.session_slot.DataStep.{DataStep}
 use Rattle.saned_core.specs.declared.session_slot.DataStep.TheVariants.{Bytes}
@@ -35,8 +35,8 @@ SendsAs step buf _ = ⊥
 -- the action may come, and the request context behind the turn is shown again: the device and the frame are those that
 -- the action leaves
 pub record StreamServed (i : ℕ) (make : ℕ → Make) (d : RequestContext) (table : ℕ → AbstractDevice)
-    (s : AbstractSession) (listed : List ℕ) (p : JobState) (place : ℕ) (step : DataStep) (new : DeskSession DeviceState)
-    (buf : List ℕ) : Type 0 where
+    (s : AbstractSession) (listed : List ℕ) (p : JobState) (place : ℕ) (step : DataStep)
+    (new : RequestSession DeviceState) (buf : List ℕ) : Type 0 where
   pub action : Action
   pub may : IsActionEnabled i (make place) p (table place) action
   pub sends : SendsAs step buf action
@@ -50,7 +50,7 @@ pub record StreamServed (i : ℕ) (make : ℕ → Make) (d : RequestContext) (ta
 abbrev pub StreamsAgree : Type 0
 StreamsAgree =
     (i : ℕ) (make : ℕ → Make) (d : RequestContext) (table : ℕ → AbstractDevice) (s : AbstractSession) (listed : List ℕ)
-    (p : JobState) (w : ℕ) (step : DataStep) (new : DeskSession DeviceState) (buf : List ℕ) →
+    (p : JobState) (w : ℕ) (step : DataStep) (new : RequestSession DeviceState) (buf : List ℕ) →
     ContextRefines i make d table s → p.session.transfer ≡ s.transfer → d.session.transfer ≡ word.Streaming w →
     daemon.TurnsStream d.session step new buf
     → (place : ℕ) × (s.words w ≡ Some place) × StreamServed i make d table s listed p place step new buf
@@ -59,7 +59,7 @@ StreamsAgree =
 abbrev pub EndingsAgree : Type 0
 EndingsAgree =
     (i : ℕ) (make : ℕ → Make) (d : RequestContext) (table : ℕ → AbstractDevice) (s : AbstractSession) (listed : List ℕ)
-    (p : JobState) (place : ℕ) (step : DataStep) (new : DeskSession DeviceState) (buf : List ℕ) →
+    (p : JobState) (place : ℕ) (step : DataStep) (new : RequestSession DeviceState) (buf : List ℕ) →
     ContextRefines i make d table s → p.session.transfer ≡ s.transfer → d.session.transfer ≡ word.Ending
     → daemon.TurnsStream d.session step new buf
     → (served : StreamServed i make d table s listed p place step new buf) × (served.action ≡ TurnsOff)

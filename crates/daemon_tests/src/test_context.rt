@@ -64,18 +64,18 @@ fn new_test_context(rt: &impl Abort, alloc: Global, users: &[u8]) -> TestContext
 }
 
 /// The session ends.
-fn end(desk: TestContext) {
+fn end(fixture: TestContext) {
     let TestContext {
         session,
         mut registry,
         users: _users,
         challenger: _challenger,
-    } = desk;
+    } = fixture;
     let_go(&mut registry, session);
 }
 
 /// What is answered to a request of these bytes.
-fn ask(rt: &impl Abort, alloc: Global, desk: &mut TestContext, sent: &[u8]) -> RequestAnswer {
+fn ask(rt: &impl Abort, alloc: Global, fixture: &mut TestContext, sent: &[u8]) -> RequestAnswer {
     let mut input = Decoder::new(alloc);
     assert!(rt; input.feed(sent).is_ok());
     let request = match input.next_request(alloc) {
@@ -84,10 +84,10 @@ fn ask(rt: &impl Abort, alloc: Global, desk: &mut TestContext, sent: &[u8]) -> R
     };
     let said = answer(
         alloc,
-        &mut desk.session,
-        &mut desk.registry,
-        &desk.users,
-        &mut desk.challenger,
+        &mut fixture.session,
+        &mut fixture.registry,
+        &fixture.users,
+        &mut fixture.challenger,
         request,
     );
     match said {
@@ -102,16 +102,22 @@ fn is_spelled(rt: &impl Abort, alloc: Global, reply: &Reply, wanted: &[u8]) {
 }
 
 /// One reply, of these bytes.
-fn expect(rt: &impl Abort, alloc: Global, desk: &mut TestContext, sent: &[u8], wanted: &[u8]) {
-    match ask(rt, alloc, desk, sent) {
+fn expect(rt: &impl Abort, alloc: Global, fixture: &mut TestContext, sent: &[u8], wanted: &[u8]) {
+    match ask(rt, alloc, fixture, sent) {
         RequestAnswer::One(reply) => is_spelled(rt, alloc, &reply, wanted),
         _ => panic!(rt; "not one reply"),
     }
 }
 
 /// The word of AUTHORIZE, and a reply to OPEN of these bytes.
-fn expect_open(rt: &impl Abort, alloc: Global, desk: &mut TestContext, sent: &[u8], wanted: &[u8]) {
-    match ask(rt, alloc, desk, sent) {
+fn expect_open(
+    rt: &impl Abort,
+    alloc: Global,
+    fixture: &mut TestContext,
+    sent: &[u8],
+    wanted: &[u8],
+) {
+    match ask(rt, alloc, fixture, sent) {
         RequestAnswer::Two(word, reply) => {
             is_spelled(rt, alloc, &word, b"\0\0\0\0");
             is_spelled(rt, alloc, &reply, wanted);
@@ -121,8 +127,8 @@ fn expect_open(rt: &impl Abort, alloc: Global, desk: &mut TestContext, sent: &[u
 }
 
 /// The session ends without a reply.
-fn expect_end(rt: &impl Abort, alloc: Global, desk: &mut TestContext, sent: &[u8]) {
-    match ask(rt, alloc, desk, sent) {
+fn expect_end(rt: &impl Abort, alloc: Global, fixture: &mut TestContext, sent: &[u8]) {
+    match ask(rt, alloc, fixture, sent) {
         RequestAnswer::Last(None) => {}
         _ => panic!(rt; "the session goes on"),
     }
@@ -138,9 +144,9 @@ const OPENED: &[u8] = b"\0\0\0\0\0\0\0\0\0\0\0\0";
 
 /// A session that was greeted.
 fn greeted(rt: &impl Abort, alloc: Global, users: &[u8]) -> TestContext {
-    let mut desk = new_test_context(rt, alloc, users);
-    expect(rt, alloc, &mut desk, INIT, GREETED);
-    desk
+    let mut fixture = new_test_context(rt, alloc, users);
+    expect(rt, alloc, &mut fixture, INIT, GREETED);
+    fixture
 }
 
 const NOT_INIT: &[&[u8]] = &[
@@ -173,25 +179,25 @@ fn greetings(rt: HostRuntime) {
     }
     end(two);
     for sent in NOT_INIT {
-        let mut desk = new_test_context(&rt, alloc, b"");
-        expect_end(&rt, alloc, &mut desk, sent);
-        end(desk);
+        let mut fixture = new_test_context(&rt, alloc, b"");
+        expect_end(&rt, alloc, &mut fixture, sent);
+        end(fixture);
     }
 }
 
 /// What AUTHORIZE answers to a resource and a digest of ann's, where ann's password is `bc`.
 fn expect_authorized(rt: &impl Abort, alloc: Global, sent: &[u8], wanted: &[u8]) {
-    let mut desk = greeted(rt, alloc, b"ann:bc:flatbed\n");
+    let mut fixture = greeted(rt, alloc, b"ann:bc:flatbed\n");
     expect(
         rt,
         alloc,
-        &mut desk,
+        &mut fixture,
         OPEN,
         b"\0\0\0\0\0\0\0\0\0\0\0\x2dflatbed$MD5$ade0b876903df1a0e56a5d4028bd8653\0",
     );
-    expect_open(rt, alloc, &mut desk, sent, wanted);
-    expect_end(rt, alloc, &mut desk, sent);
-    end(desk);
+    expect_open(rt, alloc, &mut fixture, sent, wanted);
+    expect_end(rt, alloc, &mut fixture, sent);
+    end(fixture);
 }
 
 /// The digest of the challenge and the password opens; no digest, another one, and one of another challenge do not.
@@ -238,12 +244,12 @@ const NOT_AWAITED: &[&[u8]] = &[
 fn awaited(rt: HostRuntime) {
     let alloc = rt.alloc();
     for sent in NOT_AWAITED {
-        let mut desk = greeted(&rt, alloc, b"ann:bc:flatbed\n");
-        let RequestAnswer::One(_challenge) = ask(&rt, alloc, &mut desk, OPEN) else {
+        let mut fixture = greeted(&rt, alloc, b"ann:bc:flatbed\n");
+        let RequestAnswer::One(_challenge) = ask(&rt, alloc, &mut fixture, OPEN) else {
             panic!(&rt; "not one reply")
         };
-        expect_end(&rt, alloc, &mut desk, sent);
-        end(desk);
+        expect_end(&rt, alloc, &mut fixture, sent);
+        end(fixture);
     }
 }
 
@@ -275,28 +281,40 @@ const FURTHER: &[(&[u8], &[u8])] = &[
 #[test]
 fn five_opens(rt: HostRuntime) {
     let alloc = rt.alloc();
-    let mut desk = greeted(&rt, alloc, b"");
-    expect(&rt, alloc, &mut desk, OPEN, OPENED);
-    expect(&rt, alloc, &mut desk, OPEN, b"\0\0\0\x03\0\0\0\0\0\0\0\0");
+    let mut fixture = greeted(&rt, alloc, b"");
+    expect(&rt, alloc, &mut fixture, OPEN, OPENED);
     expect(
         &rt,
         alloc,
-        &mut desk,
+        &mut fixture,
+        OPEN,
+        b"\0\0\0\x03\0\0\0\0\0\0\0\0",
+    );
+    expect(
+        &rt,
+        alloc,
+        &mut fixture,
         b"\0\0\0\x02\0\0\0\x0aflatbed:9\0",
         b"\0\0\0\x04\0\0\0\0\0\0\0\0",
     );
     for (sent, wanted) in FURTHER {
-        expect(&rt, alloc, &mut desk, sent, wanted);
+        expect(&rt, alloc, &mut fixture, sent, wanted);
     }
-    expect(&rt, alloc, &mut desk, b"\0\0\0\x03\0\0\0\x02", b"\0\0\0\0");
     expect(
         &rt,
         alloc,
-        &mut desk,
+        &mut fixture,
+        b"\0\0\0\x03\0\0\0\x02",
+        b"\0\0\0\0",
+    );
+    expect(
+        &rt,
+        alloc,
+        &mut fixture,
         b"\0\0\0\x02\0\0\0\x0aflatbed:4\0",
         b"\0\0\0\0\0\0\0\x02\0\0\0\0",
     );
-    end(desk);
+    end(fixture);
 }
 
 /// A value of another type, of another number of words or without NUL is refused, also where the device scans; a GET
@@ -304,13 +322,13 @@ fn five_opens(rt: HostRuntime) {
 #[test]
 fn values_of_options(rt: HostRuntime) {
     let alloc = rt.alloc();
-    let mut desk = greeted(&rt, alloc, b"");
-    expect(&rt, alloc, &mut desk, OPEN, OPENED);
+    let mut fixture = greeted(&rt, alloc, b"");
+    expect(&rt, alloc, &mut fixture, OPEN, OPENED);
     // br-x, a FIXED, of 80.5 is put as 81
     expect(
         &rt,
         alloc,
-        &mut desk,
+        &mut fixture,
         b"\0\0\0\x05\0\0\0\0\0\0\0\x06\0\0\0\x01\0\0\0\x02\0\0\0\x04\0\0\0\x01\0\x50\x80\0",
         b"\0\0\0\0\0\0\0\x05\0\0\0\x02\0\0\0\x04\0\0\0\x01\0\x51\0\0\0\0\0\0",
     );
@@ -318,7 +336,7 @@ fn values_of_options(rt: HostRuntime) {
     expect(
         &rt,
         alloc,
-        &mut desk,
+        &mut fixture,
         b"\0\0\0\x05\0\0\0\0\0\0\0\x06\0\0\0\0\0\0\0\x03\0\0\0\x03\0\0\0\x03gr\0",
         b"\0\0\0\0\0\0\0\0\0\0\0\x02\0\0\0\x04\0\0\0\x01\0\x51\0\0\0\0\0\0",
     );
@@ -340,36 +358,36 @@ fn values_of_options(rt: HostRuntime) {
         ),
     ];
     for (sent, wanted) in refused {
-        expect(&rt, alloc, &mut desk, sent, wanted);
+        expect(&rt, alloc, &mut fixture, sent, wanted);
     }
     // mode to SANE, which no string of its list matches
     let sane = b"\0\0\0\x05\0\0\0\0\0\0\0\x01\0\0\0\x01\0\0\0\x03\0\0\0\x05\0\0\0\x05SANE\0";
     expect(
         &rt,
         alloc,
-        &mut desk,
+        &mut fixture,
         sane,
         b"\0\0\0\x04\0\0\0\0\0\0\0\x03\0\0\0\x05\0\0\0\x05SANE\0\0\0\0\0",
     );
     expect(
         &rt,
         alloc,
-        &mut desk,
+        &mut fixture,
         b"\0\0\0\x07\0\0\0\0",
         b"\0\0\0\0\0\0\x9c\x41\0\0\x12\x34\0\0\0\0",
     );
     for (sent, wanted) in refused {
-        expect(&rt, alloc, &mut desk, sent, wanted);
+        expect(&rt, alloc, &mut fixture, sent, wanted);
     }
     // of the right type the device says that it is busy
     expect(
         &rt,
         alloc,
-        &mut desk,
+        &mut fixture,
         sane,
         b"\0\0\0\x03\0\0\0\0\0\0\0\x03\0\0\0\x05\0\0\0\x05SANE\0\0\0\0\0",
     );
-    end(desk);
+    end(fixture);
 }
 
 /// Of mode, a text of 6 bytes, and read-return-value, one of 26: a GET, the SET of a text that is not whole, and a SET that is
@@ -432,48 +450,60 @@ fn frames_and_words(rt: HostRuntime) {
     let start = b"\0\0\0\x07\0\0\0\0";
     let started = b"\0\0\0\0\0\0\x9c\x41\0\0\x12\x34\0\0\0\0";
     let busy = b"\0\0\0\x03\0\0\0\0\0\0\x12\x34\0\0\0\0";
-    let mut desk = greeted(&rt, alloc, b"");
-    expect(&rt, alloc, &mut desk, OPEN, OPENED);
+    let mut fixture = greeted(&rt, alloc, b"");
+    expect(&rt, alloc, &mut fixture, OPEN, OPENED);
     expect(
         &rt,
         alloc,
-        &mut desk,
+        &mut fixture,
         b"\0\0\0\x02\0\0\0\x0aflatbed:1\0",
         b"\0\0\0\0\0\0\0\x01\0\0\0\0",
     );
-    expect(&rt, alloc, &mut desk, start, started);
+    expect(&rt, alloc, &mut fixture, start, started);
     // START of the other word, and its cancel and close
-    expect(&rt, alloc, &mut desk, b"\0\0\0\x07\0\0\0\x01", busy);
-    expect(&rt, alloc, &mut desk, b"\0\0\0\x08\0\0\0\x01", b"\0\0\0\0");
-    expect(&rt, alloc, &mut desk, b"\0\0\0\x03\0\0\0\x01", b"\0\0\0\0");
-    assert!(rt; desk.session.transfer == DataPhase::Waiting(0));
+    expect(&rt, alloc, &mut fixture, b"\0\0\0\x07\0\0\0\x01", busy);
+    expect(
+        &rt,
+        alloc,
+        &mut fixture,
+        b"\0\0\0\x08\0\0\0\x01",
+        b"\0\0\0\0",
+    );
+    expect(
+        &rt,
+        alloc,
+        &mut fixture,
+        b"\0\0\0\x03\0\0\0\x01",
+        b"\0\0\0\0",
+    );
+    assert!(rt; fixture.session.transfer == DataPhase::Waiting(0));
     // the cancel of a frame that waits ends it at once, and of one that streams leaves its end record
-    expect(&rt, alloc, &mut desk, b"\0\0\0\x08\0\0\0\0", b"\0\0\0\0");
-    assert!(rt; desk.session.transfer == DataPhase::Quiet);
-    expect(&rt, alloc, &mut desk, start, started);
-    desk.session.transfer = DataPhase::Streaming(0);
-    expect(&rt, alloc, &mut desk, b"\0\0\0\x08\0\0\0\0", b"\0\0\0\0");
-    assert!(rt; desk.session.transfer == DataPhase::Ending);
-    expect(&rt, alloc, &mut desk, start, busy);
-    desk.session.transfer = DataPhase::Quiet;
-    expect(&rt, alloc, &mut desk, start, started);
-    desk.session.transfer = DataPhase::Streaming(0);
-    expect(&rt, alloc, &mut desk, b"\0\0\0\x03\0\0\0\0", b"\0\0\0\0");
-    assert!(rt; desk.session.transfer == DataPhase::Ending);
-    end(desk);
+    expect(&rt, alloc, &mut fixture, b"\0\0\0\x08\0\0\0\0", b"\0\0\0\0");
+    assert!(rt; fixture.session.transfer == DataPhase::Quiet);
+    expect(&rt, alloc, &mut fixture, start, started);
+    fixture.session.transfer = DataPhase::Streaming(0);
+    expect(&rt, alloc, &mut fixture, b"\0\0\0\x08\0\0\0\0", b"\0\0\0\0");
+    assert!(rt; fixture.session.transfer == DataPhase::Ending);
+    expect(&rt, alloc, &mut fixture, start, busy);
+    fixture.session.transfer = DataPhase::Quiet;
+    expect(&rt, alloc, &mut fixture, start, started);
+    fixture.session.transfer = DataPhase::Streaming(0);
+    expect(&rt, alloc, &mut fixture, b"\0\0\0\x03\0\0\0\0", b"\0\0\0\0");
+    assert!(rt; fixture.session.transfer == DataPhase::Ending);
+    end(fixture);
 }
 
 /// Who ends gives all back: the next session finds the device at its defaults.
 #[test]
 fn one_device_for_two(rt: HostRuntime) {
     let alloc = rt.alloc();
-    let mut desk = greeted(&rt, alloc, b"");
-    expect(&rt, alloc, &mut desk, OPEN, OPENED);
+    let mut fixture = greeted(&rt, alloc, b"");
+    expect(&rt, alloc, &mut fixture, OPEN, OPENED);
     // resolution 100
     expect(
         &rt,
         alloc,
-        &mut desk,
+        &mut fixture,
         b"\0\0\0\x05\0\0\0\0\0\0\0\x03\0\0\0\x01\0\0\0\x01\0\0\0\x04\0\0\0\x01\0\0\0\x64",
         b"\0\0\0\0\0\0\0\x04\0\0\0\x01\0\0\0\x04\0\0\0\x01\0\0\0\x64\0\0\0\0",
     );
@@ -482,7 +512,7 @@ fn one_device_for_two(rt: HostRuntime) {
         mut registry,
         users,
         challenger,
-    } = desk;
+    } = fixture;
     let_go(&mut registry, first);
     let mut second = TestContext {
         session: session(),

@@ -160,10 +160,10 @@ came_course trace frame given = record trace { protocol = record trace.protocol 
 
 lives_came : (target : JobTarget) (trace : JobTrace) (old : ClientState) (past : JoinHistory) (frame : Frame) (given : List ℕ) → protocol_of old past ≡ trace.protocol → is_running old.outcome ≡ true → past.under ≡ Some frame
     → EventLeads target trace (Came given) (came_course trace frame given)
-lives_came target trace old past frame given talk_is running under = (
+lives_came target trace old past frame given exchange_is running under = (
   frame,
-  ap (λ (t : ProtocolState). is_running t.outcome) (sym talk_is) ∙ running,
-  ap (λ (t : ProtocolState). t.history.under) (sym talk_is) ∙ under,
+  ap (λ (t : ProtocolState). is_running t.outcome) (sym exchange_is) ∙ running,
+  ap (λ (t : ProtocolState). t.history.under) (sym exchange_is) ∙ under,
   refl,
 )
 

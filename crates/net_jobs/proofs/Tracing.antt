@@ -131,10 +131,10 @@ fresh_is job c f = ap (λ (v : ClientState). protocol_of v empty_history) f.valu
 pub did_hear : (job : Job) (trace : JobTrace) (read_ wrote rest : List ℕ) (old new : ClientState) (past : JoinHistory) (piece : List ℕ) → old.target ≡ target_of job → protocol_of old past ≡ trace.protocol → old.input.rest ≡ rest
     → is_running old.outcome ≡ true → (d : BytesMatchTrace job trace (record { read_ = read_; wrote = wrote; rest = rest; left = old.out })) → (h : HasHeard old past piece new)
     → (e : BytesMatchTrace job (heard_on trace h.text h.sent (protocol_of new h.history_then)) (record { read_ = read_ ++ piece; wrote = wrote; rest = new.input.rest; left = new.out })) × (ports_opened e.events ≡ ports_opened d.events)
-did_hear job trace read_ wrote rest old new past piece target talk_is rest_is running d h =
+did_hear job trace read_ wrote rest old new past piece target exchange_is rest_is running d h =
     let hears : HearsReplies (target_of job) trace.protocol h.told h.text h.sent (protocol_of new h.history_then)
-    = subst (λ (t : ProtocolState). HearsReplies (target_of job) t h.told h.text h.sent (protocol_of new h.history_then)) talk_is (subst (λ (e : JobTarget). HearsReplies e (protocol_of old past) h.told h.text h.sent (protocol_of new h.history_then)) target h.hears) in
-    let runs = runs_hear (target_of job) (initial_trace job) trace d.events h.told h.text h.sent (protocol_of new h.history_then) (λ procedure e. ap (λ (t : ProtocolState). is_running t.outcome) (sym talk_is) ∙ running) d.runs hears in (
+    = subst (λ (t : ProtocolState). HearsReplies (target_of job) t h.told h.text h.sent (protocol_of new h.history_then)) exchange_is (subst (λ (e : JobTarget). HearsReplies e (protocol_of old past) h.told h.text h.sent (protocol_of new h.history_then)) target h.hears) in
+    let runs = runs_hear (target_of job) (initial_trace job) trace d.events h.told h.text h.sent (protocol_of new h.history_then) (λ procedure e. ap (λ (t : ProtocolState). is_running t.outcome) (sym exchange_is) ∙ running) d.runs hears in (
       record {
         events = runs.0;
         hello = d.hello;

@@ -279,7 +279,7 @@ fn prepare<D: Dial>(client: &Client, dial: &mut D, has_asked: bool)
 
 /// Writes what is to go out, and then makes the data connection that is wanted or reads the control connection once. Says
 /// whether it read it.
-fn talk<C: Read + Write, D: Dial>(
+fn exchange<C: Read + Write, D: Dial>(
     client: &mut Client,
     control: &mut C,
     dial: &mut D,
@@ -334,7 +334,7 @@ fn looks_again(client: &Client, has_looked: &mut bool) -> bool
 }
 
 /// A turn of a job that runs: takes bytes of the data connection of its frame, looks again at what came before it was asked
-/// for, or talks with the daemon. Says whether something came, unless the job is over.
+/// for, or exchanges with the daemon. Says whether something came, unless the job is over.
 pub(crate) fn go_on<C: Read + Write, D: Dial>(
     client: &mut Client,
     control: &mut C,
@@ -379,7 +379,7 @@ pub(crate) fn go_on<C: Read + Write, D: Dial>(
         client.feed_control(&[]);
         return true;
     }
-    talk(client, control, dial, stream, ahead, room, tally)
+    exchange(client, control, dial, stream, ahead, room, tally)
 }
 
 /// Writes all bytes of a scan's file that may go out. Says whether the output took them; if not, what it took in all is no

@@ -49,9 +49,9 @@ in_turn : (t : Ghost) (w : WorldCore) → WorldRefines t w → HearsInTurn w
 in_turn t w h i p id at link runs early =
     let s = h.endpoints i p at in
     let me = t.system.job i in
-    let under = runs_under (place_of_info t.infos) (target_of (t.jobs i)) me.session.job (map (λ (q : JoinHistory). q.ended) (t.pages i)) (protocol_of p.client (t.history i)) me.client s.talks.reads runs in
-    let begun : me.client.stage ≡ Idle → ⊥ = λ idle. (let clash : None ≡ Some id = sym (s.means.before (s.talks.idle idle)).0 ∙ link in cc) in
-    by s.carries.telling s.carries.up (s.means.down under) s.means.up (answered_by i (make_for t.system i) me (device_for t.system i) me.client.stage under begun (h.sound.talks i))
+    let under = runs_under (place_of_info t.infos) (target_of (t.jobs i)) me.session.job (map (λ (q : JoinHistory). q.ended) (t.pages i)) (protocol_of p.client (t.history i)) me.client s.exchanges.reads runs in
+    let begun : me.client.stage ≡ Idle → ⊥ = λ idle. (let clash : None ≡ Some id = sym (s.means.before (s.exchanges.idle idle)).0 ∙ link in cc) in
+    by s.carries.telling s.carries.up (s.means.down under) s.means.up (answered_by i (make_for t.system i) me (device_for t.system i) me.client.stage under begun (h.sound.exchanges i))
   where
     by : p.client.input.rest ≡ (t.wires i).telling → p.client.out ≡ (t.wires i).up → SpellsReplies (place_of_info t.infos) p.client.progress (t.system.job i).due ((t.wires i).telling ++ (t.wires i).down)
         → ((t.system.job i).served ≡ true → SpellsAsked (t.jobs i) (t.system.job i).client (t.system.job i).todo ((t.wires i).asking ++ (t.wires i).up)) → IsAnswered (t.system.job i) → ⊥

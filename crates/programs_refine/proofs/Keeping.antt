@@ -62,7 +62,7 @@ wants_first : (t : Ghost) (w : WorldCore) → WorldRefines t w → WantsBeforeIt
 wants_first t w h i p id at link runs wants flows =
     let s = h.endpoints i p at in
     let me = t.system.job i in
-    let imaging = wants_imaging (place_of_info t.infos) (t.jobs i) (t.history i) (t.pages i) me p s.talks wants in
+    let imaging = wants_imaging (place_of_info t.infos) (t.jobs i) (t.history i) (t.pages i) me p s.exchanges wants in
     let served : IsServed i t.system.make w.daemon (Some id) me.served t.system.device (session_by i t.system.device me) = subst (λ (l : Option SessionId). IsServed i t.system.make w.daemon l me.served t.system.device (session_by i t.system.device me)) link s.served in
     let started = started_by i t.system.make w.daemon id me.served t.system.device me refl served flows in
     let none = flows_none me.client.stage me.session.transfer p.client.progress p.client.phase (t.wires i).image me.session.flight me.session.ending imaging started.started s.means.flow in

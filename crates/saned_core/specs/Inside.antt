@@ -124,7 +124,7 @@ pub record FeedsPlace (users : List Entry) (was : PlaceState) (piece : List ℕ)
 -- the session of a number that goes on: what becomes of its slot, and nothing of any other
 pub record FeedsIn (s : Session DeviceState) (users : List Entry) (n : ℕ) (input : List ℕ)
     (slots : List (Option (SessionSlot DeviceState))) (registry : Table) (stream : ChaCha) (piece : List ℕ) (fed : Fed)
-    (seats_new : List (Option (SessionSlot DeviceState))) (registry_new : Table) (stream_new : ChaCha) : Type 0 where
+    (slots_new : List (Option (SessionSlot DeviceState))) (registry_new : Table) (stream_new : ChaCha) : Type 0 where
   pub context : RequestContext
   pub rest : List ℕ
   pub text : List ℕ
@@ -137,17 +137,17 @@ pub record FeedsIn (s : Session DeviceState) (users : List Entry) (n : ℕ) (inp
             input;
         piece = piece;
       }) (record { context = context; rest = rest; text = text })
-  pub slots_is : seats_new ≡ on_session_slot (slot_or_none_after_feed fed context rest text) n slots
+  pub slots_is : slots_new ≡ on_session_slot (slot_or_none_after_feed fed context rest text) n slots
   pub registry_is : registry_new ≡ registry_after fed context
   pub stream_is : stream_new ≡ context.stream
 
 -- one that is over, or was never opened, does nothing
 abbrev pub FeedsIf : Option (Session DeviceState) → List Entry → ℕ → List ℕ → List (Option (SessionSlot DeviceState))
     → Table → ChaCha → List ℕ → Fed → List (Option (SessionSlot DeviceState)) → Table → ChaCha → Type 0
-FeedsIf None users n input slots registry stream piece fed seats_new registry_new stream_new =
-    (fed ≡ Over) × (seats_new ≡ slots) × (registry_new ≡ registry) × (stream_new ≡ stream)
-FeedsIf (Some s) users n input slots registry stream piece fed seats_new registry_new stream_new =
-    FeedsIn s users n input slots registry stream piece fed seats_new registry_new stream_new
+FeedsIf None users n input slots registry stream piece fed slots_new registry_new stream_new =
+    (fed ≡ Over) × (slots_new ≡ slots) × (registry_new ≡ registry) × (stream_new ≡ stream)
+FeedsIf (Some s) users n input slots registry stream piece fed slots_new registry_new stream_new =
+    FeedsIn s users n input slots registry stream piece fed slots_new registry_new stream_new
 
 -- the slots, and what their sessions share
 pub record SlotsState : Type 0 where

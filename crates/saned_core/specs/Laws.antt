@@ -6,7 +6,7 @@ use Rattle.wire_format.specs.Limit.{limited_format}
 use Rattle.wire_message.specs.Message.{message_limit, request as request_format}
 use Rattle.wire_message.specs.declared.message.Request.{Request as AnyRequest}
 use Rattle.saned_requests.specs.declared.request_answer.RequestAnswer.{RequestAnswer as AnySaid}
-use Rattle.saned_core.specs.declared.session_slot.SessionSlot.{SessionSlot as ASeat}
+use Rattle.saned_core.specs.declared.session_slot.SessionSlot.{SessionSlot as ASlot}
 use Rattle.saned_core.specs.DaemonStates.{session_slot_of, on_session_slot}
 use Rattle.saned_requests.specs.RequestAnswers.{RequestContext, Answers}
 use Rattle.saned_core.specs.Feeding.{FedPiece, FeedProgress, AnsweredSoFar, SaysAll, session_goes_on, replies_to}
@@ -22,6 +22,6 @@ OneMoreIsAnswered =
 -- what is done to one session changes no other one
 abbrev pub SessionsAreIndependent : Type 0
 SessionsAreIndependent =
-    (slots : List (Option (ASeat DeviceState))) (f : ASeat DeviceState → Option (ASeat DeviceState)) (n m : ℕ)
-    → ((slot new : ASeat DeviceState) → f slot ≡ Some new → new.number ≡ slot.number) → n ≢ m
+    (slots : List (Option (ASlot DeviceState))) (f : ASlot DeviceState → Option (ASlot DeviceState)) (n m : ℕ)
+    → ((slot new : ASlot DeviceState) → f slot ≡ Some new → new.number ≡ slot.number) → n ≢ m
     → session_slot_of (on_session_slot f n slots) m ≡ session_slot_of slots m

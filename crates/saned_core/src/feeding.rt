@@ -66,7 +66,7 @@ fn feed_session<D: Device>(
     challenger: &mut Challenger,
     piece: &[u8],
 ) -> Fed
-    ensures desk { FeedsReplies result
+    ensures context { FeedsReplies result
         (record {
           users = users.now;
           context = request_context D.state session.old registry.old challenger.old;
@@ -107,7 +107,7 @@ fn feed_session<D: Device>(
 
 /// Ends the session of a slot: its leases go back, and what came and was not answered is dropped.
 fn close<D: Device>(alloc: Global, slot: &mut SessionSlot<D>, registry: &mut Registry<D>)
-    ensures seat { slot.new ≡ record slot.old { input = no_input; session = None } }
+    ensures slot { slot.new ≡ record slot.old { input = no_input; session = None } }
     ensures registry { table D.state registry.new ≡ session_let_go (table D.state registry.old)
         (option_map (seen_session D.state) slot.old.session) }
 {

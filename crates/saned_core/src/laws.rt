@@ -8,7 +8,7 @@ ghost use Rattle.wire_format.specs.Limit.{limited_format};
 ghost use Rattle.wire_message.specs.Message.{message_limit, request as request_format};
 ghost use Rattle.wire_message.specs.declared.message.Request.{Request as AnyRequest};
 ghost use Rattle.saned_requests.specs.declared.request_answer.RequestAnswer.{RequestAnswer as AnySaid};
-ghost use Rattle.saned_core.specs.declared.session_slot.SessionSlot.{SessionSlot as ASeat};
+ghost use Rattle.saned_core.specs.declared.session_slot.SessionSlot.{SessionSlot as ASlot};
 ghost use Rattle.saned_core.specs.DaemonStates.{Core, session_slot_of, on_session_slot, on_session, after_connected, after_lost, after_taken, after_open_session, after_end_session};
 ghost use Rattle.saned_requests.specs.RequestAnswers.{RequestContext, Answers};
 ghost use Rattle.saned_core.specs.Feeding.{FedPiece, FeedProgress, AnsweredSoFar, SaysAll, session_goes_on, replies_to, Feeds};

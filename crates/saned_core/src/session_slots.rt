@@ -232,7 +232,7 @@ fn kept_if_open<D>(slot: Option<SessionSlot<D>>) -> Option<SessionSlot<D>>
 fn settle<D: Device>(registry: &mut Registry<D>, slots: &mut [Option<SessionSlot<D>>], k: usize)
     requires { k < length slots.old }
     ensures registry { table D.state registry.new ≡ table D.state registry.old }
-    ensures seats { (d : _) → slots.new
+    ensures slots { (d : _) → slots.new
         ≡ slice_set slots.old k (option_and_then kept_if_open (slice_index_or slots.old k d)) }
 {
     let slot = swap_slot(slots, k, None);
@@ -249,7 +249,7 @@ pub fn end_at<D: Device>(
 )
     ensures registry { table D.state registry.new ≡ session_let_go (table D.state registry.old)
         (session_in (session_slot_of (seen_session_slots D.state slots.old) number)) }
-    ensures seats { seen_session_slots D.state slots.new
+    ensures slots { seen_session_slots D.state slots.new
         ≡ on_session_slot no_more number (seen_session_slots D.state slots.old) }
 {
     if let Some(k) = find(slots, number) {
@@ -290,7 +290,7 @@ pub fn take_at<D: Device>(
     ensures bytes { buf.new
         ≡ take result (replies_in (session_slot_of (seen_session_slots D.state slots.old) number))
         ++ drop result buf.old }
-    ensures seats { seen_session_slots D.state slots.new
+    ensures slots { seen_session_slots D.state slots.new
         ≡ on_session_slot (after_taken result) number (seen_session_slots D.state slots.old) }
     ensures registry { table D.state registry.new ≡ table D.state registry.old }
 {
@@ -345,7 +345,7 @@ pub fn put_in_first_slot<D: Device>(
     port: u16,
 ) -> bool
     ensures answer { result ≡ not (all_slots_taken (seen_session_slots D.state slots.old)) }
-    ensures seats { seen_session_slots D.state slots.new ≡ with_session_slot
+    ensures slots { seen_session_slots D.state slots.new ≡ with_session_slot
         (seen_session_slots D.state slots.old) (new_session_slot strings number port) }
     ensures registry { table D.state registry.new ≡ table D.state registry.old }
 {

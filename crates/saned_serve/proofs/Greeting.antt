@@ -15,8 +15,8 @@ use Rattle.saned_serve.specs.Inside.TurnPhase.{Fresh}
 use Rattle.saned_serve.specs.declared.link.SessionLink.{SessionLink}
 use Rattle.saned_serve.proofs.ActionSteps.{life_at, life_off, eqb_off, counted_none}
 
-leads_deed : (action : LoopAction) (d0 : Core) (n0 : Option ListenerTrace) (past : List LoopAction) (d : Core) (n : Option ListenerTrace) → ((j : ℕ) → concerns action j ≡ false) → JournalLeads d0 n0 past d n → Steps d action d → IsEnabledAfter action past → JournalLeads d0 n0 (action ∷ past) d (listener_trace_step action n)
-leads_deed action d0 n0 past d n off leads steps may = record {
+leads_action : (action : LoopAction) (d0 : Core) (n0 : Option ListenerTrace) (past : List LoopAction) (d : Core) (n : Option ListenerTrace) → ((j : ℕ) → concerns action j ≡ false) → JournalLeads d0 n0 past d n → Steps d action d → IsEnabledAfter action past → JournalLeads d0 n0 (action ∷ past) d (listener_trace_step action n)
+leads_action action d0 n0 past d n off leads steps may = record {
   is_journal = (leads.is_journal, may);
   run = (d, leads.run, steps);
   net = ap (listener_trace_step action) leads.net;
@@ -36,7 +36,7 @@ greets_none history d n m link none net = record {
   greets = λ d0 n0 past leads ask. record {
     journal = Waits ∷ past;
     more = (Waits ∷ [], refl);
-    leads = subst (λ o. JournalLeads d0 n0 (Waits ∷ past) d o) (sym net) (leads_deed Waits d0 n0 past d n (λ j. refl) leads refl ask);
+    leads = subst (λ o. JournalLeads d0 n0 (Waits ∷ past) d o) (sym net) (leads_action Waits d0 n0 past d n (λ j. refl) leads refl ask);
     others = λ j off. life_off j Waits past refl;
     met = subst (λ p. IsLinkOf history past (Waits ∷ past) d.opened p) (sym none) (life_off d.opened Waits past refl);
     tally = counted_none (tally_of past);
@@ -53,7 +53,7 @@ greets_refuses history d n m port conn link none fresh refused net = record {
       record {
         journal = action ∷ past;
         more = (action ∷ [], refl);
-        leads = subst (λ o. JournalLeads d0 n0 (action ∷ past) d o) (sym net) (leads_deed action d0 n0 past d n (λ j. refl) leads (refused, refl) (ask, fresh));
+        leads = subst (λ o. JournalLeads d0 n0 (action ∷ past) d o) (sym net) (leads_action action d0 n0 past d n (λ j. refl) leads (refused, refl) (ask, fresh));
         others = λ j off. life_off j action past refl;
         met = subst (λ p. IsLinkOf history past (action ∷ past) d.opened p) (sym none) (life_off d.opened action past refl);
         tally = (let t = tally_of past in let sum : t.left ≡ t.left + 0 = omega arith in ap (λ k. record t { left = k; stir = t.stir || true }) sum);

@@ -53,8 +53,8 @@ keeps_still t h i same = subst (λ x. Keeps t h t x) (sym same) (record { own = 
 keeps_then : {t u v : Table} {h i j : Held} → Keeps t h u i → Keeps u i v j → Keeps t h v j
 keeps_then a b = record { own = λ well. b.own (a.own well); others = λ m well there. b.others m (a.own well) (a.others m well there) }
 
-keeps_desk : (d e : RequestContext) → KeepsLeases d e → Keeps d.registry d.session.held e.registry e.session.held
-keeps_desk d e keeps = record { own = keeps.own; others = keeps.others }
+keeps_context : (d e : RequestContext) → KeepsLeases d e → Keeps d.registry d.session.held e.registry e.session.held
+keeps_context d e keeps = record { own = keeps.own; others = keeps.others }
 
 no_lease : {A : Type 0} (w : ℕ) (l : Lease DeviceState) → held_by [] w ≡ Some l → A
 unfolding held_by
@@ -160,24 +160,24 @@ on_apart t u slots f n keeps was =
 -- ---- each call
 
 -- a session is opened
-record Seats (slots : List Place) (new : SessionSlot DeviceState) : Type 0 where
+record TakesSlot (slots : List Place) (new : SessionSlot DeviceState) : Type 0 where
   pub place : ℕ
   pub now : (leases_at (with_session_slot slots new) place ≡ []) ⊎ (leases_at (with_session_slot slots new) place ≡ held_in (Some new))
   pub off : (j : ℕ) → j ≢ place → leases_at (with_session_slot slots new) j ≡ leases_at slots j
 
-seats_new : (slots : List Place) (new : SessionSlot DeviceState) → Seats slots new
+slots_new : (slots : List Place) (new : SessionSlot DeviceState) → TakesSlot slots new
 unfolding with_session_slot
-seats_new [] new = record { place = 0; now = inl refl; off = λ j differ. refl }
-seats_new (None ∷ slots) new = record { place = 0; now = inr refl; off = λ j differ. by_place j differ }
+slots_new [] new = record { place = 0; now = inl refl; off = λ j differ. refl }
+slots_new (None ∷ slots) new = record { place = 0; now = inr refl; off = λ j differ. by_place j differ }
   where
     by_place : (j : ℕ) → j ≢ 0 → leases_at (Some new ∷ slots) j ≡ leases_at (None ∷ slots) j
     by_place zero differ = absurd (differ refl)
     by_place (suc j) differ = refl
-seats_new (Some slot ∷ slots) new =
-    let rest = seats_new slots new in
+slots_new (Some slot ∷ slots) new =
+    let rest = slots_new slots new in
     record { place = suc rest.place; now = rest.now; off = λ j differ. by_place rest j differ }
   where
-    by_place : (rest : Seats slots new) (j : ℕ) → j ≢ suc rest.place → leases_at (Some slot ∷ with_session_slot slots new) j ≡ leases_at (Some slot ∷ slots) j
+    by_place : (rest : TakesSlot slots new) (j : ℕ) → j ≢ suc rest.place → leases_at (Some slot ∷ with_session_slot slots new) j ≡ leases_at (Some slot ∷ slots) j
     by_place rest zero differ = refl
     by_place rest (suc j) differ = rest.off j (λ same. differ (ap suc same))
 
@@ -195,25 +195,25 @@ bare_fresh strings port (suc (suc (suc (suc w)))) l e = let wrong : None ≡ Som
 opened_apart : (d : Core) (port : ℕ) → HoldsApart d → HoldsApart (after_open_session d port)
 opened_apart d port was =
     let new = new_session_slot d.strings d.opened port in
-    let at = seats_new d.slots new in
+    let at = slots_new d.slots new in
     held_apart d.registry d.slots d.registry (with_session_slot d.slots new) at.place (keeps_bare d.registry (leases_at d.slots at.place) (leases_at (with_session_slot d.slots new) at.place) (bare at)) at.off was
   where
-    bare : (at : Seats d.slots (new_session_slot d.strings d.opened port)) → IsBare (leases_at (with_session_slot d.slots (new_session_slot d.strings d.opened port)) at.place)
+    bare : (at : TakesSlot d.slots (new_session_slot d.strings d.opened port)) → IsBare (leases_at (with_session_slot d.slots (new_session_slot d.strings d.opened port)) at.place)
     bare at = elim at.now [ inl none ↦ subst (λ h. IsBare h) (sym none) bare_none | inr some ↦ subst (λ h. IsBare h) (sym some) (bare_fresh d.strings port) ]
 
 -- requests are answered
 all_answered : (users : _) (d : RequestContext) (requests : _) (told : _) (e : RequestContext) → AnswersAll users d requests told e → Keeps d.registry d.session.held e.registry e.session.held
 all_answered users d [] told e answers = subst (λ x. Keeps d.registry d.session.held x.registry x.session.held) (sym answers.1) (keeps_still d.registry d.session.held d.session.held refl)
 all_answered users d (q ∷ qs) told e answers =
-    keeps_then (keeps_desk d answers.1 (keeps_leases d answers.1 (answers_moves users d answers.1 q answers.0 answers.3))) (all_answered users answers.1 qs answers.2 e answers.5)
+    keeps_then (keeps_context d answers.1 (keeps_leases d answers.1 (answers_moves users d answers.1 q answers.0 answers.3))) (all_answered users answers.1 qs answers.2 e answers.5)
 
 closed : (users : _) (d : RequestContext) (rest : List ℕ) (told : _) (e : RequestContext) → FeedEndsSession users d rest told e → Keeps d.registry d.session.held e.registry e.session.held
 closed users d rest told e (Garbled bad nothing same) = subst (λ x. Keeps d.registry d.session.held x.registry x.session.held) (sym same) (keeps_still d.registry d.session.held d.session.held refl)
-closed users d rest told e (Ended left q said takes answers ends) = keeps_desk d e (keeps_leases d e (answers_moves users d e q said answers))
+closed users d rest told e (Ended left q said takes answers ends) = keeps_context d e (keeps_leases d e (answers_moves users d e q said answers))
 
 faltered : (users : _) (d : RequestContext) (q : _) (e : RequestContext) → RequestOutOfMemory users d q e → Keeps d.registry d.session.held e.registry e.session.held
-faltered users d q e (Under at) = keeps_desk d e (keeps_leases d e (falters_moves d e q at))
-faltered users d q e (All said answers) = keeps_desk d e (keeps_leases d e (answers_moves users d e q said answers))
+faltered users d q e (Under at) = keeps_context d e (keeps_leases d e (falters_moves d e q at))
+faltered users d q e (All said answers) = keeps_context d e (keeps_leases d e (answers_moves users d e q said answers))
 
 ran_out : (users : _) (d : RequestContext) (rest : List ℕ) (e : RequestContext) → (e ≡ d) ⊎ OutOfMemoryNext users d rest e → Keeps d.registry d.session.held e.registry e.session.held
 ran_out users d rest e (inl same) = subst (λ x. Keeps d.registry d.session.held x.registry x.session.held) (sym same) (keeps_still d.registry d.session.held d.session.held refl)
@@ -222,20 +222,20 @@ ran_out users d rest e (inr next) = faltered users d next.request e next.out_of_
 went_on : (users : _) (d : RequestContext) (old piece rest : List ℕ) (mid : RequestContext) (text : List ℕ) → AnsweredSoFar (record { users = users; context = d; before = old; piece = piece }) (record { context = mid; rest = rest; text = text }) → Keeps d.registry d.session.held mid.registry mid.session.held
 went_on users d old piece rest mid text progress = all_answered users d progress.requests progress.told mid progress.answers
 
-fed_desk : (fed : Fed) (users : _) (d : RequestContext) (old piece rest : List ℕ) (e : RequestContext) (text : List ℕ) → FeedsContext fed (record { users = users; context = d; before = old; piece = piece }) (record { context = e; rest = rest; text = text }) → Keeps d.registry d.session.held e.registry e.session.held
-fed_desk Standing users d old piece rest e text feeds = went_on users d old piece rest e text feeds.so_far
-fed_desk Over users d old piece rest e text feeds = keeps_then (went_on users d old piece feeds.rest feeds.mid feeds.front feeds.so_far) (closed users feeds.mid feeds.rest feeds.last e feeds.closes)
-fed_desk Starved users d old piece rest e text feeds = keeps_then (went_on users d old piece feeds.rest feeds.mid feeds.text feeds.so_far) (ran_out users feeds.mid feeds.rest e feeds.out_of_memory)
+fed_context : (fed : Fed) (users : _) (d : RequestContext) (old piece rest : List ℕ) (e : RequestContext) (text : List ℕ) → FeedsContext fed (record { users = users; context = d; before = old; piece = piece }) (record { context = e; rest = rest; text = text }) → Keeps d.registry d.session.held e.registry e.session.held
+fed_context Standing users d old piece rest e text feeds = went_on users d old piece rest e text feeds.so_far
+fed_context Over users d old piece rest e text feeds = keeps_then (went_on users d old piece feeds.rest feeds.mid feeds.front feeds.so_far) (closed users feeds.mid feeds.rest feeds.last e feeds.closes)
+fed_context Starved users d old piece rest e text feeds = keeps_then (went_on users d old piece feeds.rest feeds.mid feeds.text feeds.so_far) (ran_out users feeds.mid feeds.rest e feeds.out_of_memory)
 
 -- a slot without a session holds nothing, whether it stands or not
 none_stands : (replies : List ℕ) (slot : SessionSlot DeviceState) → slot.session ≡ None → held_in (slot_if_open None replies slot) ≡ []
 none_stands [] slot none = refl
 none_stands (byte ∷ bytes) slot none = ap held_of none
 
-seat_held : (fed : Fed) (d : RequestContext) (rest text : List ℕ) (slot : SessionSlot DeviceState) → Keeps d.registry d.session.held (registry_after fed d) (held_in (slot_or_none_after_feed fed d rest text slot))
-seat_held Standing d rest text slot = keeps_still d.registry d.session.held d.session.held refl
-seat_held Over d rest text slot = subst (λ h. Keeps d.registry d.session.held (table_let_go d) h) (sym (none_stands (slot_after_feed Over d.session rest text slot).replies (slot_after_feed Over d.session rest text slot) refl)) (keeps_back d.registry d.session.held)
-seat_held Starved d rest text slot = subst (λ h. Keeps d.registry d.session.held (table_let_go d) h) (sym (none_stands [] (slot_after_feed Starved d.session rest text slot) refl)) (keeps_back d.registry d.session.held)
+slot_held : (fed : Fed) (d : RequestContext) (rest text : List ℕ) (slot : SessionSlot DeviceState) → Keeps d.registry d.session.held (registry_after fed d) (held_in (slot_or_none_after_feed fed d rest text slot))
+slot_held Standing d rest text slot = keeps_still d.registry d.session.held d.session.held refl
+slot_held Over d rest text slot = subst (λ h. Keeps d.registry d.session.held (table_let_go d) h) (sym (none_stands (slot_after_feed Over d.session rest text slot).replies (slot_after_feed Over d.session rest text slot) refl)) (keeps_back d.registry d.session.held)
+slot_held Starved d rest text slot = subst (λ h. Keeps d.registry d.session.held (table_let_go d) h) (sym (none_stands [] (slot_after_feed Starved d.session rest text slot) refl)) (keeps_back d.registry d.session.held)
 
 -- of the slot of a number whose session goes on
 with_own : (slot : Place) (s : Session DeviceState) (t u : Table) (f : SessionSlot DeviceState → Place) → session_in slot ≡ Some s → ((slot : SessionSlot DeviceState) → Keeps t s.held u (held_in (f slot))) → Keeps t (held_in slot) u (held_in (option_and_then f slot))
@@ -246,9 +246,9 @@ fed_if : (o : Option (Session DeviceState)) (d : Core) (n : ℕ) (piece : List �
 fed_if None d n piece fed e is feeds was = subst HoldsApart (sym (feeds.idle is).1) was
 fed_if (Some s) d n piece fed e is feeds was =
     let at = feeds_in n d piece fed e s is feeds in
-    let keeps = fed_desk fed d.users (core_context d s) (input_of d n) piece at.rest at.context at.text at.feeds in
+    let keeps = fed_context fed d.users (core_context d s) (input_of d n) piece at.rest at.context at.text at.feeds in
     let now = on_apart d.registry (registry_after fed at.context) d.slots (slot_or_none_after_feed fed at.context at.rest at.text) n
-    (with_own (session_slot_of d.slots n) s d.registry (registry_after fed at.context) (slot_or_none_after_feed fed at.context at.rest at.text) is (λ slot. keeps_then keeps (seat_held fed at.context at.rest at.text slot))) was in
+    (with_own (session_slot_of d.slots n) s d.registry (registry_after fed at.context) (slot_or_none_after_feed fed at.context at.rest at.text) is (λ slot. keeps_then keeps (slot_held fed at.context at.rest at.text slot))) was in
     subst (λ t. AreHeldApart t e.slots) (sym at.registry_is) (subst (λ xs. AreHeldApart (registry_after fed at.context) xs) (sym at.slots_is) now)
 
 -- nothing of the leases changes
@@ -276,7 +276,7 @@ keeps_moves : (from : Core) (s : Session DeviceState) (t u : Table) (i : Held) �
 keeps_moves from s t u i moves =
     let d : RequestContext = record { session = s; registry = t; stream = from.stream } in
     let e : RequestContext = record { session = record s { held = i }; registry = u; stream = from.stream } in
-    keeps_desk d e (keeps_leases d e moves)
+    keeps_context d e (keeps_leases d e moves)
 
 cancelled : (from : Core) (s : Session DeviceState) (t : Table) (w : ℕ) (o : Option (Lease DeviceState)) → held_by s.held w ≡ o → Keeps t s.held t (with_cancelled s.held w)
 cancelled from s t w None e =

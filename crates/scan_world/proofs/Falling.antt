@@ -233,17 +233,17 @@ first_can d p [] m f = subst (λ (x : JobEvent). Can d p x) (sym f.0) f.2
 first_can d p (x ∷ ms) m (inl f) = subst (λ (y : JobEvent). Can d p y) (sym f.1) f.0
 first_can d p (x ∷ ms) m (inr f) = first_can d p ms m f.1
 
-pub record IsDeedOf (w : WorldCore) (i : ℕ) (event : Event) (p : Endpoint) : Type 0 where
+pub record IsActionOf (w : WorldCore) (i : ℕ) (event : Event) (p : Endpoint) : Type 0 where
   pub job_event : JobEvent
   pub event_is : event ≡ job_event_of i job_event
   pub can : Can w.daemon p job_event
 
-deed_by : (w : WorldCore) (i : ℕ) (event : Event) (p : Endpoint) (job_event : Option JobEvent) → Some event ≡ option_map (job_event_of i) job_event → IsNext w.daemon p in_order job_event → IsDeedOf w i event p
-deed_by w i event p None e n = absurd (let clash : Some event ≡ None = e in cc)
-deed_by w i event p (Some m) e n = record { job_event = m; event_is = (let same : Some event ≡ Some (job_event_of i m) = e in cc); can = first_can w.daemon p in_order m n }
+action_by : (w : WorldCore) (i : ℕ) (event : Event) (p : Endpoint) (job_event : Option JobEvent) → Some event ≡ option_map (job_event_of i) job_event → IsNext w.daemon p in_order job_event → IsActionOf w i event p
+action_by w i event p None e n = absurd (let clash : Some event ≡ None = e in cc)
+action_by w i event p (Some m) e n = record { job_event = m; event_is = (let same : Some event ≡ Some (job_event_of i m) = e in cc); can = first_can w.daemon p in_order m n }
 
-deed_of : (w : WorldCore) (i : ℕ) (event : Event) (m : IsMoveOf w i event) → IsDeedOf w i event m.endpoint
-deed_of w i event m = deed_by w i event m.endpoint m.next.job_event m.next.event_is (m.next.runs (left_runs (is_running m.endpoint.client.outcome) m.endpoint.budget m.left))
+action_of : (w : WorldCore) (i : ℕ) (event : Event) (m : IsMoveOf w i event) → IsActionOf w i event m.endpoint
+action_of w i event m = action_by w i event m.endpoint m.next.job_event m.next.event_is (m.next.runs (left_runs (is_running m.endpoint.client.outcome) m.endpoint.budget m.left))
 
 leads_at : (source : Source → SourceState) (i : ℕ) (job_event : JobEvent) (w v : WorldCore) → Leads source (job_event_of i job_event) w v → AtEndpoint w i job_event v
 leads_at source i Connect w v l = l
@@ -263,7 +263,7 @@ pub record IsFewer (w v : WorldCore) : Type 0 where
 
 move_falls : (source : Source → SourceState) (i : ℕ) (event : Event) (w v : WorldCore) → IsMoveOf w i event → Leads source event w v → IsFewer w v
 move_falls source i event w v m l =
-    let d = deed_of w i event m in
+    let d = action_of w i event m in
     let a = leads_at source i d.job_event w v (subst (λ (e : Event). Leads source e w v) d.event_is l) in
     let h = a.happens m.endpoint m.at in
     let less = one_less w.daemon v.daemon m.endpoint h.0 d.job_event m.left d.can h.1 in

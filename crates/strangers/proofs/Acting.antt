@@ -4,7 +4,7 @@ use Rattle.std.specs.List.{AllByRecursion}
 use Rattle.std.proofs.Common.{◌≡◌, ◌≢◌, ◌∙◌, ◌⊎◌, inl, inr, ℕ, ◌+◌, ◌≤◌, ◌<◌, List, [], ◌∷◌, ◌++◌, Bool, true, false, Option, Some, None, option_map, refl, sym, ap, subst, length, slice_get, arith}
 use Rattle.device_api.specs.State.{DeviceState}
 use Rattle.dispatch.specs.Table.{Table}
-use Rattle.saned_requests.specs.declared.session.Session.{Session as DeskSession}
+use Rattle.saned_requests.specs.declared.session.Session.{Session as RequestSession}
 use Rattle.saned_requests.specs.RequestAnswers.{RequestContext}
 use Rattle.saned_core.specs.declared.session_slot.Fed.{Fed}
 use Rattle.saned_core.specs.declared.session_slot.Fed.TheVariants.{Standing, Over, Starved}
@@ -57,7 +57,7 @@ record Acted (t : Ghost) (w : WorldCore) (n : ℕ) (e : Core) : Type 0 where
   shows : TableRefines (stranger_of w n) t.system.make held e.registry device
   limits : HasDaemonLimits e
   opened : w.daemon.opened ≤ e.opened
-  sits : (session : DeskSession DeviceState) → session_of e n ≡ Some session → (s : AbstractSession) × SessionRefines (stranger_of w n) t.system.make e n device s
+  sits : (session : RequestSession DeviceState) → session_of e n ≡ Some session → (s : AbstractSession) × SessionRefines (stranger_of w n) t.system.make e n device s
   rests : session_of e n ≡ None → TableRefines (stranger_of w n) t.system.make [] e.registry device
 
 two_strangers : (w : WorldCore) (m n : ℕ) → m ≢ n → stranger_of w m ≢ stranger_of w n
@@ -117,7 +117,7 @@ nothing t w n e h is =
 
 -- ---- he has a session
 
-is_his : (t : Ghost) (w : WorldCore) (n : ℕ) (session : DeskSession DeviceState) → (h : StandsAmong t w) → (nobodys : IsNobodys w n) → (is : session_of w.daemon n ≡ Some session) → IsStrangers t w (stranger_of w n) n ((h.strangers n).sits session is nobodys).0
+is_his : (t : Ghost) (w : WorldCore) (n : ℕ) (session : RequestSession DeviceState) → (h : StandsAmong t w) → (nobodys : IsNobodys w n) → (is : session_of w.daemon n ≡ Some session) → IsStrangers t w (stranger_of w n) n ((h.strangers n).sits session is nobodys).0
 is_his t w n session h nobodys is = record { beyond = omega arith; nowhere = (h.strangers n).nowhere; apart = nobodys; sits = ((h.strangers n).sits session is nobodys).1 }
 
 goes_on : (t : Ghost) (w : WorldCore) (n : ℕ) (e : Core) → HasDaemonLimits e → e.opened ≡ w.daemon.opened → GoesOn t w (stranger_of w n) n e → Acted t w n e
@@ -162,7 +162,7 @@ over_slot Over context rest text (Some slot) ends = over_if (slot.replies ++ tex
 over_slot Starved context rest text None ends = refl
 over_slot Starved context rest text (Some slot) ends = over_if [] (slot_after_feed Starved context.session rest text slot) refl
 
-session_gone : (n : ℕ) (d e : Core) (session : DeskSession DeviceState) (piece : List ℕ) (fed : Fed) → HasDaemonLimits d → session_of d n ≡ Some session → Feeds n d piece fed e → Ends fed → session_of e n ≡ None
+session_gone : (n : ℕ) (d e : Core) (session : RequestSession DeviceState) (piece : List ℕ) (fed : Fed) → HasDaemonLimits d → session_of d n ≡ Some session → Feeds n d piece fed e → Ends fed → session_of e n ≡ None
 session_gone n d e session piece fed limits is f ends =
     let g = feeds_in n d piece fed e session is f in
     ap (λ (l : Slots). session_in (session_slot_of l n)) g.slots_is
@@ -191,14 +191,14 @@ none_left t w n e h nobodys none limits opened registry slots gone =
     let left = jobs_left t w i n e table (omega arith) (h.strangers n).nowhere old nobodys h.jobs (record { held = []; shows = now; others = subst (λ (r : Table). LeavesOthers i w.daemon.registry r table table) (sym registry) (leaves_all i w.daemon.registry table); slots = slots; fit = h.jobs.sound.fit }) in
     is_gone t w n e table limits opened gone left now
 
-lost_none : (g : DeskSession DeviceState → DeskSession DeviceState) (o : Option (SessionSlot DeviceState)) → session_in o ≡ None → session_in (option_and_then (on_session g) o) ≡ None
+lost_none : (g : RequestSession DeviceState → RequestSession DeviceState) (o : Option (SessionSlot DeviceState)) → session_in o ≡ None → session_in (option_and_then (on_session g) o) ≡ None
 lost_none g None none = refl
 lost_none g (Some slot) none = ap (option_map g) none
 
 taken_none : (count : ℕ) (o : Option (SessionSlot DeviceState)) → session_in o ≡ None → session_in (option_and_then (after_taken count) o) ≡ None
 taken_none count None none = refl
 taken_none count (Some slot) none =
-    ap (λ (x : Option (DeskSession DeviceState)). session_in (slot_if_open x (after_reply_bytes count slot).replies (after_reply_bytes count slot))) none ∙ over_if (after_reply_bytes count slot).replies (after_reply_bytes count slot) none
+    ap (λ (x : Option (RequestSession DeviceState)). session_in (slot_if_open x (after_reply_bytes count slot).replies (after_reply_bytes count slot))) none ∙ over_if (after_reply_bytes count slot).replies (after_reply_bytes count slot) none
 
 -- ---- he comes
 
@@ -234,7 +234,7 @@ opens t w n port e h nobodys numbered room after =
 never : (b : Bool) → b ≡ true → b ≡ false → ⊥
 never b on off = let clash : true ≡ false = sym on ∙ off in cc
 
-by_session : (t : Ghost) (w : WorldCore) (n : ℕ) (act : SessionAction) (e : Core) (o : Option (DeskSession DeviceState)) → StandsAmong t w → IsNobodys w n → session_of w.daemon n ≡ o → ActsOn n w.daemon act e → ActLeaves t w (at_daemon w e) n
+by_session : (t : Ghost) (w : WorldCore) (n : ℕ) (act : SessionAction) (e : Core) (o : Option (RequestSession DeviceState)) → StandsAmong t w → IsNobodys w n → session_of w.daemon n ≡ o → ActsOn n w.daemon act e → ActLeaves t w (at_daemon w e) n
 by_session t w n (Opens port) e o h nobodys is a = opens t w n port e h nobodys a.numbered a.room a.after
 by_session t w n (Hears got room bytes) e o h nobodys is a = nothing t w n e h a
 by_session t w n (Forgets told port) e o h nobodys is a = nothing t w n e h a
@@ -255,11 +255,11 @@ by_session t w n (Take room bytes) e None h nobodys is a =
     (ap session_in (own_slot (after_taken (length bytes)) n w.daemon.opened w.daemon.slots (taken_number (length bytes)) h.limits.1) ∙ taken_none (length bytes) (session_slot_of w.daemon.slots n) is)))
 by_session t w n (Connect port) e (Some session) h nobodys is a =
     subst (λ (x : Core). ActLeaves t w (at_daemon w x) n) (sym a.after) (acted t w n _ h nobodys (goes_on t w n _ (limits_connected w.daemon n h.limits) refl (connects t w (stranger_of w n) n _ h.jobs (is_his t w n session h nobodys is))))
-by_session t w n (Connect port) e None h nobodys is a = absurd (never _ a.waits (ap (λ (o : Option (DeskSession DeviceState)). is_waiting (frame_in o)) is))
+by_session t w n (Connect port) e None h nobodys is a = absurd (never _ a.waits (ap (λ (o : Option (RequestSession DeviceState)). is_waiting (frame_in o)) is))
 by_session t w n (Turn room step bytes) e (Some session) h nobodys is a =
     acted t w n e h nobodys (goes_on t w n e (limits_turned n w.daemon step e a.buffer a.turns h.limits) (ap (λ (c : Core). c.opened) a.turns.others) (takes_data t w (stranger_of w n) n _ step a.buffer e h.jobs (is_his t w n session h nobodys is) a.turns))
 by_session t w n (Turn room step bytes) e None h nobodys is a =
-    let run : TurnsSessions None n w.daemon.slots step e.slots a.buffer = subst (λ (o : Option (DeskSession DeviceState)). TurnsSessions o n w.daemon.slots step e.slots a.buffer) is a.turns.slots in
+    let run : TurnsSessions None n w.daemon.slots step e.slots a.buffer = subst (λ (o : Option (RequestSession DeviceState)). TurnsSessions o n w.daemon.slots step e.slots a.buffer) is a.turns.slots in
     nothing t w n e h (a.turns.others ∙ ap (λ (l : Slots). record w.daemon { slots = l }) run.1)
 by_session t w n Lose e (Some session) h nobodys is a =
     subst (λ (x : Core). ActLeaves t w (at_daemon w x) n) (sym a) (acted t w n _ h nobodys (goes_on t w n _ (limits_lost w.daemon n h.limits) refl (loses_data t w (stranger_of w n) n _ h.jobs (is_his t w n session h nobodys is))))

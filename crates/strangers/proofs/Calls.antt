@@ -5,7 +5,7 @@ use Rattle.md5_auth.specs.declared.users.Entry.{Entry}
 use Rattle.device_api.specs.State.{DeviceState}
 use Rattle.dispatch.specs.Table.{Table}
 use Rattle.dispatch.specs.declared.table.place.Place.{Place}
-use Rattle.saned_requests.specs.declared.session.Session.{Session as DeskSession}
+use Rattle.saned_requests.specs.declared.session.Session.{Session as RequestSession}
 use Rattle.saned_requests.specs.Holding.{given_back}
 use Rattle.saned_requests.specs.RequestAnswers.{RequestContext}
 use Rattle.saned_core.specs.declared.session_slot.Fed.{Fed}
@@ -31,7 +31,7 @@ use Rattle.daemon_refines.specs.Cores.{RefinesAfterFeed, SessionRefines, devices
 use Rattle.daemon_refines.specs.Feeds.{IsFed}
 use Rattle.daemon_refines.proofs.Changes.{Held}
 use Rattle.daemon_refines.proofs.CoreCalls.{core_connects, core_ends, core_loses}
-use Rattle.daemon_refines.proofs.Cores.{own_seat}
+use Rattle.daemon_refines.proofs.Cores.{own_slot}
 use Rattle.daemon_refines.proofs.FeedRefines.{feeds_agree}
 use Rattle.daemon_refines.proofs.Leaves.{ends_leave}
 use Rattle.daemon_refines.proofs.OtherSessions.{leaves_all}
@@ -56,12 +56,12 @@ shown Standing i make users d table s old piece rest new ran = record { held = n
 shown Over i make users d table s old piece rest new ran = record { held = []; shows = ran.3.back; others = ran.3.others }
 shown Starved i make users d table s old piece rest new ran = record { held = []; shows = ran.3.back; others = ran.3.others }
 
-going_on : (o : Option (SessionSlot DeviceState)) (session : DeskSession DeviceState) (slots : List (Option (SessionSlot DeviceState))) (n : ℕ) (context : RequestContext) (rest text : List ℕ) → session_slot_of slots n ≡ o → session_in o ≡ Some session → session_in (session_slot_of (on_session_slot (slot_or_none_after_feed Standing context rest text) n slots) n) ≡ Some context.session
+going_on : (o : Option (SessionSlot DeviceState)) (session : RequestSession DeviceState) (slots : List (Option (SessionSlot DeviceState))) (n : ℕ) (context : RequestContext) (rest text : List ℕ) → session_slot_of slots n ≡ o → session_in o ≡ Some session → session_in (session_slot_of (on_session_slot (slot_or_none_after_feed Standing context rest text) n slots) n) ≡ Some context.session
 going_on None session slots n context rest text e is = absurd (let clash : None ≡ Some session = is in cc)
 going_on (Some slot) session slots n context rest text e is =
-    ap session_in (own_seat (slot_or_none_after_feed Standing context rest text) n slots slot (slot_after_feed Standing context.session rest text slot) e refl refl)
+    ap session_in (own_slot (slot_or_none_after_feed Standing context rest text) n slots slot (slot_after_feed Standing context.session rest text slot) e refl refl)
 
-own_behind : (fed : Fed) (i : ℕ) (make : ℕ → Make) (n : ℕ) (old new : Core) (session : DeskSession DeviceState) (table : ℕ → AbstractDevice) (s : AbstractSession) (input piece rest text : List ℕ) (context : RequestContext) → session_of old n ≡ Some session → new.slots ≡ on_session_slot (slot_or_none_after_feed fed context rest text) n old.slots →
+own_behind : (fed : Fed) (i : ℕ) (make : ℕ → Make) (n : ℕ) (old new : Core) (session : RequestSession DeviceState) (table : ℕ → AbstractDevice) (s : AbstractSession) (input piece rest text : List ℕ) (context : RequestContext) → session_of old n ≡ Some session → new.slots ≡ on_session_slot (slot_or_none_after_feed fed context rest text) n old.slots →
     new.registry ≡ registry_after fed context → new.stream ≡ context.stream → (ran : IsFed fed i make old.users (core_context old session) table s input piece rest context) →
     RefinesAfterFeed fed i make new n (devices_behind fed i make old.users (core_context old session) table s input piece rest context ran)
 own_behind Standing i make n old new session table s input piece rest text context stands slots registry stream ran = (
@@ -131,7 +131,7 @@ pub treated_fit : (i : ℕ) (make : ℕ → Make) (table device : ℕ → Abstra
 treated_fit i make table device h fit k = fit_treated i (make k) (table k) (device k) (h k) (fit k)
 
 -- his session changed, and its devices
-left_on : (i : ℕ) (make : ℕ → Make) (n : ℕ) (d : Core) (g : DeskSession DeviceState → DeskSession DeviceState) (table device : ℕ → AbstractDevice) (s : AbstractSession) → AllFit make table → AllTreated i make table device → SessionRefines i make (record d { slots = on_session_slot (on_session g) n d.slots }) n device s
+left_on : (i : ℕ) (make : ℕ → Make) (n : ℕ) (d : Core) (g : RequestSession DeviceState → RequestSession DeviceState) (table device : ℕ → AbstractDevice) (s : AbstractSession) → AllFit make table → AllTreated i make table device → SessionRefines i make (record d { slots = on_session_slot (on_session g) n d.slots }) n device s
     → Left i make n d (record d { slots = on_session_slot (on_session g) n d.slots }) table device
 left_on i make n d g table device s fit h own = record {
   held = own.session.held;

@@ -2,7 +2,7 @@
 use Rattle.std.specs.Prelude.{if◌then◌else◌}
 use Rattle.std.proofs.Common.{◌≡◌, ◌∙◌, ◌⊎◌, inl, inr, ℕ, ◌+◌, zero, suc, List, [], ◌∷◌, Bool, true, false, Option, Some, None, eqb-true, refl, sym, ap, subst, length, slice_get, arith}
 use Rattle.device_api.specs.State.{DeviceState}
-use Rattle.saned_requests.specs.declared.session.Session.{Session as DeskSession}
+use Rattle.saned_requests.specs.declared.session.Session.{Session as RequestSession}
 use Rattle.saned_core.specs.declared.session_slot.SessionSlot.{SessionSlot}
 use Rattle.saned_core.specs.DaemonStates.{is_slot_number, session_in, session_slot_of}
 use Rattle.scan_world.specs.Worlds.{WorldCore}
@@ -31,7 +31,7 @@ found_at [] n slot is = absurd (let clash : None ≡ Some slot = is in cc)
 found_at (x ∷ slots) n slot is = at_by x slots n slot (is_slot_number n x) refl is (found_at slots n slot)
 
 -- so no slot is nobody's
-none_nobodys : (t : Ghost) (w : WorldCore) (n : ℕ) (o : Option (SessionSlot DeviceState)) (session : DeskSession DeviceState) → MayHaveStrangers t w → session_slot_of w.daemon.slots n ≡ o → session_in o ≡ Some session → IsNobodys w n → ⊥
+none_nobodys : (t : Ghost) (w : WorldCore) (n : ℕ) (o : Option (SessionSlot DeviceState)) (session : RequestSession DeviceState) → MayHaveStrangers t w → session_slot_of w.daemon.slots n ≡ o → session_in o ≡ Some session → IsNobodys w n → ⊥
 none_nobodys t w n None session h at is nobodys = let clash : None ≡ Some session = is in absurd (cc)
 none_nobodys t w n (Some slot) session h at is nobodys =
     let x = found_at w.daemon.slots n slot at in

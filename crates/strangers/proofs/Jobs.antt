@@ -17,7 +17,7 @@ use Rattle.system_model.specs.AbstractDevices.{AbstractDevice, is_held_by}
 use Rattle.system_model.specs.AbstractSessions.{AbstractSession, one_word_session}
 use Rattle.system_model.specs.SystemStates.{JobState, SystemState, device_for, make_for, wanted_place}
 use Rattle.system_model.specs.Invariants.{Invariant}
-use Rattle.system_model.proofs.OtherJobs.{Same, kept_talks, same_self}
+use Rattle.system_model.proofs.OtherJobs.{Same, kept_exchanges, same_self}
 use Rattle.daemon_refines.specs.ContextRefinement.{PlaceRefines, SlotRefines, TableRefines}
 use Rattle.daemon_refines.specs.OtherSessions.{IsHeldByNoOther, LeavesOthers, LeavesPlace}
 use Rattle.daemon_refines.specs.Cores.{SessionRefines}
@@ -86,7 +86,7 @@ all_same t w i n held e device nowhere shown l j = by (decide j i)
 
 sound_with : (s : SystemState) (device : ℕ → AbstractDevice) → Invariant s → AllSame s device → AllFit s.make device → Invariant (with_devices device s)
 sound_with s device h same fit = record {
-  talks = λ j. kept_talks j (make_for s j) (s.job j) (device_for s j) (device (wanted_place s j)) (s.job j).client.stage (same j) (h.talks j);
+  exchanges = λ j. kept_exchanges j (make_for s j) (s.job j) (device_for s j) (device (wanted_place s j)) (s.job j).client.stage (same j) (h.exchanges j);
   pages = λ j. h.pages j;
   fit = fit;
 }
@@ -131,7 +131,7 @@ sits_same t i j n d e device endpoint off apart l h =
     let slot = slot_same endpoint.link n d e apart l.slots in
     record {
       job_is = h.job_is;
-      talks = h.talks;
+      exchanges = h.exchanges;
       carries = subst (λ (x : Option (SessionSlot DeviceState)). WiresMatch (t.wires j) x endpoint) (sym slot) h.carries;
       means = h.means;
       served = served_same i j n t.system.make endpoint.link d e t.system.device device (t.system.job j) (t.system.job j).served off apart l h.served;

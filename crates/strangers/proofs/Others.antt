@@ -8,7 +8,7 @@ use Rattle.dispatch.specs.Table.{Table}
 use Rattle.saned_requests.specs.Holding.{fresh_session}
 use Rattle.saned_requests.specs.declared.session.DataPhase.{DataPhase as WordCarriage}
 use Rattle.saned_requests.specs.declared.session.DataPhase.TheVariants as word
-use Rattle.saned_requests.specs.declared.session.Session.{Session as DeskSession}
+use Rattle.saned_requests.specs.declared.session.Session.{Session as RequestSession}
 use Rattle.saned_core.specs.declared.session_slot.DataStep.{DataStep}
 use Rattle.saned_core.specs.declared.session_slot.SessionId.{SessionId}
 use Rattle.saned_core.specs.declared.session_slot.SessionSlot.{SessionSlot}
@@ -30,7 +30,7 @@ use Rattle.saned_requests.specs.RequestAnswers.{RequestContext}
 use Rattle.daemon_refines.specs.Cores.{SessionRefines, new_session}
 use Rattle.daemon_refines.proofs.Beginning.{openings_show}
 use Rattle.daemon_refines.proofs.CoreCalls.{core_turns, core_turns_off}
-use Rattle.daemon_refines.proofs.Cores.{own_seat}
+use Rattle.daemon_refines.proofs.Cores.{own_slot}
 use Rattle.daemon_refines.proofs.OtherSessions.{leaves_all}
 use Rattle.scan_world.specs.declared.endpoint.Endpoint.{Endpoint}
 use Rattle.scan_world.specs.Worlds.{WorldCore}
@@ -46,12 +46,12 @@ use Rattle.strangers.proofs.Calls.{AllTreated, put_treated, treated_fit, treated
 -- ---- a record of his data
 
 -- his session's slot with another session
-seated : (n : ℕ) (slots : List (Option (SessionSlot DeviceState))) (session now : DeskSession DeviceState) (o : Option (SessionSlot DeviceState)) → session_slot_of slots n ≡ o → session_in o ≡ Some session → session_in (session_slot_of (on_session_slot (with_session now) n slots) n) ≡ Some now
-seated n slots session now None e is = absurd (let clash : None ≡ Some session = is in cc)
-seated n slots session now (Some slot) e is = ap session_in (own_seat (with_session now) n slots slot (record slot { session = Some now }) e refl refl)
+in_slot : (n : ℕ) (slots : List (Option (SessionSlot DeviceState))) (session now : RequestSession DeviceState) (o : Option (SessionSlot DeviceState)) → session_slot_of slots n ≡ o → session_in o ≡ Some session → session_in (session_slot_of (on_session_slot (with_session now) n slots) n) ≡ Some now
+in_slot n slots session now None e is = absurd (let clash : None ≡ Some session = is in cc)
+in_slot n slots session now (Some slot) e is = ap session_in (own_slot (with_session now) n slots slot (record slot { session = Some now }) e refl refl)
 
 -- behind a turn of which this is so
-left_turned : (t : Ghost) (w : WorldCore) (i n : ℕ) (e : Core) (device : ℕ → AbstractDevice) (s : AbstractSession) (now : DeskSession DeviceState) → AllFit t.system.make t.system.device → AllTreated i t.system.make t.system.device device → e ≡ record w.daemon { slots = e.slots } → e.slots ≡ on_session_slot (with_session now) n w.daemon.slots
+left_turned : (t : Ghost) (w : WorldCore) (i n : ℕ) (e : Core) (device : ℕ → AbstractDevice) (s : AbstractSession) (now : RequestSession DeviceState) → AllFit t.system.make t.system.device → AllTreated i t.system.make t.system.device device → e ≡ record w.daemon { slots = e.slots } → e.slots ≡ on_session_slot (with_session now) n w.daemon.slots
     → SessionRefines i t.system.make e n device s → Left i t.system.make n w.daemon e t.system.device device
 left_turned t w i n e device s now fit h rest slots own =
     let d = w.daemon in
@@ -65,12 +65,12 @@ left_turned t w i n e device s now fit h rest slots own =
     }
 
 -- nothing is to be had: the session is as it was
-idle_turn : (t : Ghost) (w : WorldCore) (i n : ℕ) (s : AbstractSession) (e : Core) (now : DeskSession DeviceState) → JobsStand t w → (st : IsStrangers t w i n s) → now ≡ st.sits.session → e ≡ record w.daemon { slots = e.slots } → e.slots ≡ on_session_slot (with_session now) n w.daemon.slots → GoesOn t w i n e
+idle_turn : (t : Ghost) (w : WorldCore) (i n : ℕ) (s : AbstractSession) (e : Core) (now : RequestSession DeviceState) → JobsStand t w → (st : IsStrangers t w i n s) → now ≡ st.sits.session → e ≡ record w.daemon { slots = e.slots } → e.slots ≡ on_session_slot (with_session now) n w.daemon.slots → GoesOn t w i n e
 idle_turn t w i n s e now h st same rest slots =
     let d = w.daemon in
     let table = t.system.device in
     let x = st.sits in
-    let stands : session_of e n ≡ Some x.session = ap (λ (l : List (Option (SessionSlot DeviceState))). session_in (session_slot_of l n)) slots ∙ (seated n d.slots x.session now (session_slot_of d.slots n) refl x.stands ∙ ap (λ (y : DeskSession DeviceState). Some y) same) in
+    let stands : session_of e n ≡ Some x.session = ap (λ (l : List (Option (SessionSlot DeviceState))). session_in (session_slot_of l n)) slots ∙ (in_slot n d.slots x.session now (session_slot_of d.slots n) refl x.stands ∙ ap (λ (y : RequestSession DeviceState). Some y) same) in
     let context : core_context e x.session ≡ core_context d x.session = ap (λ (c : Core). core_context c x.session) rest in
     let own : SessionRefines i t.system.make e n table s = record {
       session = x.session;
@@ -81,7 +81,7 @@ idle_turn t w i n s e now h st same rest slots =
     record { device = table; leaves = leaves_jobs t w i n s e table h st (left_turned t w i n e table s now h.sound.fit (λ k. inl refl) rest slots own); session = s; own = own }
 
 -- an action of the model comes of it
-turned_by : (t : Ghost) (w : WorldCore) (i n : ℕ) (s : AbstractSession) (e : Core) (step : DataStep) (buf : List ℕ) (p : JobState) (place : ℕ) (now : DeskSession DeviceState) → JobsStand t w → IsStrangers t w i n s → CoreTurned i t.system.make n w.daemon e t.system.device s [] p place step buf → e ≡ record w.daemon { slots = e.slots }
+turned_by : (t : Ghost) (w : WorldCore) (i n : ℕ) (s : AbstractSession) (e : Core) (step : DataStep) (buf : List ℕ) (p : JobState) (place : ℕ) (now : RequestSession DeviceState) → JobsStand t w → IsStrangers t w i n s → CoreTurned i t.system.make n w.daemon e t.system.device s [] p place step buf → e ≡ record w.daemon { slots = e.slots }
     → e.slots ≡ on_session_slot (with_session now) n w.daemon.slots → GoesOn t w i n e
 turned_by t w i n s e step buf p place now h st c rest slots =
     let make = t.system.make in
@@ -95,7 +95,7 @@ turned_by t w i n s e step buf p place now h st c rest slots =
       own = own;
     }
 
-turned_in : (t : Ghost) (w : WorldCore) (i n : ℕ) (s : AbstractSession) (step : DataStep) (buf : List ℕ) (e : Core) (carriage : WordCarriage) (now : DeskSession DeviceState) → JobsStand t w → (st : IsStrangers t w i n s) → Turns n w.daemon step e buf → st.sits.session.transfer ≡ carriage
+turned_in : (t : Ghost) (w : WorldCore) (i n : ℕ) (s : AbstractSession) (step : DataStep) (buf : List ℕ) (e : Core) (carriage : WordCarriage) (now : RequestSession DeviceState) → JobsStand t w → (st : IsStrangers t w i n s) → Turns n w.daemon step e buf → st.sits.session.transfer ≡ carriage
     → StreamsIn carriage st.sits.session step now buf → e.slots ≡ on_session_slot (with_session now) n w.daemon.slots → GoesOn t w i n e
 turned_in t w i n s step buf e word.Quiet now h st g is run slots = idle_turn t w i n s e now h st run.1 g.others slots
 turned_in t w i n s step buf e (word.Waiting x) now h st g is run slots = idle_turn t w i n s e now h st run.1 g.others slots
@@ -110,7 +110,7 @@ turned_in t w i n s step buf e word.Ending now h st g is run slots =
 
 pub takes_data : StrangersTakeData
 takes_data t w i n s step buf e h st g =
-    let run : TurnsSessions (Some st.sits.session) n w.daemon.slots step e.slots buf = subst (λ (o : Option (DeskSession DeviceState)). TurnsSessions o n w.daemon.slots step e.slots buf) st.sits.stands g.slots in
+    let run : TurnsSessions (Some st.sits.session) n w.daemon.slots step e.slots buf = subst (λ (o : Option (RequestSession DeviceState)). TurnsSessions o n w.daemon.slots step e.slots buf) st.sits.stands g.slots in
     turned_in t w i n s step buf e st.sits.session.transfer run.0 h st g refl run.1 run.2
 
 -- ---- his replies
@@ -119,7 +119,7 @@ abbrev number_in : Option (SessionSlot DeviceState) → ℕ
 number_in None = 0
 number_in (Some x) = x.number
 
-standing_number : (o : Option (DeskSession DeviceState)) (replies : List ℕ) (slot new : SessionSlot DeviceState) → slot_if_open o replies slot ≡ Some new → new.number ≡ slot.number
+standing_number : (o : Option (RequestSession DeviceState)) (replies : List ℕ) (slot new : SessionSlot DeviceState) → slot_if_open o replies slot ≡ Some new → new.number ≡ slot.number
 standing_number (Some session) replies slot new is = ap number_in (sym is)
 standing_number None [] slot new is = absurd (let clash : None ≡ Some new = is in cc)
 standing_number None (b ∷ bytes) slot new is = ap number_in (sym is)
@@ -127,11 +127,11 @@ standing_number None (b ∷ bytes) slot new is = ap number_in (sym is)
 pub taken_number : (count : ℕ) (slot new : SessionSlot DeviceState) → after_taken count slot ≡ Some new → new.number ≡ slot.number
 taken_number count slot new e = standing_number slot.session (after_reply_bytes count slot).replies (after_reply_bytes count slot) new e
 
-taken_seat : (count n : ℕ) (slots : List (Option (SessionSlot DeviceState))) (session : DeskSession DeviceState) (o : Option (SessionSlot DeviceState)) → session_slot_of slots n ≡ o → session_in o ≡ Some session → session_in (session_slot_of (on_session_slot (after_taken count) n slots) n) ≡ Some session
-taken_seat count n slots session None e is = absurd (let clash : None ≡ Some session = is in cc)
-taken_seat count n slots session (Some slot) e is =
-    let stays : after_taken count slot ≡ Some (after_reply_bytes count slot) = ap (λ (o : Option (DeskSession DeviceState)). slot_if_open o (after_reply_bytes count slot).replies (after_reply_bytes count slot)) is in
-    ap session_in (own_seat (after_taken count) n slots slot (after_reply_bytes count slot) e stays refl) ∙ is
+taken_slot : (count n : ℕ) (slots : List (Option (SessionSlot DeviceState))) (session : RequestSession DeviceState) (o : Option (SessionSlot DeviceState)) → session_slot_of slots n ≡ o → session_in o ≡ Some session → session_in (session_slot_of (on_session_slot (after_taken count) n slots) n) ≡ Some session
+taken_slot count n slots session None e is = absurd (let clash : None ≡ Some session = is in cc)
+taken_slot count n slots session (Some slot) e is =
+    let stays : after_taken count slot ≡ Some (after_reply_bytes count slot) = ap (λ (o : Option (RequestSession DeviceState)). slot_if_open o (after_reply_bytes count slot).replies (after_reply_bytes count slot)) is in
+    ap session_in (own_slot (after_taken count) n slots slot (after_reply_bytes count slot) e stays refl) ∙ is
 
 pub takes_replies : StrangersTakeReplies
 takes_replies t w i n count s h st =
@@ -149,16 +149,16 @@ takes_replies t w i n count s h st =
         fit = h.sound.fit;
       });
       session = s;
-      own = record { session = x.session; stands = taken_seat count n d.slots x.session (session_slot_of d.slots n) refl x.stands; shows = x.shows; begun = x.begun };
+      own = record { session = x.session; stands = taken_slot count n d.slots x.session (session_slot_of d.slots n) refl x.stands; shows = x.shows; begun = x.begun };
     }
 
 -- ---- he comes
 
-other_seat : (slots : List (Option (SessionSlot DeviceState))) (new : SessionSlot DeviceState) (m : ℕ) → is_slot_number m (Some new) ≡ false → session_slot_of (with_session_slot slots new) m ≡ session_slot_of slots m
+other_slot : (slots : List (Option (SessionSlot DeviceState))) (new : SessionSlot DeviceState) (m : ℕ) → is_slot_number m (Some new) ≡ false → session_slot_of (with_session_slot slots new) m ≡ session_slot_of slots m
 unfolding session_slot_of with_session_slot
-other_seat [] new m e = refl
-other_seat (None ∷ slots) new m e = rw e refl
-other_seat (Some s ∷ slots) new m e = ap (λ (x : Option (SessionSlot DeviceState)). if is_slot_number m (Some s) then Some s else x) (other_seat slots new m e)
+other_slot [] new m e = refl
+other_slot (None ∷ slots) new m e = rw e refl
+other_slot (Some s ∷ slots) new m e = ap (λ (x : Option (SessionSlot DeviceState)). if is_slot_number m (Some s) then Some s else x) (other_slot slots new m e)
 
 other_number : (n m : ℕ) → m ≢ n → (n == m) ≡ false
 other_number n m off = grind (arith, nat_tests)
@@ -173,7 +173,7 @@ comes t w i port h m =
       held = [];
       shows = m.nothing;
       others = leaves_all i d.registry table;
-      slots = λ k other. other_seat d.slots (new_session_slot d.strings d.opened port) k (other_number n k other);
+      slots = λ k other. other_slot d.slots (new_session_slot d.strings d.opened port) k (other_number n k other);
       fit = h.sound.fit;
     }) in
     record {

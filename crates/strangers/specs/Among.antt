@@ -2,7 +2,7 @@
 -- before.
 use Rattle.std.specs.Prelude.{ℕ, ◌≡◌, ◌≢◌, ◌<◌, ◌≤◌, ◌+◌, ◌⊎◌, false, Some, None, List, [], ◌∷◌, length, slice_get}
 use Rattle.device_api.specs.State.{DeviceState}
-use Rattle.saned_requests.specs.declared.session.Session.{Session as DeskSession}
+use Rattle.saned_requests.specs.declared.session.Session.{Session as RequestSession}
 use Rattle.saned_core.specs.declared.session_slot.SessionId.{SessionId}
 use Rattle.saned_core.specs.DaemonLimits.{HasDaemonLimits}
 use Rattle.saned_core.specs.DaemonStates.{session_of, session_slot_of}
@@ -35,7 +35,7 @@ pub record StrangerStands (t : Ghost) (w : WorldCore) (n : ℕ) : Type 0 where
   -- he has no job: that wants a place where nothing is listed
   pub nowhere : (device_for t.system (stranger_of w n)).listed ≡ false
   -- he has a session, any one, with up to four devices
-  pub sits : (session : DeskSession DeviceState) → session_of w.daemon n ≡ Some session → IsNobodys w n
+  pub sits : (session : RequestSession DeviceState) → session_of w.daemon n ≡ Some session → IsNobodys w n
       → (s : AbstractSession) × SessionRefines (stranger_of w n) t.system.make w.daemon n t.system.device s
   -- or none, and holds nothing
   pub rests : (session_of w.daemon n ≡ None) ⊎ (IsNobodys w n → ⊥)

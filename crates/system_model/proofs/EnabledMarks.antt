@@ -164,23 +164,23 @@ ends_goes i d k dev f rest (g ∷ more) ph h p e = rw e (busy_same (device_view 
 reads_slot : (k : Make) (dev : AbstractDevice) (f : Frame) (rest bytes : List ℕ) (more : List Frame) → dev.phase ≡ Reading f rest more → Leads k dev [] (record dev { phase = read_on dev.phase bytes })
 reads_slot k dev f rest bytes more p = busy_same (device_view k dev) true (ap is_busy p) ∙ sym (ap (λ (x : ScanPhase). device_view k (record dev { phase = read_on x bytes })) p)
 
-deed_goes : (i d : ℕ) (k : Make) (places : List ℕ) (p : JobState) (dev : AbstractDevice) (x : Action) → IsDown dev → IsActionEnabled i k p dev x → Leads k dev (action_marks i d k places p dev x) (device_after i k places p dev x)
-deed_goes i d k places p dev (Actions.Answers challenge fault) z l = next_goes i d k places p dev challenge fault p.todo z
-deed_goes i d k places p dev (Actions.Turns bytes) z l = reads_slot k dev l.0 _ bytes l.2 l.3.reads.2
-deed_goes i d k places p dev Actions.TurnsLast z l = ends_goes i d k dev l.0 [] l.1 _ l.2.1 l.2.2 (ap ended_phase l.2.2)
-deed_goes i d k places p dev Actions.TurnsShort z l = ends_goes i d k dev l.0 l.1 l.2 _ l.3.1 l.3.2 (ap ended_phase l.3.2)
-deed_goes i d k places p dev (Actions.TurnsNamed status) z l = ((l.3.1, ap is_busy l.3.2), refl)
-deed_goes i d k places p dev (Actions.TurnsFault fault) z l = ((l.3.1, ap is_busy l.3.2), refl)
-deed_goes i d k places p dev (Actions.Loses memory) z l = lets_go i d k dev
-deed_goes i d k places p dev (Actions.LosesImage memory) z l = image_goes i d k p.session.transfer (is_held_by i dev.holder) dev refl
-deed_goes i d k places p dev (Actions.Breaks memory) z l = lets_go i d k dev
-deed_goes i d k places p dev x z l = refl
+action_goes : (i d : ℕ) (k : Make) (places : List ℕ) (p : JobState) (dev : AbstractDevice) (x : Action) → IsDown dev → IsActionEnabled i k p dev x → Leads k dev (action_marks i d k places p dev x) (device_after i k places p dev x)
+action_goes i d k places p dev (Actions.Answers challenge fault) z l = next_goes i d k places p dev challenge fault p.todo z
+action_goes i d k places p dev (Actions.Turns bytes) z l = reads_slot k dev l.0 _ bytes l.2 l.3.reads.2
+action_goes i d k places p dev Actions.TurnsLast z l = ends_goes i d k dev l.0 [] l.1 _ l.2.1 l.2.2 (ap ended_phase l.2.2)
+action_goes i d k places p dev Actions.TurnsShort z l = ends_goes i d k dev l.0 l.1 l.2 _ l.3.1 l.3.2 (ap ended_phase l.3.2)
+action_goes i d k places p dev (Actions.TurnsNamed status) z l = ((l.3.1, ap is_busy l.3.2), refl)
+action_goes i d k places p dev (Actions.TurnsFault fault) z l = ((l.3.1, ap is_busy l.3.2), refl)
+action_goes i d k places p dev (Actions.Loses memory) z l = lets_go i d k dev
+action_goes i d k places p dev (Actions.LosesImage memory) z l = image_goes i d k p.session.transfer (is_held_by i dev.holder) dev refl
+action_goes i d k places p dev (Actions.Breaks memory) z l = lets_go i d k dev
+action_goes i d k places p dev x z l = refl
 
 at_put : (s : SystemState) (w : ℕ) (dev : AbstractDevice) (ms : List Mark) → Leads (s.make w) (s.device w) ms dev → Leads (s.make w) (s.device w) ms (with_entry s.device w dev w)
 at_put s w dev ms h = subst (λ (x : AbstractDevice). Leads (s.make w) (s.device w) ms x) (sym (put_same s.device w dev)) h
 
 pub marks_legal : MarksAreEnabled
 marks_legal s (By i x) h l =
-    at_put s (wanted_place s i) _ _ (deed_goes i (wanted_place s i) (make_for s i) (listed_devices s) (s.job i) (device_for s i) x (let f = h.fit (wanted_place s i) in f.laid_down) l)
+    at_put s (wanted_place s i) _ _ (action_goes i (wanted_place s i) (make_for s i) (listed_devices s) (s.job i) (device_for s i) x (let f = h.fit (wanted_place s i) in f.laid_down) l)
 marks_legal s (Loads d page) h l = at_put s d (with_page_laid_in (s.make d) page (s.device d)) (marks s (Loads d page)) ((l.0, ap is_busy l.1, l.2), refl)
 marks_legal s (Unplugs d) h l = at_put s d (without_listing (s.device d)) (marks s (Unplugs d)) (l, refl)

@@ -136,7 +136,7 @@ laid_shaped m page tray p t = subst AreShaped (sym (laid_is m page tray)) (with_
 pub sound_after : (s : SystemState) (x : Transition) → Invariant s → IsEnabled s x → Invariant (after_transition s x)
 sound_after s (By i x) h l =
     let t = treats i (make_for s i) (listed_devices s) (s.job i) (device_for s i) x l in
-    let a = kept i (make_for s i) (listed_devices s) (s.job i) (device_for s i) x l (h.fit (wanted_place s i)) (h.talks i) (h.pages i) in
+    let a = kept i (make_for s i) (listed_devices s) (s.job i) (device_for s i) x l (h.fit (wanted_place s i)) (h.exchanges i) (h.pages i) in
     sound_change s i (job_after_action i (make_for s i) (listed_devices s) (s.job i) (device_for s i) x) (device_after i (make_for s i) (listed_devices s) (s.job i) (device_for s i) x) h
     (ap (λ job. job.wants) (same_job i (make_for s i) (listed_devices s) (s.job i) (device_for s i) x)) a.0 a.1
     (fit_treated i (make_for s i) (device_for s i) _ t (h.fit (wanted_place s i))) (λ j n. same_treated i j (make_for s i) (device_for s i) _ n t)

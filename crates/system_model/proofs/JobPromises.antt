@@ -20,7 +20,7 @@ sound_after_all = InvariantAfter.sound_after_all
 pub beginning_sound : InitialStateIsInvariant
 beginning_sound make device job places free fit =
     record {
-      talks = λ i. (
+      exchanges = λ i. (
         refl,
         refl,
         refl,
@@ -43,14 +43,14 @@ beginning_sound make device job places free fit =
       fit = fit;
     }
 
-talked : (i : ℕ) (k : Make) (p : JobState) (dev : AbstractDevice) (st now : JobStage) → st ≡ now → StageInvariant i k p dev st → StageInvariant i k p dev now
-talked i k p dev st now e h = subst (λ (x : JobStage). StageInvariant i k p dev x) e h
+exchanged : (i : ℕ) (k : Make) (p : JobState) (dev : AbstractDevice) (st now : JobStage) → st ≡ now → StageInvariant i k p dev st → StageInvariant i k p dev now
+exchanged i k p dev st now e h = subst (λ (x : JobStage). StageInvariant i k p dev x) e h
 
 -- a job that is done, at its task
 done : (s : SystemState) (i : ℕ) (task : Task) → Invariant s → (s.job i).client.stage ≡ Done → (s.job i).session.job.task ≡ task → IsRightlyDone (make_for s i) (s.job i).session (s.job i).client task
 done s i task h e t =
     subst (λ (x : Task). IsRightlyDone (make_for s i) (s.job i).session (s.job i).client x) t
-    (talked i (make_for s i) (s.job i) (device_for s i) (s.job i).client.stage Done e (h.talks i))
+    (exchanged i (make_for s i) (s.job i) (device_for s i) (s.job i).client.stage Done e (h.exchanges i))
 
 -- REPORTS
 peeled : (r : Report) (f : Option SettingsResult) (o : OptionsInForce) (reports : List Report) → with_reports_before (r ∷ []) f ≡ Some (record { options = o; reports = reports }) →
@@ -134,7 +134,7 @@ shows_right s i h e t = let a = done s i Show h e t in (a.options, a.settled, a.
 
 -- ENDINGS
 pub ends_caused : EndsAreCaused
-ends_caused s i status why h e = talked i (make_for s i) (s.job i) (device_for s i) (s.job i).client.stage (Ended status why) e (h.talks i)
+ends_caused s i status why h e = exchanged i (make_for s i) (s.job i) (device_for s i) (s.job i).client.stage (Ended status why) e (h.exchanges i)
 
 listing_if : (device : ℕ → AbstractDevice) (d : ℕ) (places rest : List ℕ) (x : Bool) → (device d).listed ≡ x → IsListing device places rest → IsListing device (d ∷ places) (cond x (d ∷ rest) rest)
 listing_if device d places rest true e h = inl (e, (rest, refl, h))

@@ -19,11 +19,11 @@ use Rattle.system_model.proofs.RightAnswers.{answers_right}
 use Rattle.system_model.proofs.Image.{reads_right, ends_right}
 use Rattle.system_model.proofs.Turns.{caused_more, done_more, met_more}
 
-right_talks : (i : ℕ) (k : Make) (p : JobState) (dev : AbstractDevice) (st : JobStage) → p.linked ≡ true → p.served ≡ true → p.todo ≡ requests_sent p.session.job.task st → p.due ≡ [] → IsRight i k p.session p.client dev st → StageInvariant i k p dev st
-right_talks i k p dev Idle l s t d h = absurd h
-right_talks i k p dev (Running g) l s t d h = inl (record { linked = l; served = s; todo = t; due = d; in_sync = h })
-right_talks i k p dev Done l s t d h = h
-right_talks i k p dev (Ended status why) l s t d h = h
+right_exchanges : (i : ℕ) (k : Make) (p : JobState) (dev : AbstractDevice) (st : JobStage) → p.linked ≡ true → p.served ≡ true → p.todo ≡ requests_sent p.session.job.task st → p.due ≡ [] → IsRight i k p.session p.client dev st → StageInvariant i k p dev st
+right_exchanges i k p dev Idle l s t d h = absurd h
+right_exchanges i k p dev (Running g) l s t d h = inl (record { linked = l; served = s; todo = t; due = d; in_sync = h })
+right_exchanges i k p dev Done l s t d h = h
+right_exchanges i k p dev (Ended status why) l s t d h = h
 
 -- THE CONNECTION
 pub kept_connected : (i : ℕ) (k : Make) (p : JobState) (dev : AbstractDevice) (st : JobStage) → st ≡ Idle → StageInvariant i k p dev st → StageInvariant i k (after_connection p) dev (Running Greeting)
@@ -121,7 +121,7 @@ kept_heard i k p dev r rest (Running g) l e (inl h) = absurd (cc (h.due, e))
 kept_heard i k p dev r rest (Running g) l e (inr (inl h)) =
     let a : r ≡ h.reply = let d = h.due in cc in
     let b : rest ≡ [] = let d = h.due in cc in
-    right_talks i k (record p { client = hear_at g p.session.job p.client r; due = without_first p.due; todo = p.todo ++ requests_sent p.session.job.task (hear_at g p.session.job p.client r).stage }) dev
+    right_exchanges i k (record p { client = hear_at g p.session.job p.client r; due = without_first p.due; todo = p.todo ++ requests_sent p.session.job.task (hear_at g p.session.job p.client r).stage }) dev
     (hear_at g p.session.job p.client r).stage h.linked h.served (rw h.todo refl) (rw e b) (subst (λ (x : AbstractReply). IsRight i k p.session (hear_at g p.session.job p.client x) dev (hear_at g p.session.job p.client x).stage) (sym a) h.right)
 kept_heard i k p dev r rest (Running g) l e (inr (inr h)) = absurd (cc (h.due, e))
 kept_heard i k p dev r rest Done l e h = absurd (cc (l.1))
@@ -218,7 +218,7 @@ pub kept_read : (i : ℕ) (k : Make) (p : JobState) (dev : AbstractDevice) (byte
 kept_read i k p dev bytes left params heard st e f h =
     let a = images i k p dev params heard (subst (λ (x : JobStage). StageInvariant i k p dev x) e h) in
     subst (λ (x : JobStage). StageInvariant i k (record p { client = client_after_bytes x p.client bytes; session = with_flight p.session left }) dev (client_after_bytes x p.client bytes).stage) (sym e)
-    (right_talks i k (record p { client = client_after_bytes (Running (Imaging params heard)) p.client bytes; session = with_flight p.session left }) dev (client_after_bytes (Running (Imaging params heard)) p.client bytes).stage
+    (right_exchanges i k (record p { client = client_after_bytes (Running (Imaging params heard)) p.client bytes; session = with_flight p.session left }) dev (client_after_bytes (Running (Imaging params heard)) p.client bytes).stage
     a.linked a.served (a.todo ∙ reads_sends p.session.job.task (frame_overflows params (heard ++ bytes)) params (heard ++ bytes)) a.due
     (reads_right i k p.session p.client dev params heard bytes left f a.in_sync))
 
@@ -240,7 +240,7 @@ kept_finished i k p dev status params heard st e f n q h =
     let a = images i k p dev params heard (subst (λ (x : JobStage). StageInvariant i k p dev x) e h) in
     let r = ends_right i k p.session p.client dev params heard status f n q a.in_sync in
     subst (λ (x : JobStage). IsKept i k (record p { client = finish_in x p.session.job.task p.client status; image = false; session = with_nothing_in_flight p.session; todo = p.todo ++ requests_sent p.session.job.task (finish_in x p.session.job.task p.client status).stage }) dev) (sym e) (
-      right_talks i k (record p {
+      right_exchanges i k (record p {
         client = finish_in (Running (Imaging params heard)) p.session.job.task p.client status;
         image = false;
         session = with_nothing_in_flight p.session;

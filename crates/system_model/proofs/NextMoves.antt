@@ -159,4 +159,4 @@ moves i k p dev Done e u h y = absurd u
 moves i k p dev (Ended status why) e u h y = absurd u
 
 pub nobody_is_stuck : NoDeadlock
-nobody_is_stuck s i h u = moves i (make_for s i) (s.job i) (device_for s i) (s.job i).client.stage refl u (h.talks i) (h.fit (wanted_place s i))
+nobody_is_stuck s i h u = moves i (make_for s i) (s.job i) (device_for s i) (s.job i).client.stage refl u (h.exchanges i) (h.fit (wanted_place s i))

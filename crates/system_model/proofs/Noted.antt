@@ -151,19 +151,19 @@ next_noted i d k ds p dev challenge fault (q ∷ rest) =
 nothing : (p q : JobState) (ms : List Mark) (ds : List ℕ) → [] ≡ starts_in ms → q.session.started ≡ p.session.started → q.session.shown ≡ p.session.shown → NotedAt p q ms ds
 nothing p q ms ds m s h = (s ∙ sym (append-nil p.session.started) ∙ ap (λ (bs : List Begin). p.session.started ++ bs) m, λ es n e. cc (n, e, h))
 
-deed_noted : (i d : ℕ) (k : Make) (ds : List ℕ) (p : JobState) (dev : AbstractDevice) (x : Action) → NotedAt p (job_after_action i k ds p dev x) (action_marks i d k ds p dev x) ds
-deed_noted i d k ds p dev (Actions.Answers challenge fault) = next_noted i d k ds p dev challenge fault p.todo
-deed_noted i d k ds p dev Actions.TurnsLast = nothing p (job_after_action i k ds p dev Actions.TurnsLast) (action_marks i d k ds p dev Actions.TurnsLast) ds (rested_none _ i d) refl refl
-deed_noted i d k ds p dev Actions.TurnsShort = nothing p (job_after_action i k ds p dev Actions.TurnsShort) (action_marks i d k ds p dev Actions.TurnsShort) ds (rested_none _ i d) refl refl
-deed_noted i d k ds p dev (Actions.TurnsNamed status) = nothing p (job_after_action i k ds p dev (Actions.TurnsNamed status)) (action_marks i d k ds p dev (Actions.TurnsNamed status)) ds refl refl refl
-deed_noted i d k ds p dev (Actions.TurnsFault fault) = nothing p (job_after_action i k ds p dev (Actions.TurnsFault fault)) (action_marks i d k ds p dev (Actions.TurnsFault fault)) ds refl refl refl
-deed_noted i d k ds p dev (Actions.Loses memory) = nothing p (job_after_action i k ds p dev (Actions.Loses memory)) (action_marks i d k ds p dev (Actions.Loses memory)) ds (lost_none (is_held_by i dev.holder) i d dev) refl refl
-deed_noted i d k ds p dev (Actions.LosesImage memory) =
+action_noted : (i d : ℕ) (k : Make) (ds : List ℕ) (p : JobState) (dev : AbstractDevice) (x : Action) → NotedAt p (job_after_action i k ds p dev x) (action_marks i d k ds p dev x) ds
+action_noted i d k ds p dev (Actions.Answers challenge fault) = next_noted i d k ds p dev challenge fault p.todo
+action_noted i d k ds p dev Actions.TurnsLast = nothing p (job_after_action i k ds p dev Actions.TurnsLast) (action_marks i d k ds p dev Actions.TurnsLast) ds (rested_none _ i d) refl refl
+action_noted i d k ds p dev Actions.TurnsShort = nothing p (job_after_action i k ds p dev Actions.TurnsShort) (action_marks i d k ds p dev Actions.TurnsShort) ds (rested_none _ i d) refl refl
+action_noted i d k ds p dev (Actions.TurnsNamed status) = nothing p (job_after_action i k ds p dev (Actions.TurnsNamed status)) (action_marks i d k ds p dev (Actions.TurnsNamed status)) ds refl refl refl
+action_noted i d k ds p dev (Actions.TurnsFault fault) = nothing p (job_after_action i k ds p dev (Actions.TurnsFault fault)) (action_marks i d k ds p dev (Actions.TurnsFault fault)) ds refl refl refl
+action_noted i d k ds p dev (Actions.Loses memory) = nothing p (job_after_action i k ds p dev (Actions.Loses memory)) (action_marks i d k ds p dev (Actions.Loses memory)) ds (lost_none (is_held_by i dev.holder) i d dev) refl refl
+action_noted i d k ds p dev (Actions.LosesImage memory) =
     nothing p (job_after_action i k ds p dev (Actions.LosesImage memory)) (action_marks i d k ds p dev (Actions.LosesImage memory)) ds (off_none (is_held_by i dev.holder) p.session.transfer i d dev) refl refl
-deed_noted i d k ds p dev (Actions.Breaks memory) = nothing p (job_after_action i k ds p dev (Actions.Breaks memory)) (action_marks i d k ds p dev (Actions.Breaks memory)) ds (lost_none (is_held_by i dev.holder) i d dev) refl refl
-deed_noted i d k ds p dev x = nothing p (job_after_action i k ds p dev x) [] ds refl refl refl
+action_noted i d k ds p dev (Actions.Breaks memory) = nothing p (job_after_action i k ds p dev (Actions.Breaks memory)) (action_marks i d k ds p dev (Actions.Breaks memory)) ds (lost_none (is_held_by i dev.holder) i d dev) refl refl
+action_noted i d k ds p dev x = nothing p (job_after_action i k ds p dev x) [] ds refl refl refl
 
 pub notes_true : NotesAreTrue
 notes_true s i x =
     subst (λ (q : JobState). NotedAt (s.job i) q (marks s (By i x)) (listed_devices s)) (sym (put_same s.job i (job_after_action i (make_for s i) (listed_devices s) (s.job i) (device_for s i) x)))
-    (deed_noted i (wanted_place s i) (make_for s i) (listed_devices s) (s.job i) (device_for s i) x)
+    (action_noted i (wanted_place s i) (make_for s i) (listed_devices s) (s.job i) (device_for s i) x)

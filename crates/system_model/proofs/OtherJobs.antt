@@ -128,15 +128,15 @@ kept_right i k b m dev new (Running g) s h = kept_sync i k b m dev new g s h
 kept_right i k b m dev new Done s h = h
 kept_right i k b m dev new (Ended status why) s h = h
 
-pub kept_talks : (i : ℕ) (k : Make) (p : JobState) (dev new : AbstractDevice) (st : JobStage) → Same i dev new → StageInvariant i k p dev st → StageInvariant i k p new st
-kept_talks i k p dev new Idle s h = (h.0, h.1, h.2, kept_free i p.session p.client dev new _ s h.3)
-kept_talks i k p dev new (Running g) s (inl h) =
+pub kept_exchanges : (i : ℕ) (k : Make) (p : JobState) (dev new : AbstractDevice) (st : JobStage) → Same i dev new → StageInvariant i k p dev st → StageInvariant i k p new st
+kept_exchanges i k p dev new Idle s h = (h.0, h.1, h.2, kept_free i p.session p.client dev new _ s h.3)
+kept_exchanges i k p dev new (Running g) s (inl h) =
     inl (record { linked = h.linked; served = h.served; todo = h.todo; due = h.due; in_sync = kept_sync i k p.session p.client dev new g s h.in_sync })
-kept_talks i k p dev new (Running g) s (inr (inl h)) =
+kept_exchanges i k p dev new (Running g) s (inr (inl h)) =
     inr (inl (record { linked = h.linked; served = h.served; todo = h.todo; reply = h.reply; due = h.due; waits = h.waits; calm = h.calm; right = kept_right i k p.session _ dev new _ s h.right }))
-kept_talks i k p dev new (Running g) s (inr (inr h)) = inr (inr h)
-kept_talks i k p dev new Done s h = h
-kept_talks i k p dev new (Ended status why) s h = h
+kept_exchanges i k p dev new (Running g) s (inr (inr h)) = inr (inr h)
+kept_exchanges i k p dev new Done s h = h
+kept_exchanges i k p dev new (Ended status why) s h = h
 
 pub put_same : {X : Type 0} (f : ℕ → X) (i : ℕ) (x : X) → with_entry f i x i ≡ x
 put_same f i x = let e : eqb i i ≡ true = eq-eqb i i refl in rw e refl
@@ -154,8 +154,8 @@ fit_at k f w d dev false here one all = all
 seen_by : (s : SystemState) (w j : ℕ) (dev : AbstractDevice) → Invariant s → Same j (s.device w) dev → StageInvariant j (make_for s j) (s.job j) (with_entry s.device w dev (wanted_place s j)) (s.job j).client.stage
 seen_by s w j dev h same =
     at_device j _ (s.job j) (device_for s j) dev (eqb (wanted_place s j) w)
-    (λ e. let q : wanted_place s j ≡ w = eqb-true _ _ e in kept_talks j (make_for s j) (s.job j) (device_for s j) dev (s.job j).client.stage (subst (λ (n : ℕ). Same j (s.device n) dev) (sym q) same) (h.talks j))
-    (h.talks j)
+    (λ e. let q : wanted_place s j ≡ w = eqb-true _ _ e in kept_exchanges j (make_for s j) (s.job j) (device_for s j) dev (s.job j).client.stage (subst (λ (n : ℕ). Same j (s.device n) dev) (sym q) same) (h.exchanges j))
+    (h.exchanges j)
 
 -- one job state put in another's place
 at_party : (s : SystemState) (i j w : ℕ) (p : JobState) (dev : AbstractDevice) (x : Bool) → (x ≡ true → j ≡ i) → (x ≡ false → j ≢ i) → p.session.job.wants ≡ w →
@@ -175,7 +175,7 @@ pub sound_change : (s : SystemState) (i : ℕ) (p : JobState) (dev : AbstractDev
     PagesAreOfStarts (make_for s i) p.session p.client → DeviceInvariant (make_for s i) dev → ((l : ℕ) → l ≢ i → Same l (device_for s i) dev) → Invariant (state_with_job s i p dev)
 sound_change s i p dev h e t f fit others =
     record {
-      talks = λ j. at_party s i j (wanted_place s i) p dev (eqb j i) (eqb-true j i) (eqb-false j i) e t h others;
+      exchanges = λ j. at_party s i j (wanted_place s i) p dev (eqb j i) (eqb-true j i) (eqb-false j i) e t h others;
       pages = λ j. pages_at s i j p (eqb j i) (eqb-true j i) e f h;
       fit = λ d. fit_at s.make s.device (wanted_place s i) d dev (eqb d (wanted_place s i)) (eqb-true d (wanted_place s i)) fit (h.fit d);
     }
@@ -184,7 +184,7 @@ sound_change s i p dev h e t f fit others =
 pub sound_device : (s : SystemState) (d : ℕ) (dev : AbstractDevice) → Invariant s → DeviceInvariant (s.make d) dev → ((l : ℕ) → Same l (s.device d) dev) → Invariant (with_device_at s d dev)
 sound_device s d dev h fit same =
     record {
-      talks = λ j. seen_by s d j dev h (same j);
+      exchanges = λ j. seen_by s d j dev h (same j);
       pages = λ j. h.pages j;
       fit = λ e. fit_at s.make s.device d e dev (eqb e d) (eqb-true e d) fit (h.fit e);
     }

@@ -37,7 +37,7 @@ after_own F s i x =
 pub steps_paid : StepsArePaid
 steps_paid s i x h u l =
     let a = after_own control_variant_of s i x in
-    let b = paid i (make_for s i) (listed_devices s) (s.job i) (device_for s i) x u l (h.fit (wanted_place s i)) (h.talks i) in
+    let b = paid i (make_for s i) (listed_devices s) (s.job i) (device_for s i) x u l (h.fit (wanted_place s i)) (h.exchanges i) in
     subst (λ (n : ℕ). n + action_cost x ≤ control_variant s i) (sym a) b
 
 -- BYTES ON THE WAY
@@ -113,7 +113,7 @@ pub numbers_fall : VariantDecreases
 numbers_fall s i x h u l =
     let a = after_own variant_of s i x in
     let q = job_after_action i (make_for s i) (listed_devices s) (s.job i) (device_for s i) x in
-    let b = paid i (make_for s i) (listed_devices s) (s.job i) (device_for s i) x u l (h.fit (wanted_place s i)) (h.talks i) in
+    let b = paid i (make_for s i) (listed_devices s) (s.job i) (device_for s i) x u l (h.fit (wanted_place s i)) (h.exchanges i) in
     let c = flight_low i (make_for s i) (listed_devices s) (s.job i) (device_for s i) x l in
     let d = pays_more i (make_for s i) (s.job i) (device_for s i) x l in
     let e = way_low q.client.stage q in
@@ -177,7 +177,7 @@ put_moves i k p dev new false s h = refl
 device_moves : (s : SystemState) (i w : ℕ) (new : AbstractDevice) → Invariant s → Same i (s.device w) new → control_variant_of (s.job i) (with_entry s.device w new (wanted_place s i)) ≡ control_variant s i
 device_moves s i w new h same =
     put_moves i (make_for s i) (s.job i) (device_for s i) new (eqb (wanted_place s i) w)
-    (λ e. let q : wanted_place s i ≡ w = eqb-true _ _ e in subst (λ (n : ℕ). Same i (s.device n) new) (sym q) same) (h.talks i)
+    (λ e. let q : wanted_place s i ≡ w = eqb-true _ _ e in subst (λ (n : ℕ). Same i (s.device n) new) (sym q) same) (h.exchanges i)
 
 put_other : {X : Type 0} (f : ℕ → X) (j i : ℕ) (x : X) → i ≢ j → with_entry f j x i ≡ f i
 put_other f j i x n = ap (λ (b : Bool). cond b x (f i)) (ne_eqb i j n)

@@ -102,6 +102,6 @@ pub record PagesAreOfStarts (k : Make) (b : SessionView) (m : ClientView) : Type
   pub pictures : ArePictures k b.job.settings begins m.pages
 
 pub record Invariant (s : SystemState) : Type 0 where
-  pub talks : (i : ℕ) → JobInvariant s i
+  pub exchanges : (i : ℕ) → JobInvariant s i
   pub pages : (i : ℕ) → PagesAreOfStarts (make_for s i) (s.job i).session (s.job i).client
   pub fit : (d : ℕ) → DeviceInvariant (s.make d) (s.device d)

@@ -54,7 +54,7 @@ use Rattle.device_api.specs.State.{DeviceState}
 use Rattle.client_refines.specs.ClientRefinement.{requested_setting, task_of}
 use Rattle.system_model.specs.Devices.{Make, descriptors_in_force, readable_value}
 use Rattle.system_model.specs.AbstractInForce as ruled
-use Rattle.system_model.specs.Client as rules
+use Rattle.system_model.specs.Client as model
 use Rattle.system_model.specs.SystemStates.{SystemState, make_for}
 use Rattle.scan_frames.specs.declared.setup.Setup.{Setup}
 use Rattle.device_api.specs.InForce.{Placement}
@@ -129,12 +129,12 @@ kept_by_outcome u i o reports e h = subst (IsOutcome u i) e h
 
 -- ---- its device
 
-list_only : (task : Task) → task_of task ≡ rules.List_ → task ≡ tasks.List
+list_only : (task : Task) → task_of task ≡ model.List_ → task ≡ tasks.List
 list_only tasks.List e = refl
-list_only tasks.Show e = absurd (let clash : rules.Show ≡ rules.List_ = e in cc)
-list_only tasks.SetOnly e = absurd (let clash : rules.SetOnly ≡ rules.List_ = e in cc)
-list_only tasks.Scan e = absurd (let clash : rules.Scan ≡ rules.List_ = e in cc)
-list_only (tasks.Batch count) e = absurd (let clash : rules.Batch (count - 1) ≡ rules.List_ = e in cc)
+list_only tasks.Show e = absurd (let clash : model.Show ≡ model.List_ = e in cc)
+list_only tasks.SetOnly e = absurd (let clash : model.SetOnly ≡ model.List_ = e in cc)
+list_only tasks.Scan e = absurd (let clash : model.Scan ≡ model.List_ = e in cc)
+list_only (tasks.Batch count) e = absurd (let clash : model.Batch (count - 1) ≡ model.List_ = e in cc)
 
 -- a job that is done, and is no list, was opened
 opened_there : Below → (h : History) (w : WorldCore) (i : ℕ) (job : Job) (endpoint : Endpoint) (reports : Reports) → IsJob h w i job endpoint → endpoint.client.outcome ≡ Done reports → job.task ≢ tasks.List → IsOpened h w i job
@@ -145,8 +145,8 @@ opened_there below h w i job endpoint reports j done list =
     let promise : KeepsPromise u i reports = subst (IsOutcome u i) done (below.outcomes u w i endpoint k.stands j.endpoint_at) in
     let task : (job_state u i).session.job.task ≡ task_of job.task = ap (λ (x : RuledJob). x.task) (k.stands.endpoints i endpoint j.endpoint_at).job_is ∙ ap (λ (x : Job). task_of x.task) (job_of h w job j.led (sources_of h) k i j.job_at) in
     was_opened (laws_of below) h w i job k.steps t.system (first_here below h w i job j.led j.job_at) (steps_of_one below h w job j.led) k.answered k.legal (tt, tt)
-    (subst (λ (s : SystemState). (s.job i).client.stage ≡ rules.Done) k.rules_are promise.stage)
-    (λ same. list (list_only job.task (sym task ∙ subst (λ (s : SystemState). (s.job i).session.job.task ≡ rules.List_) (sym k.rules_are) same)))
+    (subst (λ (s : SystemState). (s.job i).client.stage ≡ model.Done) k.rules_are promise.stage)
+    (λ same. list (list_only job.task (sym task ∙ subst (λ (s : SystemState). (s.job i).session.job.task ≡ model.List_) (sym k.rules_are) same)))
 
 -- the device that its settings are put on
 pub record OnDevice (h : History) (job : Job) : Type 0 where
@@ -243,12 +243,12 @@ no_scan below h w i job endpoint reports file j done scan is whole =
     let k = kept_by below.kept h w job j.led in
     let u = k.run.ghost_then in
     let mine = job_there h w job j.led k i j.job_at in
-    let talks = (k.run.stands.endpoints i endpoint j.endpoint_at).talks in
+    let exchanges = (k.run.stands.endpoints i endpoint j.endpoint_at).exchanges in
     let past = u.history i in
     let fits : HistoryFits (u.jobs i).task (Done reports) endpoint.client.progress past =
-    subst (λ (o : Outcome). HistoryFits (u.jobs i).task o endpoint.client.progress past) done (subst (λ (e : JobTarget). HistoryFits e.task endpoint.client.outcome endpoint.client.progress past) talks.target talks.serves.fits) in
-    let files : KeepsFiles (is_laid (u.jobs i).task (Done reports) past) past (u.pages i) endpoint = subst (λ (o : Outcome). KeepsFiles (is_laid (u.jobs i).task o past) past (u.pages i) endpoint) done talks.files in
-    by_task (u.jobs i).task past endpoint.client.join (u.pages i) endpoint reports file (λ e. scan (sym (ap (λ (x : Job). x.task) mine) ∙ e)) talks.serves.stands fits files is whole
+    subst (λ (o : Outcome). HistoryFits (u.jobs i).task o endpoint.client.progress past) done (subst (λ (e : JobTarget). HistoryFits e.task endpoint.client.outcome endpoint.client.progress past) exchanges.target exchanges.serves.fits) in
+    let files : KeepsFiles (is_laid (u.jobs i).task (Done reports) past) past (u.pages i) endpoint = subst (λ (o : Outcome). KeepsFiles (is_laid (u.jobs i).task o past) past (u.pages i) endpoint) done exchanges.files in
+    by_task (u.jobs i).task past endpoint.client.join (u.pages i) endpoint reports file (λ e. scan (sym (ap (λ (x : Job). x.task) mine) ∙ e)) exchanges.serves.stands fits files is whole
 
 -- ---- call by call
 
@@ -284,7 +284,7 @@ whole_as (Done reports) (tasks.Batch count) undone other = absurd (other reports
 task_there : Below → (h : History) (w : WorldCore) (i : ℕ) (job : Job) (p : Endpoint) → IsJob h w i job p → p.task ≡ job.task
 task_there below h w i job p j =
     let k = kept_by below.kept h w job j.led in
-    (k.run.stands.endpoints i p j.endpoint_at).talks.task ∙ ap (λ (x : Job). x.task) (job_there h w job j.led k i j.job_at)
+    (k.run.stands.endpoints i p j.endpoint_at).exchanges.task ∙ ap (λ (x : Job). x.task) (job_there h w job j.led k i j.job_at)
 
 scan_kept : Below → (h : History) (w : WorldCore) (i : ℕ) (job : Job) (p : Endpoint) (reports : Reports) (file : List ℕ) → IsJob h w i job p → IsSteady h w i job.device → job.task ≡ tasks.Scan → p.client.outcome ≡ Done reports → p.file ≡ Some file → IsScan h w i job 0 file
 scan_kept below h w i job p reports file j steady scan done is =

@@ -27,7 +27,7 @@ use Rattle.system_model.specs.AbstractMessages as words
 use Rattle.system_model.specs.AbstractMessages.{Status, Why}
 use Rattle.system_model.specs.AbstractInForce.{SettingsResult, abstract_in_force}
 use Rattle.system_model.specs.Causes.{Cause, Explains, GaveUp, LinkLost, LinkOutOfMemory, SourceFailed, NamesEof, Names, Unforced, WasUnlisted, HadNoPicture, WasHeld, Disallowed, TrayWasEmpty, TrayRanOut, ClientOutOfMemory, IsCauseAmong, WasUnsaid}
-use Rattle.system_model.specs.Client as rules
+use Rattle.system_model.specs.Client as model
 use Rattle.system_model.specs.Client.{JobStage, Idle, Running, Done, Ended, ClientView}
 use Rattle.system_model.specs.Devices.{Make, abstract_status}
 use Rattle.system_model.specs.SystemStates.{SystemState}
@@ -186,12 +186,12 @@ table h w i job starved met status why v o is z (inr n) = unforced_row h w i job
 -- ---- the job at its end
 
 pub woken_ended : (st : JobStage) (m : ClientView) (status : Status) (why : Why) → m.stage ≡ st → (client_at_greeting st m).stage ≡ Ended status why → st ≡ Ended status why
-woken_ended Idle m status why e h = absurd (let clash : Running rules.Greeting ≡ Ended status why = h in cc)
+woken_ended Idle m status why e h = absurd (let clash : Running model.Greeting ≡ Ended status why = h in cc)
 woken_ended (Running g) m status why e h = sym e ∙ h
 woken_ended Done m status why e h = sym e ∙ h
 woken_ended (Ended s w) m status why e h = sym e ∙ h
 
-pub ended_reads : (place : DeviceInfo → ℕ) (errand : JobTarget) (job : rules.AbstractJob) (pages : List (List Frame)) (o : Outcome) (progress : Progress) (notes : Notes) (past : JoinHistory) (m : ClientView) (status : Code) (why : Reason) → OutcomeRefines place errand job pages o progress notes past m → o ≡ outcomes.Ended status why → EndedAs status why m
+pub ended_reads : (place : DeviceInfo → ℕ) (errand : JobTarget) (job : model.AbstractJob) (pages : List (List Frame)) (o : Outcome) (progress : Progress) (notes : Notes) (past : JoinHistory) (m : ClientView) (status : Code) (why : Reason) → OutcomeRefines place errand job pages o progress notes past m → o ≡ outcomes.Ended status why → EndedAs status why m
 ended_reads place errand job pages o progress notes past m status why h e = subst (λ (x : Outcome). OutcomeRefines place errand job pages x progress notes past m) e h
 
 both_along : (P Q : SystemState → Transition → Type 0) (s : SystemState) (xs : List Transition) → AllAlong P s xs → AllAlong Q s xs → AllAlong (λ (t : SystemState) (x : Transition). P t x × Q t x) s xs
@@ -259,7 +259,7 @@ at_end below h w i job endpoint status why j is =
     let u = k.ghost_then in
     let o = (first_here below h w i job j.led j.job_at).own_job in
     let sits = k.stands.endpoints i endpoint j.endpoint_at in
-    let d = ended_reads (place_of_info u.infos) (target_of (u.jobs i)) (job_state u i).session.job (map (λ (q : JoinHistory). q.ended) (u.pages i)) endpoint.client.outcome endpoint.client.progress endpoint.client.notes (u.history i) (client_at_greeting (job_state u i).client.stage (job_state u i).client) status why sits.talks.reads.stands is in
+    let d = ended_reads (place_of_info u.infos) (target_of (u.jobs i)) (job_state u i).session.job (map (λ (q : JoinHistory). q.ended) (u.pages i)) endpoint.client.outcome endpoint.client.progress endpoint.client.notes (u.history i) (client_at_greeting (job_state u i).client.stage (job_state u i).client) status why sits.exchanges.reads.stands is in
     let stage = woken_ended (job_state u i).client.stage (job_state u i).client (abstract_status status) d.0 refl d.1.1 in
     let judged = subst (Judged h w i job (job_state u i).session.met (job_state u i).client.pages) stage (judged_there below h w i job j.led j.job_at) in
     table h w i job endpoint.out_of_memory (job_state u i).session.met status why d.0 o d.1.0 sits.means.starved judged

@@ -3,13 +3,13 @@ use Rattle.std.proofs.Common.{Bool, ◌⊎◌, ℕ, List, false, Option, inl, in
 use Rattle.sane_fixed.specs.declared.device_info.DeviceInfo.{DeviceInfo}
 use Rattle.system_model.specs.AbstractMessages.{Challenge, Status}
 use Rattle.system_model.specs.Daemon.{FailureCounts}
-use Rattle.system_model.specs.Actions as deeds
+use Rattle.system_model.specs.Actions as model_actions
 use Rattle.system_model.specs.Transitions.{By}
 use Rattle.scan_world.specs.declared.event.Event.{Event}
 use Rattle.scan_world.specs.declared.event.Event.TheVariants.{Connect, ToDaemon, ToClient, DataConnect, DataTurn, DataToClient, LoseControl, LoseImage, Cancel, Load, Unplug}
 use Rattle.world_contract.proofs.Traced.{StepOf}
 
-pub stops_event : (P : Event → Type 0) (infos : List DeviceInfo) (i : ℕ) (e : Event) → P e → StepOf infos e (By i deeds.Stops) → P (Cancel i)
+pub stops_event : (P : Event → Type 0) (infos : List DeviceInfo) (i : ℕ) (e : Event) → P e → StepOf infos e (By i model_actions.Stops) → P (Cancel i)
 stops_event P infos i (Connect j) so of = absurd of.1
 stops_event P infos i (ToDaemon j n) so of = absurd of.1
 stops_event P infos i (ToClient j n) so of = absurd of.1
@@ -22,7 +22,7 @@ stops_event P infos i (Cancel j) so of = subst (λ (m : ℕ). P (Cancel m)) (sym
 stops_event P infos i (Load name source) so of = absurd of
 stops_event P infos i (Unplug name) so of = absurd of
 
-pub loses_event : (P : Event → Type 0) (infos : List DeviceInfo) (i : ℕ) (e : Event) → P e → StepOf infos e (By i (deeds.Loses false)) → P (LoseControl i)
+pub loses_event : (P : Event → Type 0) (infos : List DeviceInfo) (i : ℕ) (e : Event) → P e → StepOf infos e (By i (model_actions.Loses false)) → P (LoseControl i)
 loses_event P infos i (Connect j) so of = absurd of.1
 loses_event P infos i (ToDaemon j n) so of = absurd of.1
 loses_event P infos i (ToClient j n) so of = absurd of.1
@@ -35,7 +35,7 @@ loses_event P infos i (Cancel j) so of = absurd of.1
 loses_event P infos i (Load name source) so of = absurd of
 loses_event P infos i (Unplug name) so of = absurd of
 
-pub image_event : (P : Event → Type 0) (infos : List DeviceInfo) (i : ℕ) (e : Event) → P e → StepOf infos e (By i (deeds.LosesImage false)) → P (LoseImage i)
+pub image_event : (P : Event → Type 0) (infos : List DeviceInfo) (i : ℕ) (e : Event) → P e → StepOf infos e (By i (model_actions.LosesImage false)) → P (LoseImage i)
 image_event P infos i (Connect j) so of = absurd of.1
 image_event P infos i (ToDaemon j n) so of = absurd of.1
 image_event P infos i (ToClient j n) so of = absurd of.1
@@ -48,7 +48,7 @@ image_event P infos i (Cancel j) so of = absurd of.1
 image_event P infos i (Load name source) so of = absurd of
 image_event P infos i (Unplug name) so of = absurd of
 
-pub answers_event : (P : Event → Type 0) (infos : List DeviceInfo) (i : ℕ) (challenge : Challenge) (fault : Option FailureCounts) (e : Event) → P e → StepOf infos e (By i (deeds.Answers challenge fault)) → (n : ℕ) × P (ToDaemon i n)
+pub answers_event : (P : Event → Type 0) (infos : List DeviceInfo) (i : ℕ) (challenge : Challenge) (fault : Option FailureCounts) (e : Event) → P e → StepOf infos e (By i (model_actions.Answers challenge fault)) → (n : ℕ) × P (ToDaemon i n)
 answers_event P infos i challenge fault (Connect j) so of = absurd of.1
 answers_event P infos i challenge fault (ToDaemon j n) so of = (n, subst (λ (m : ℕ). P (ToDaemon m n)) (sym of.0) so)
 answers_event P infos i challenge fault (ToClient j n) so of = absurd of.1
@@ -61,7 +61,7 @@ answers_event P infos i challenge fault (Cancel j) so of = absurd of.1
 answers_event P infos i challenge fault (Load name source) so of = absurd of
 answers_event P infos i challenge fault (Unplug name) so of = absurd of
 
-pub breaks_event : (P : Event → Type 0) (infos : List DeviceInfo) (i : ℕ) (memory : Bool) (e : Event) → P e → StepOf infos e (By i (deeds.Breaks memory)) → (n : ℕ) × P (ToDaemon i n)
+pub breaks_event : (P : Event → Type 0) (infos : List DeviceInfo) (i : ℕ) (memory : Bool) (e : Event) → P e → StepOf infos e (By i (model_actions.Breaks memory)) → (n : ℕ) × P (ToDaemon i n)
 breaks_event P infos i memory (Connect j) so of = absurd of.1
 breaks_event P infos i memory (ToDaemon j n) so of = (n, subst (λ (m : ℕ). P (ToDaemon m n)) (sym of.0) so)
 breaks_event P infos i memory (ToClient j n) so of = absurd of.1
@@ -74,7 +74,7 @@ breaks_event P infos i memory (Cancel j) so of = absurd of.1
 breaks_event P infos i memory (Load name source) so of = absurd of
 breaks_event P infos i memory (Unplug name) so of = absurd of
 
-pub named_event : (P : Event → Type 0) (infos : List DeviceInfo) (i : ℕ) (status : Status) (e : Event) → P e → StepOf infos e (By i (deeds.TurnsNamed status)) → P (DataTurn i)
+pub named_event : (P : Event → Type 0) (infos : List DeviceInfo) (i : ℕ) (status : Status) (e : Event) → P e → StepOf infos e (By i (model_actions.TurnsNamed status)) → P (DataTurn i)
 named_event P infos i status (Connect j) so of = absurd of.1
 named_event P infos i status (ToDaemon j n) so of = absurd of.1
 named_event P infos i status (ToClient j n) so of = absurd of.1
@@ -87,7 +87,7 @@ named_event P infos i status (Cancel j) so of = absurd of.1
 named_event P infos i status (Load name source) so of = absurd of
 named_event P infos i status (Unplug name) so of = absurd of
 
-pub short_event : (P : Event → Type 0) (infos : List DeviceInfo) (i : ℕ) (e : Event) → P e → StepOf infos e (By i deeds.TurnsShort) → P (DataTurn i)
+pub short_event : (P : Event → Type 0) (infos : List DeviceInfo) (i : ℕ) (e : Event) → P e → StepOf infos e (By i model_actions.TurnsShort) → P (DataTurn i)
 short_event P infos i (Connect j) so of = absurd of.1
 short_event P infos i (ToDaemon j n) so of = absurd of.1
 short_event P infos i (ToClient j n) so of = absurd of.1
@@ -100,7 +100,7 @@ short_event P infos i (Cancel j) so of = absurd of.1
 short_event P infos i (Load name source) so of = absurd of
 short_event P infos i (Unplug name) so of = absurd of
 
-pub fault_event : (P : Event → Type 0) (infos : List DeviceInfo) (i : ℕ) (fault : FailureCounts) (e : Event) → P e → StepOf infos e (By i (deeds.TurnsFault fault)) → P (DataTurn i)
+pub fault_event : (P : Event → Type 0) (infos : List DeviceInfo) (i : ℕ) (fault : FailureCounts) (e : Event) → P e → StepOf infos e (By i (model_actions.TurnsFault fault)) → P (DataTurn i)
 fault_event P infos i fault (Connect j) so of = absurd of.1
 fault_event P infos i fault (ToDaemon j n) so of = absurd of.1
 fault_event P infos i fault (ToClient j n) so of = absurd of.1
@@ -113,7 +113,7 @@ fault_event P infos i fault (Cancel j) so of = absurd of.1
 fault_event P infos i fault (Load name source) so of = absurd of
 fault_event P infos i fault (Unplug name) so of = absurd of
 
-pub chokes_event : (P : Event → Type 0) (infos : List DeviceInfo) (i : ℕ) (e : Event) → P e → StepOf infos e (By i deeds.RunsOutOfMemory) → (n : ℕ) × (P (ToClient i n) ⊎ P (DataToClient i n))
+pub chokes_event : (P : Event → Type 0) (infos : List DeviceInfo) (i : ℕ) (e : Event) → P e → StepOf infos e (By i model_actions.RunsOutOfMemory) → (n : ℕ) × (P (ToClient i n) ⊎ P (DataToClient i n))
 chokes_event P infos i (Connect j) so of = absurd of.1
 chokes_event P infos i (ToDaemon j n) so of = absurd of.1
 chokes_event P infos i (ToClient j n) so of = (n, inl (subst (λ (m : ℕ). P (ToClient m n)) (sym of.0) so))

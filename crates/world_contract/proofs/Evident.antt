@@ -1,4 +1,4 @@
--- What each cause that a deed notes comes from: a device is asked for by OPEN or AUTHORIZE, a page by START.
+-- What each cause that a this_action notes comes from: a device is asked for by OPEN or AUTHORIZE, a page by START.
 use Rattle.std.specs.List.{AllByRecursion}
 use Rattle.std.proofs.Common.{◌≡◌, ◌⊎◌, ◌≢◌, ℕ, List, [], ◌∷◌, ◌++◌, true, false, Option, Some, inl, inr, refl, ap, ◌∙◌}
 use Rattle.system_model.specs.AbstractMessages.{Eof, Challenge, AbstractRequest, Start}
@@ -15,7 +15,7 @@ use Rattle.system_model.specs.Transitions.{IsActionEnabled, MayFail}
 use Rattle.system_model.specs.ModelPromises.{CausesAreGrounded}
 use Rattle.world_contract.proofs.moments.Requests.{IsOpening, MetAt, answers_met}
 
--- the causes that a deed notes
+-- the causes that a this_action notes
 abbrev pub causes_next : ℕ → Make → List ℕ → JobState → AbstractDevice → Challenge → Option FailureCounts → List AbstractRequest → List Cause
 causes_next i k ds p dev challenge fault [] = []
 causes_next i k ds p dev challenge fault (q ∷ rest) = (served_by i k ds p dev challenge fault q).causes

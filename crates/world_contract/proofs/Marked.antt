@@ -75,7 +75,7 @@ starts_all R (Returned i d ∷ ms) a = starts_all R ms a.1
 starts_all R (Loaded d page ∷ ms) a = starts_all R ms a.1
 starts_all R (Removed d ∷ ms) a = starts_all R ms a.1
 
--- a deed lays no page in
+-- a this_action lays no page in
 pub mine_loads : (P : Page → Type 0) (i d : ℕ) (m : Mark) → IsMine i d m → LoadsIt P m
 mine_loads P i d (Took j e) h = tt
 mine_loads P i d (Started j e begin) h = tt

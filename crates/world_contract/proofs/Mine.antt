@@ -1,4 +1,4 @@
--- The marks that a deed shows are those of its client and of its device.
+-- The marks that a this_action shows are those of its client and of its device.
 use Rattle.std.specs.List.{AllByRecursion}
 use Rattle.std.proofs.Common.{◌≡◌, ℕ, List, [], ◌∷◌, Bool, true, false, Option, Some, None, refl}
 use Rattle.page_picture.specs.Shows.{Frame}
@@ -111,13 +111,13 @@ next_mine : (i d : ℕ) (k : Make) (ds : List ℕ) (p : JobState) (dev : Abstrac
 next_mine i d k ds p dev challenge fault [] = tt
 next_mine i d k ds p dev challenge fault (q ∷ rest) = request_mine i d k dev p.session.transfer p.session.awaited (environment_of p.session ds challenge fault) q
 
-pub deed_mine : (i d : ℕ) (k : Make) (ds : List ℕ) (p : JobState) (dev : AbstractDevice) (x : Action) → AreMine i d (action_marks i d k ds p dev x)
-deed_mine i d k ds p dev (Actions.Answers challenge fault) = next_mine i d k ds p dev challenge fault p.todo
-deed_mine i d k ds p dev Actions.TurnsLast = rested_mine (is_resting (ended_phase dev.phase)) i d
-deed_mine i d k ds p dev Actions.TurnsShort = rested_mine (is_resting (ended_phase dev.phase)) i d
-deed_mine i d k ds p dev (Actions.TurnsNamed status) = ((refl, refl), tt)
-deed_mine i d k ds p dev (Actions.TurnsFault fault) = ((refl, refl), tt)
-deed_mine i d k ds p dev (Actions.Loses memory) = lost_mine (is_held_by i dev.holder) i d dev
-deed_mine i d k ds p dev (Actions.LosesImage memory) = off_mine (is_held_by i dev.holder) p.session.transfer i d dev
-deed_mine i d k ds p dev (Actions.Breaks memory) = lost_mine (is_held_by i dev.holder) i d dev
-deed_mine i d k ds p dev x = tt
+pub action_mine : (i d : ℕ) (k : Make) (ds : List ℕ) (p : JobState) (dev : AbstractDevice) (x : Action) → AreMine i d (action_marks i d k ds p dev x)
+action_mine i d k ds p dev (Actions.Answers challenge fault) = next_mine i d k ds p dev challenge fault p.todo
+action_mine i d k ds p dev Actions.TurnsLast = rested_mine (is_resting (ended_phase dev.phase)) i d
+action_mine i d k ds p dev Actions.TurnsShort = rested_mine (is_resting (ended_phase dev.phase)) i d
+action_mine i d k ds p dev (Actions.TurnsNamed status) = ((refl, refl), tt)
+action_mine i d k ds p dev (Actions.TurnsFault fault) = ((refl, refl), tt)
+action_mine i d k ds p dev (Actions.Loses memory) = lost_mine (is_held_by i dev.holder) i d dev
+action_mine i d k ds p dev (Actions.LosesImage memory) = off_mine (is_held_by i dev.holder) p.session.transfer i d dev
+action_mine i d k ds p dev (Actions.Breaks memory) = lost_mine (is_held_by i dev.holder) i d dev
+action_mine i d k ds p dev x = tt

@@ -4,7 +4,7 @@ use Rattle.std.specs.List.{AllByRecursion}
 use Rattle.std.proofs.Common.{◌≡◌, ◌∙◌, ◌⊎◌, ℕ, zero, suc, List, [], ◌∷◌, Bool, true, false, Option, Some, None, inl, inr, refl, sym, ap, subst, eqb-true, arith}
 use Rattle.page_picture.specs.SourceView.{source_state}
 use Rattle.frame_join.specs.FrameHistory.{JoinHistory}
-use Rattle.system_model.specs.Actions as deeds
+use Rattle.system_model.specs.Actions as model_actions
 use Rattle.system_model.specs.Daemon.{Quiet, Waiting}
 use Rattle.system_model.specs.SystemStates.{JobState, SystemState}
 use Rattle.system_model.specs.Transitions.{By, Loads, Transition, Unplugs, after_transition, after_all}
@@ -134,9 +134,9 @@ connected_by : (t : Ghost) (i : ℕ) (steps : List Transition) (u : Ghost) → G
 connected_by t i steps u (inl h) = moved_by t i steps _ u h.1
 connected_by t i steps u (inr h) = moved_by t i steps _ u h.1
 
-sent_by : (t : Ghost) (i : ℕ) (deed : deeds.Action) (text : List ℕ) (steps : List Transition) (u : Ghost) → GhostSends t i deed text steps u → Moves t i steps u
-sent_by t i deed text steps u (inl h) = moved_by t i steps _ u h.1
-sent_by t i deed text steps u (inr h) = moved_by t i steps _ u h.1
+sent_by : (t : Ghost) (i : ℕ) (this_action : model_actions.Action) (text : List ℕ) (steps : List Transition) (u : Ghost) → GhostSends t i this_action text steps u → Moves t i steps u
+sent_by t i this_action text steps u (inl h) = moved_by t i steps _ u h.1
+sent_by t i this_action text steps u (inr h) = moved_by t i steps _ u h.1
 
 answered_by : (n : ℕ) (t : Ghost) (i : ℕ) (steps : List Transition) (u : Ghost) → AnswersSome n t i steps u → Moves t i steps u
 answered_by n t i steps u (GoesOn asked rest said a b c h on) = moved_by t i steps _ u h

@@ -30,7 +30,7 @@ use Rattle.world_contract.proofs.Along.{device_named}
 use Rattle.world_contract.proofs.Begun.{party_stays, wants_same}
 use Rattle.world_contract.proofs.Jobs.{item_there}
 use Rattle.world_contract.proofs.Lists.{In, all_each, all_then, contains_in}
-use Rattle.world_contract.proofs.Mine.{IsMine, deed_mine}
+use Rattle.world_contract.proofs.Mine.{IsMine, action_mine}
 use Rattle.world_contract.proofs.OfJobs.{IsOfJob, all_of_jobs}
 use Rattle.world_contract.proofs.Pages.{IsOfOne, all_of_one, name_there}
 use Rattle.world_contract.proofs.Scanned.{at_first, infos_of, kept_by, name_of, untouched_at_first, wants_there}
@@ -95,7 +95,7 @@ laid_in h d page name (Unplug other) among of is none = of
 
 step_unloaded : (h : History) (d : ℕ) (name : List ℕ) (s : SystemState) (x : Transition) → name_at (infos_of h) d ≡ Some name → Unladen h name → IsOfOne h x → (b : Bool) → eqb d (touched_device s x) ≡ b → AllByRecursion IsNotLoaded (cond b (marks s x) [])
 step_unloaded h d name s x is none of false e = tt
-step_unloaded h d name s (By j deed) is none of true e = all_each (IsMine j (wanted_place s j)) IsNotLoaded (marks s (By j deed)) (mine_unloaded j (wanted_place s j)) (deed_mine j (wanted_place s j) (make_for s j) (listed_devices s) (s.job j) (device_for s j) deed)
+step_unloaded h d name s (By j this_action) is none of true e = all_each (IsMine j (wanted_place s j)) IsNotLoaded (marks s (By j this_action)) (mine_unloaded j (wanted_place s j)) (action_mine j (wanted_place s j) (make_for s j) (listed_devices s) (s.job j) (device_for s j) this_action)
 step_unloaded h d name s (Loads place page) is none of true e = absurd (laid_in h place page name of.event of.among of.is (subst (λ (n : ℕ). name_at (infos_of h) n ≡ Some name) (eqb-true d place e) is) none)
 step_unloaded h d name s (Unplugs place) is none of true e = (tt, tt)
 

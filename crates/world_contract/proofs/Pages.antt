@@ -20,7 +20,7 @@ use Rattle.world_contract.specs.Histories.{History}
 use Rattle.world_contract.specs.Page.{CameFor}
 use Rattle.world_contract.specs.Page.CameFor.{AtFirst, WithEvent}
 use Rattle.world_contract.proofs.Lists.{In, all_each, all_in, contains_in, contains_at}
-use Rattle.world_contract.proofs.Mine.{IsMine, deed_mine}
+use Rattle.world_contract.proofs.Mine.{IsMine, action_mine}
 use Rattle.world_contract.proofs.Marked.{LoadsIt, Slotted, mine_loads}
 use Rattle.world_contract.proofs.Traced.{IsOfSome, StepOf}
 use Rattle.world_contract.proofs.OfJobs.{IsOfJob}
@@ -105,6 +105,6 @@ all_of_one h (x ∷ xs) a b = (record { event = a.0.event; among = a.0.among; is
 
 pub loads_if : (h : History) (d : ℕ) (s : SystemState) (x : Transition) → IsOfOne h x → (b : Bool) → eqb d (touched_device s x) ≡ b → AllByRecursion (LoadsIt (IsOfDevice h d)) (cond b (marks s x) [])
 loads_if h d s x of false e = tt
-loads_if h d s (By j deed) of true e = all_each (IsMine j (wanted_place s j)) (LoadsIt (IsOfDevice h d)) (marks s (By j deed)) (mine_loads (IsOfDevice h d) j (wanted_place s j)) (deed_mine j (wanted_place s j) (make_for s j) (listed_devices s) (s.job j) (device_for s j) deed)
+loads_if h d s (By j this_action) of true e = all_each (IsMine j (wanted_place s j)) (LoadsIt (IsOfDevice h d)) (marks s (By j this_action)) (mine_loads (IsOfDevice h d) j (wanted_place s j)) (action_mine j (wanted_place s j) (make_for s j) (listed_devices s) (s.job j) (device_for s j) this_action)
 loads_if h d s (Loads place page) of true e = (subst (λ (n : ℕ). IsOfDevice h n page) (sym (eqb-true d place e)) (laid h place page of.event of.among of.is), tt)
 loads_if h d s (Unplugs place) of true e = (tt, tt)

@@ -3,7 +3,7 @@ use Rattle.std.specs.List.{AllByRecursion}
 use Rattle.std.proofs.Common.{◌≡◌, ◌⊎◌, ℕ, List, [], ◌∷◌, ◌++◌, true, false, Some, inl, inr, refl, sym, ap, subst}
 use Rattle.page_picture.specs.SourceView.{source_state}
 use Rattle.sane_fixed.specs.declared.device_info.DeviceInfo.{DeviceInfo}
-use Rattle.system_model.specs.Actions as deeds
+use Rattle.system_model.specs.Actions as model_actions
 use Rattle.system_model.specs.Client.{JobStage, Idle, Running, Done, Ended}
 use Rattle.system_model.specs.Deliveries.{Chance, answers}
 use Rattle.system_model.specs.Transitions.{By, IsUnderWay, Loads, Transition, Unplugs}
@@ -22,39 +22,39 @@ use Rattle.world_refines.proofs.job_events.Constant.{Fixed, stays_fixed}
 use Rattle.world_contract.proofs.Lists.{In, all_each, all_then}
 
 -- what an event of a job may do by the rules
-abbrev pub DeedOf : JobEvent → deeds.Action → Type 0
-DeedOf events.Connect deeds.Connects = Unit {0}
-DeedOf events.Connect (deeds.Loses true) = Unit {0}
-DeedOf events.Connect x = ⊥
-DeedOf (events.ToDaemon n) (deeds.Answers challenge fault) = Unit {0}
-DeedOf (events.ToDaemon n) (deeds.Breaks memory) = Unit {0}
-DeedOf (events.ToDaemon n) x = ⊥
-DeedOf (events.ToClient n) (deeds.Hears reply) = Unit {0}
-DeedOf (events.ToClient n) deeds.RunsOutOfMemory = Unit {0}
-DeedOf (events.ToClient n) x = ⊥
-DeedOf events.DataConnect deeds.Dials = Unit {0}
-DeedOf events.DataConnect x = ⊥
-DeedOf events.DataTurn (deeds.Turns bytes) = Unit {0}
-DeedOf events.DataTurn deeds.TurnsLast = Unit {0}
-DeedOf events.DataTurn deeds.TurnsShort = Unit {0}
-DeedOf events.DataTurn (deeds.TurnsNamed status) = Unit {0}
-DeedOf events.DataTurn (deeds.TurnsFault fault) = Unit {0}
-DeedOf events.DataTurn deeds.TurnsOff = Unit {0}
-DeedOf events.DataTurn (deeds.LosesImage true) = Unit {0}
-DeedOf events.DataTurn x = ⊥
-DeedOf (events.DataToClient n) (deeds.Reads bytes) = Unit {0}
-DeedOf (events.DataToClient n) (deeds.Finishes status) = Unit {0}
-DeedOf (events.DataToClient n) deeds.RunsOutOfMemory = Unit {0}
-DeedOf (events.DataToClient n) x = ⊥
-DeedOf events.LoseControl (deeds.Loses false) = Unit {0}
-DeedOf events.LoseControl x = ⊥
-DeedOf events.LoseImage (deeds.LosesImage false) = Unit {0}
-DeedOf events.LoseImage x = ⊥
-DeedOf events.Cancel deeds.Stops = Unit {0}
-DeedOf events.Cancel x = ⊥
+abbrev pub ActionOf : JobEvent → model_actions.Action → Type 0
+ActionOf events.Connect model_actions.Connects = Unit {0}
+ActionOf events.Connect (model_actions.Loses true) = Unit {0}
+ActionOf events.Connect x = ⊥
+ActionOf (events.ToDaemon n) (model_actions.Answers challenge fault) = Unit {0}
+ActionOf (events.ToDaemon n) (model_actions.Breaks memory) = Unit {0}
+ActionOf (events.ToDaemon n) x = ⊥
+ActionOf (events.ToClient n) (model_actions.Hears reply) = Unit {0}
+ActionOf (events.ToClient n) model_actions.RunsOutOfMemory = Unit {0}
+ActionOf (events.ToClient n) x = ⊥
+ActionOf events.DataConnect model_actions.Dials = Unit {0}
+ActionOf events.DataConnect x = ⊥
+ActionOf events.DataTurn (model_actions.Turns bytes) = Unit {0}
+ActionOf events.DataTurn model_actions.TurnsLast = Unit {0}
+ActionOf events.DataTurn model_actions.TurnsShort = Unit {0}
+ActionOf events.DataTurn (model_actions.TurnsNamed status) = Unit {0}
+ActionOf events.DataTurn (model_actions.TurnsFault fault) = Unit {0}
+ActionOf events.DataTurn model_actions.TurnsOff = Unit {0}
+ActionOf events.DataTurn (model_actions.LosesImage true) = Unit {0}
+ActionOf events.DataTurn x = ⊥
+ActionOf (events.DataToClient n) (model_actions.Reads bytes) = Unit {0}
+ActionOf (events.DataToClient n) (model_actions.Finishes status) = Unit {0}
+ActionOf (events.DataToClient n) model_actions.RunsOutOfMemory = Unit {0}
+ActionOf (events.DataToClient n) x = ⊥
+ActionOf events.LoseControl (model_actions.Loses false) = Unit {0}
+ActionOf events.LoseControl x = ⊥
+ActionOf events.LoseImage (model_actions.LosesImage false) = Unit {0}
+ActionOf events.LoseImage x = ⊥
+ActionOf events.Cancel model_actions.Stops = Unit {0}
+ActionOf events.Cancel x = ⊥
 
 abbrev pub ByOf : ℕ → JobEvent → Transition → Type 0
-ByOf i w (By j x) = (j ≡ i) × DeedOf w x
+ByOf i w (By j x) = (j ≡ i) × ActionOf w x
 ByOf i w (Loads d page) = ⊥
 ByOf i w (Unplugs d) = ⊥
 
@@ -108,51 +108,51 @@ daemon_by : (n : ℕ) (t : Ghost) (i : ℕ) (steps : List Transition) (u : Ghost
 daemon_by n t i steps u (GoesOn asked rest said a b c h on) = each_by i n asked steps c
 daemon_by n t i steps u (IsOver asked rest said a b h was over) = each_by i n asked steps b
 daemon_by n t i steps u (BreaksOff memory asked rest said before a b cut c h) =
-    steps_by (ByOf i (events.ToDaemon n)) steps (before ++ By i (deeds.Breaks memory) ∷ []) c (all_then (ByOf i (events.ToDaemon n)) before (By i (deeds.Breaks memory) ∷ []) (each_by i n asked before b) ((refl, tt), tt))
+    steps_by (ByOf i (events.ToDaemon n)) steps (before ++ By i (model_actions.Breaks memory) ∷ []) c (all_then (ByOf i (events.ToDaemon n)) before (By i (model_actions.Breaks memory) ∷ []) (each_by i n asked before b) ((refl, tt), tt))
 daemon_by n t i steps u (WasOver a b h) = steps_by (ByOf i (events.ToDaemon n)) steps [] b tt
 
 hears_by : (n : ℕ) (t : Ghost) (i : ℕ) (steps : List Transition) (u : Ghost) → GhostHears n t i steps u → AreBy i (events.ToClient n) steps
 hears_by n t i steps u (inl h) = steps_by _ steps [] h.steps_are tt
 hears_by n t i steps u (inr (under, inl h)) = steps_by _ steps [] h.steps_are tt
-hears_by n t i steps u (inr (under, inr (inl h))) = steps_by _ steps (By i (deeds.Hears h.reply) ∷ []) h.steps_are ((refl, tt), tt)
-hears_by n t i steps u (inr (under, inr (inr (inl h)))) = steps_by _ steps (By i deeds.RunsOutOfMemory ∷ []) h.steps_are ((refl, tt), tt)
-hears_by n t i steps u (inr (under, inr (inr (inr h)))) = steps_by _ steps (By i (deeds.Hears h.reply) ∷ By i deeds.RunsOutOfMemory ∷ []) h.steps_are ((refl, tt), ((refl, tt), tt))
+hears_by n t i steps u (inr (under, inr (inl h))) = steps_by _ steps (By i (model_actions.Hears h.reply) ∷ []) h.steps_are ((refl, tt), tt)
+hears_by n t i steps u (inr (under, inr (inr (inl h)))) = steps_by _ steps (By i model_actions.RunsOutOfMemory ∷ []) h.steps_are ((refl, tt), tt)
+hears_by n t i steps u (inr (under, inr (inr (inr h)))) = steps_by _ steps (By i (model_actions.Hears h.reply) ∷ By i model_actions.RunsOutOfMemory ∷ []) h.steps_are ((refl, tt), ((refl, tt), tt))
 
 connects_by : (t : Ghost) (i : ℕ) (steps : List Transition) (u : Ghost) → GhostConnects t i steps u → AreBy i events.Connect steps
-connects_by t i steps u (inl h) = steps_by _ steps (By i deeds.Connects ∷ []) h.0 ((refl, tt), tt)
-connects_by t i steps u (inr h) = steps_by _ steps (By i deeds.Connects ∷ By i (deeds.Loses true) ∷ []) h.0 ((refl, tt), ((refl, tt), tt))
+connects_by t i steps u (inl h) = steps_by _ steps (By i model_actions.Connects ∷ []) h.0 ((refl, tt), tt)
+connects_by t i steps u (inr h) = steps_by _ steps (By i model_actions.Connects ∷ By i (model_actions.Loses true) ∷ []) h.0 ((refl, tt), ((refl, tt), tt))
 
-record_by : (deed : deeds.Action) (text : List ℕ) → IsRecordOf deed text → DeedOf events.DataTurn deed
-record_by (deeds.Turns bytes) text h = tt
-record_by deeds.TurnsLast text h = tt
-record_by deeds.TurnsShort text h = tt
-record_by (deeds.TurnsNamed status) text h = tt
-record_by (deeds.TurnsFault fault) text h = tt
-record_by deeds.TurnsOff text h = tt
-record_by deed text h = absurd h
+record_by : (this_action : model_actions.Action) (text : List ℕ) → IsRecordOf this_action text → ActionOf events.DataTurn this_action
+record_by (model_actions.Turns bytes) text h = tt
+record_by model_actions.TurnsLast text h = tt
+record_by model_actions.TurnsShort text h = tt
+record_by (model_actions.TurnsNamed status) text h = tt
+record_by (model_actions.TurnsFault fault) text h = tt
+record_by model_actions.TurnsOff text h = tt
+record_by this_action text h = absurd h
 
-sends_by : (t : Ghost) (i : ℕ) (deed : deeds.Action) (text : List ℕ) (steps : List Transition) (u : Ghost) → DeedOf events.DataTurn deed → GhostSends t i deed text steps u → AreBy i events.DataTurn steps
-sends_by t i deed text steps u d (inl h) = steps_by _ steps (By i deed ∷ []) h.0 ((refl, d), tt)
-sends_by t i deed text steps u d (inr h) = steps_by _ steps (By i deed ∷ By i (deeds.LosesImage true) ∷ []) h.0 ((refl, d), ((refl, tt), tt))
+sends_by : (t : Ghost) (i : ℕ) (this_action : model_actions.Action) (text : List ℕ) (steps : List Transition) (u : Ghost) → ActionOf events.DataTurn this_action → GhostSends t i this_action text steps u → AreBy i events.DataTurn steps
+sends_by t i this_action text steps u d (inl h) = steps_by _ steps (By i this_action ∷ []) h.0 ((refl, d), tt)
+sends_by t i this_action text steps u d (inr h) = steps_by _ steps (By i this_action ∷ By i (model_actions.LosesImage true) ∷ []) h.0 ((refl, d), ((refl, tt), tt))
 
-come_by : (i n : ℕ) (come : List deeds.Action) → AllByRecursion (DeedOf (events.DataToClient n)) come → AreBy i (events.DataToClient n) (by_all i come)
+come_by : (i n : ℕ) (come : List model_actions.Action) → AllByRecursion (ActionOf (events.DataToClient n)) come → AreBy i (events.DataToClient n) (by_all i come)
 come_by i n [] a = tt
 come_by i n (x ∷ xs) a = ((refl, a.0), come_by i n xs a.1)
 
-reads_of : (n : ℕ) (bytes : List ℕ) → AllByRecursion (DeedOf (events.DataToClient n)) (read_actions bytes)
+reads_of : (n : ℕ) (bytes : List ℕ) → AllByRecursion (ActionOf (events.DataToClient n)) (read_actions bytes)
 reads_of n [] = tt
 reads_of n (b ∷ bytes) = (tt, tt)
 
-abbrev AllOf : ℕ → List deeds.Action → Type 0
-AllOf n come = AllByRecursion (DeedOf (events.DataToClient n)) come
+abbrev AllOf : ℕ → List model_actions.Action → Type 0
+AllOf n come = AllByRecursion (ActionOf (events.DataToClient n)) come
 
-all_of : (n : ℕ) (xs ys : List deeds.Action) → xs ≡ ys → AllOf n ys → AllOf n xs
+all_of : (n : ℕ) (xs ys : List model_actions.Action) → xs ≡ ys → AllOf n ys → AllOf n xs
 all_of n xs ys e a = subst (AllOf n) (sym e) a
 
-reads_by : (n : ℕ) (t : Ghost) (i : ℕ) (u : Ghost) (come : List deeds.Action) (piece sent : List ℕ) (phase : _) → ReadsBytes phase piece come sent ⊎ (GhostReadsEnd phase piece come t i u sent ⊎ ReadsShort phase piece come sent) → AllOf n come
+reads_by : (n : ℕ) (t : Ghost) (i : ℕ) (u : Ghost) (come : List model_actions.Action) (piece sent : List ℕ) (phase : _) → ReadsBytes phase piece come sent ⊎ (GhostReadsEnd phase piece come t i u sent ⊎ ReadsShort phase piece come sent) → AllOf n come
 reads_by n t i u come piece sent phase (inl h) = all_of n come (read_actions h.given) h.steps_are (reads_of n h.given)
-reads_by n t i u come piece sent phase (inr (inl h)) = all_of n come _ h.steps_are (all_then (DeedOf (events.DataToClient n)) (read_actions h.given) _ (reads_of n h.given) (tt, tt))
-reads_by n t i u come piece sent phase (inr (inr h)) = all_of n come _ h.steps_are (all_then (DeedOf (events.DataToClient n)) (read_actions h.given) _ (reads_of n h.given) (tt, tt))
+reads_by n t i u come piece sent phase (inr (inl h)) = all_of n come _ h.steps_are (all_then (ActionOf (events.DataToClient n)) (read_actions h.given) _ (reads_of n h.given) (tt, tt))
+reads_by n t i u come piece sent phase (inr (inr h)) = all_of n come _ h.steps_are (all_then (ActionOf (events.DataToClient n)) (read_actions h.given) _ (reads_of n h.given) (tt, tt))
 
 sees_by : (n : ℕ) (t : Ghost) (i : ℕ) (steps : List Transition) (u : Ghost) → GhostSees n t i steps u → AreBy i (events.DataToClient n) steps
 sees_by n t i steps u h = steps_by _ steps (by_all i h.come) h.steps_are (come_by i n h.come (by_stage (under_way (job_state t i).client.stage)))
@@ -165,19 +165,19 @@ pub comes_of : (e : Event) (t : Ghost) (steps : List Transition) (u : Ghost) →
 comes_of (Connect i) t steps u h = either_way _ (GhostCan t i events.Connect) _ t steps u (connects_by t i steps u) h
 comes_of (ToDaemon i n) t steps u h = either_way _ (GhostCan t i (events.ToDaemon n)) _ t steps u (daemon_by n t i steps u) h
 comes_of (ToClient i n) t steps u h = either_way _ (GhostCan t i (events.ToClient n)) _ t steps u (hears_by n t i steps u) h
-comes_of (DataConnect i) t steps u h = either_way _ (GhostCan t i events.DataConnect) _ t steps u (λ d. steps_by (ByOf i events.DataConnect) steps (By i deeds.Dials ∷ []) d.0 ((refl, tt), tt)) h
+comes_of (DataConnect i) t steps u h = either_way _ (GhostCan t i events.DataConnect) _ t steps u (λ d. steps_by (ByOf i events.DataConnect) steps (By i model_actions.Dials ∷ []) d.0 ((refl, tt), tt)) h
 comes_of (DataTurn i) t steps u h = either_way _ (GhostCan t i events.DataTurn) _ t steps u (λ d. sends_by t i d.action d.text steps u (record_by d.action d.text d.is) d.sends) h
 comes_of (DataToClient i n) t steps u h = either_way _ (GhostCan t i (events.DataToClient n)) _ t steps u (sees_by n t i steps u) h
-comes_of (LoseControl i) t steps u h = either_way _ (GhostCan t i events.LoseControl) _ t steps u (λ d. steps_by (ByOf i events.LoseControl) steps (By i (deeds.Loses false) ∷ []) d.0 ((refl, tt), tt)) h
-comes_of (LoseImage i) t steps u h = either_way _ (GhostCan t i events.LoseImage) _ t steps u (λ d. steps_by (ByOf i events.LoseImage) steps (By i (deeds.LosesImage false) ∷ []) d.0 ((refl, tt), tt)) h
-comes_of (Cancel i) t steps u h = either_way _ (GhostCan t i events.Cancel) _ t steps u (λ d. steps_by (ByOf i events.Cancel) steps (By i deeds.Stops ∷ []) d.steps_are ((refl, tt), tt)) h
+comes_of (LoseControl i) t steps u h = either_way _ (GhostCan t i events.LoseControl) _ t steps u (λ d. steps_by (ByOf i events.LoseControl) steps (By i (model_actions.Loses false) ∷ []) d.0 ((refl, tt), tt)) h
+comes_of (LoseImage i) t steps u h = either_way _ (GhostCan t i events.LoseImage) _ t steps u (λ d. steps_by (ByOf i events.LoseImage) steps (By i (model_actions.LosesImage false) ∷ []) d.0 ((refl, tt), tt)) h
+comes_of (Cancel i) t steps u h = either_way _ (GhostCan t i events.Cancel) _ t steps u (λ d. steps_by (ByOf i events.Cancel) steps (By i model_actions.Stops ∷ []) d.steps_are ((refl, tt), tt)) h
 comes_of (Load name source) t steps u h = either_way _ (CanLoad t name) _ t steps u (λ d. steps_by (StepOf t.infos (Load name source)) steps (Loads d.place (source_state source).page ∷ []) d.steps_are ((d.named, refl), tt)) h
 comes_of (Unplug name) t steps u h = either_way _ (CanUnplug t name) _ t steps u (λ d. steps_by (StepOf t.infos (Unplug name)) steps (Unplugs d.place ∷ []) d.steps_are (d.named, tt)) h
 
 -- ---- the steps of a connection
 
 abbrev pub IsConnection : Event → List Transition → Type 0
-IsConnection (Connect i) steps = (steps ≡ []) ⊎ ((steps ≡ By i deeds.Connects ∷ []) ⊎ (steps ≡ By i deeds.Connects ∷ By i (deeds.Loses true) ∷ []))
+IsConnection (Connect i) steps = (steps ≡ []) ⊎ ((steps ≡ By i model_actions.Connects ∷ []) ⊎ (steps ≡ By i model_actions.Connects ∷ By i (model_actions.Loses true) ∷ []))
 IsConnection e steps = Unit {0}
 
 connects_so : (t : Ghost) (i : ℕ) (steps : List Transition) (u : Ghost) → GhostConnects t i steps u → IsConnection (Connect i) steps

@@ -34,7 +34,7 @@ use Rattle.world_contract.specs.Sessions.{Has}
 use Rattle.world_contract.proofs.Along.{device_named}
 use Rattle.world_contract.proofs.Jobs.{item_there}
 use Rattle.world_contract.proofs.Lists.{In, all_each, all_then}
-use Rattle.world_contract.proofs.Mine.{IsMine, deed_mine}
+use Rattle.world_contract.proofs.Mine.{IsMine, action_mine}
 use Rattle.world_contract.proofs.OfJobs.{all_of_jobs}
 use Rattle.world_contract.proofs.Pages.{IsOfOne, all_of_one, name_there}
 use Rattle.world_contract.proofs.Scanned.{at_first, infos_of, kept_by, name_of, untouched_at_first}
@@ -97,7 +97,7 @@ taken_out h d name (Unplug other) among of is =
 
 step_stays : (h : History) (d : ℕ) (name : List ℕ) (s : SystemState) (x : Transition) → name_at (infos_of h) d ≡ Some name → (In (Unplug name) h.events → ⊥) → IsOfOne h x → (b : Bool) → eqb d (touched_device s x) ≡ b → AllByRecursion IsNotRemoved (cond b (marks s x) [])
 step_stays h d name s x is none of false e = tt
-step_stays h d name s (By j deed) is none of true e = all_each (IsMine j (wanted_place s j)) IsNotRemoved (marks s (By j deed)) (mine_stays j (wanted_place s j)) (deed_mine j (wanted_place s j) (make_for s j) (listed_devices s) (s.job j) (device_for s j) deed)
+step_stays h d name s (By j this_action) is none of true e = all_each (IsMine j (wanted_place s j)) IsNotRemoved (marks s (By j this_action)) (mine_stays j (wanted_place s j)) (action_mine j (wanted_place s j) (make_for s j) (listed_devices s) (s.job j) (device_for s j) this_action)
 step_stays h d name s (Loads place page) is none of true e = (tt, tt)
 step_stays h d name s (Unplugs place) is none of true e = absurd (none (taken_out h place name of.event of.among of.is (subst (λ (n : ℕ). name_at (infos_of h) n ≡ Some name) (eqb-true d place e) is)))
 

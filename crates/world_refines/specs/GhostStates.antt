@@ -9,7 +9,7 @@ use Rattle.sane_fixed.specs.declared.device_info.DeviceInfo.{DeviceInfo}
 use Rattle.frame_join.specs.FrameHistory.{JoinHistory}
 use Rattle.scan_job.specs.declared.job.Job.{Job}
 use Rattle.system_model.specs.AbstractMessages.{same_text}
-use Rattle.system_model.specs.Client as rules
+use Rattle.system_model.specs.Client as model
 use Rattle.system_model.specs.SystemStates.{JobState, SystemState, with_entry}
 use Rattle.system_model.specs.Transitions.{Transition, after_all}
 use Rattle.client_refines.specs.ClientRefinement.{task_of, requested_setting}
@@ -87,7 +87,7 @@ is_allowed_for users user password backend (Some challenge) = is_allowed users u
 -- device's name, or the place behind all; its backend is guarded where a line of the users names it; it is allowed
 -- where a line of its user and backend has a password of the same digest behind the challenge that is read in the
 -- resource that was sent (the model calls the whole resource a challenge).
-abbrev pub abstract_job : List Entry → List DeviceInfo → Job → rules.AbstractJob
+abbrev pub abstract_job : List Entry → List DeviceInfo → Job → model.AbstractJob
 abstract_job users infos job =
     record {
       wants = place_named infos job.device;

@@ -15,7 +15,7 @@ use Rattle.client_replies.specs.ProtocolStates.{target_of, wanted_port}
 use Rattle.net_client.specs.ReplyPieces.{IsReply}
 use Rattle.system_model.specs.AbstractMessages.{AbstractReply, AbstractRequest, Status}
 use Rattle.system_model.specs.Devices.{abstract_status}
-use Rattle.system_model.specs.Client as rules
+use Rattle.system_model.specs.Client as model
 use Rattle.system_model.specs.Daemon.{TransferState, Quiet, Waiting, Streaming, Ending}
 use Rattle.client_refines.specs.DecodedReplies.{Says, decoded_reply_at}
 use Rattle.client_refines.specs.RequestRefinement.{asks_of}
@@ -28,7 +28,7 @@ use Rattle.client_refines.specs.PieceRefinement.{SpellsSent}
 -- far, or all of them with their end, and none while the job waits for anything else.
 --
 -- the text spells these requests of the job's client, which has the device word 0 and knows what the client view knows
-abbrev pub SpellsAsked : Job → rules.ClientView → List AbstractRequest → List ℕ → Type 0
+abbrev pub SpellsAsked : Job → model.ClientView → List AbstractRequest → List ℕ → Type 0
 SpellsAsked job m asked text = SpellsSent (target_of job) text (asks_of 0 m.known asked)
 
 -- ---- replies
@@ -101,15 +101,15 @@ FlowsAt Quiet progress phase image flight ending = IsDialled progress phase imag
 FlowsAt Streaming progress phase image flight ending = IsDialled progress phase image flight ending
 FlowsAt Ending progress phase image flight ending = IsDialled progress phase image flight ending
 
-abbrev pub FlowsBy : rules.AbstractProgress → TransferState → Progress → RecordPhase → Option (List ℕ) → List ℕ
+abbrev pub FlowsBy : model.AbstractProgress → TransferState → Progress → RecordPhase → Option (List ℕ) → List ℕ
     → Option Status → Type 0
-FlowsBy (rules.Imaging params heard) c progress phase image flight ending = FlowsAt c progress phase image flight ending
+FlowsBy (model.Imaging params heard) c progress phase image flight ending = FlowsAt c progress phase image flight ending
 FlowsBy g c progress phase image flight ending = NothingFlows image flight ending
 
 -- a client that is under way has a data connection for the data of a frame alone
-abbrev pub FlightMatches : rules.JobStage → TransferState → Progress → RecordPhase → Option (List ℕ) → List ℕ
+abbrev pub FlightMatches : model.JobStage → TransferState → Progress → RecordPhase → Option (List ℕ) → List ℕ
     → Option Status → Type 0
-FlightMatches rules.Idle c progress phase image flight ending = NothingFlows image flight ending
-FlightMatches (rules.Running g) c progress phase image flight ending = FlowsBy g c progress phase image flight ending
-FlightMatches rules.Done c progress phase image flight ending = Unit {0}
-FlightMatches (rules.Ended status why) c progress phase image flight ending = Unit {0}
+FlightMatches model.Idle c progress phase image flight ending = NothingFlows image flight ending
+FlightMatches (model.Running g) c progress phase image flight ending = FlowsBy g c progress phase image flight ending
+FlightMatches model.Done c progress phase image flight ending = Unit {0}
+FlightMatches (model.Ended status why) c progress phase image flight ending = Unit {0}

@@ -19,7 +19,7 @@ use Rattle.scan_job.specs.declared.report.Reports.{Reports}
 use Rattle.system_model.specs.AbstractMessages as words
 use Rattle.system_model.specs.Causes.{IsCauseAmong, TrayRanOut, WasUnsaid}
 use Rattle.system_model.specs.Devices.{Make, OptionsInForce, descriptors_in_force, readable_options, abstract_status}
-use Rattle.system_model.specs.Client as rules
+use Rattle.system_model.specs.Client as model
 use Rattle.system_model.specs.AbstractInForce as ruled
 use Rattle.system_model.specs.AbstractInForce.{AreAnswered, values_of}
 use Rattle.system_model.specs.AbstractDevices.{Begin}
@@ -78,7 +78,7 @@ pub record AreShown (t : Ghost) (i : ℕ) (options : List (Descriptor × Option 
 
 -- a job that is done kept its promise: on its settings and on permission, on the options that it shows, or on the list
 pub record KeepsPromise (t : Ghost) (i : ℕ) (reports : Reports) : Type 0 where
-  pub stage : (job_state t i).client.stage ≡ rules.Done
+  pub stage : (job_state t i).client.stage ≡ model.Done
   pub settings : (t.jobs i).task ≢ tasks.List → AreReported t i reports.settings
   pub permitted : (t.jobs i).task ≢ tasks.List → IsPermitted (job_state t i).session.job (job_state t i).session.sent
   pub options : (t.jobs i).task ≡ tasks.Show → AreShown t i reports.options

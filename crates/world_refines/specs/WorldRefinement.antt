@@ -214,7 +214,7 @@ pub record EndpointRefines (users : List Entry) (infos : List DeviceInfo) (job :
     (device : ℕ → AbstractDevice) (i : ℕ) (p : JobState) (wires : Wires) (past : JoinHistory) (pages : List JoinHistory)
     (core : Core) (endpoint : Endpoint) : Type 0 where
   pub job_is : p.session.job ≡ abstract_job users infos job
-  pub talks : EndpointClientRefines (place_of_info infos) job past pages p endpoint
+  pub exchanges : EndpointClientRefines (place_of_info infos) job past pages p endpoint
   pub carries : WiresMatch wires (slot_of_link core endpoint.link) endpoint
   pub means : Means (place_of_info infos) job wires p endpoint
   pub served : IsServed i make core endpoint.link p.served device (session_by i device p)

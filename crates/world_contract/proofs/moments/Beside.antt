@@ -215,7 +215,7 @@ met_or h w o s a x c st m =
 not_named : (h : History) (w : WorldCore) (o : Job) (s : SystemState) (a : ℕ) (ja : Job) (x : Action) → Stand h w o s (By a x) → slice_get h.jobs a ≡ Some ja → ja.device ≡ o.device → NamesNothing h ja → (s.job a).session.job ≡ abstract_job h.users (infos_of h) ja → IsUnderWay (s.job a).client.stage → Comes a (make_for s a) (s.job a) (device_for s a) x (Names Busy) → ⊥
 not_named h w o s a ja x st at named nothing is on c =
     let own : Own h a ja = record { at = at; apart = st.apart; same = st.below.same } in
-    let streamed = streaming a (make_for s a) (s.job a) (device_for s a) (s.job a).client.stage on (st.sound.talks a) c.1 in
+    let streamed = streaming a (make_for s a) (s.job a) (device_for s a) (s.job a).client.stage on (st.sound.exchanges a) c.1 in
     let told = told_by h a ja s Busy own (fine_for h o ja s named st.fine) is c.2 streamed.0 c.3 in
     let clash : None ≡ Some Busy = ap (option_map abstract_status) (sym (nothing told.0)) ∙ told.1 in cc
 
@@ -241,7 +241,7 @@ hit_back h w o s a b ja jb x pair st bes sound hit = by_stage (s.job a).client.s
           | inr is ↦ is
         ] in
         let by_b : (device_for s b).holder ≡ Some b = subst (λ (n : ℕ). (s.device n).holder ≡ Some b) (place ∙ sym (place_at h o s b jb pair.b_at pair.b_named st.fine)) (holder ∙ ap (λ (n : ℕ). Some n) same) in
-        inr (opens, on, held_past b (make_for s b) (s.job b) (device_for s b) (st.sound.talks b) by_b)
+        inr (opens, on, held_past b (make_for s b) (s.job b) (device_for s b) (st.sound.exchanges b) by_b)
 
     under : IsUnderWay (s.job a).client.stage → IsCauseAmong WasHeld now.session.met ⊎ IsCauseAmong (Names Busy) now.session.met → Hit (s.job a) ⊎ (Opens (s.job a) × IsUnderWay (s.job a).client.stage × IsPast (s.job b))
     under on (inl m) = held on (met_or h w o s a x WasHeld st m)
@@ -251,7 +251,7 @@ hit_back h w o s a b ja jb x pair st bes sound hit = by_stage (s.job a).client.s
     ]
 
     met_now : IsCauseAmong WasHeld now.session.met ⊎ IsCauseAmong (Names Busy) now.session.met
-    met_now = hit_met a (make_for (after_transition s (By a x)) a) now (device_for (after_transition s (By a x)) a) now.client.stage (sound.talks a) hit
+    met_now = hit_met a (make_for (after_transition s (By a x)) a) now (device_for (after_transition s (By a x)) a) now.client.stage (sound.exchanges a) hit
 
     by_stage : (st : JobStage) → (s.job a).client.stage ≡ st → Hit (s.job a) ⊎ (Opens (s.job a) × IsUnderWay (s.job a).client.stage × IsPast (s.job b))
     by_stage Idle e = under (subst IsUnderWay (sym e) tt) met_now
@@ -265,7 +265,7 @@ own_beside h w o s a b ja jb x pair st sound apart bes =
     let b_same : q.job b ≡ s.job b = party_stays s a x b apart in
     let past : IsPast (s.job a) → IsPast (q.job a) = λ p. subst IsPast (sym (own_party s a x)) (past_stays a (make_for s a) (listed_devices s) (s.job a) (device_for s a) x st.may p) in
     let back : Hit (q.job a) → Hit (s.job a) ⊎ (Opens (s.job a) × IsUnderWay (s.job a).client.stage × IsPast (s.job b)) = λ hit. hit_back h w o s a b ja jb x pair st bes sound hit in
-    let not_asks : Opens (s.job a) → IsUnderWay (s.job a).client.stage → IsPast (s.job a) → ⊥ = λ opens on p. past_asks a (make_for s a) (s.job a) (device_for s a) opens.0 opens.1 (st.sound.talks a) on opens.2 opens.3 p in
+    let not_asks : Opens (s.job a) → IsUnderWay (s.job a).client.stage → IsPast (s.job a) → ⊥ = λ opens on p. past_asks a (make_for s a) (s.job a) (device_for s a) opens.0 opens.1 (st.sound.exchanges a) on opens.2 opens.3 p in
     record {
       one = λ hit. elim (back hit) [
         | inl old ↦ (let r = bes.one old in (subst IsPast (sym b_same) r.0, λ too. r.1 (subst Hit b_same too)))
@@ -340,7 +340,7 @@ all_steps below laws h w o a b ja jb (x ∷ xs) s pair apart f sound of answers 
 ended_hit : (u : Ghost) (w : WorldCore) (i : ℕ) (p : Endpoint) → WorldRefines u w → slice_get w.endpoints i ≡ Some p → p.client.outcome ≡ outcomes.Ended codes.DeviceBusy whys.Answer → Hit (job_state u i)
 ended_hit u w i p h at is =
     let me = job_state u i in
-    let d = ended_reads (place_of_info u.infos) (target_of (u.jobs i)) me.session.job (map (λ (q : JoinHistory). q.ended) (u.pages i)) p.client.outcome p.client.progress p.client.notes (u.history i) (client_at_greeting me.client.stage me.client) codes.DeviceBusy whys.Answer (h.endpoints i p at).talks.reads.stands is in
+    let d = ended_reads (place_of_info u.infos) (target_of (u.jobs i)) me.session.job (map (λ (q : JoinHistory). q.ended) (u.pages i)) p.client.outcome p.client.progress p.client.notes (u.history i) (client_at_greeting me.client.stage me.client) codes.DeviceBusy whys.Answer (h.endpoints i p at).exchanges.reads.stands is in
     let stage = woken_ended me.client.stage me.client (abstract_status codes.DeviceBusy) d.0 refl d.1.1 in
     let answer : d.0 ≡ words.Answer = (let both : Some words.Answer ≡ Some d.0 = d.1.0 in cc) in
     subst (HitBy me.session.met) (sym stage) (refl, answer)

@@ -195,14 +195,14 @@ hears_counted h w i job s g r rest at e is was m =
     let p = s.job i in
     let ev = was m in
     let told = ev.1 (subst IsUnderWay (sym at) tt) in
-    let same = due_is i (make_for s i) p (device_for s i) p.client.stage g r rest at (e.sound.talks i) is told in
+    let same = due_is i (make_for s i) p (device_for s i) p.client.stage g r rest at (e.sound.exchanges i) is told in
     let ends = hears_ends p.client.stage g p.session.job p.client r at same in
     (subst (HadNoPage h w i job) (ap length (sym ends.0)) ev.0, λ on. absurd (ends.1 on))
 
 finish_counted : (h : History) (w : WorldCore) (i : ℕ) (job : Job) (s : SystemState) (status : _) (params : _) (got : List ℕ) → (s.job i).client.stage ≡ Running (Imaging params got) → Here h i job s → CountedSo h w i job (s.job i) → CountedSo h w i job (step_of h w i job s (Actions.Finishes status))
 finish_counted h w i job s status params got at e was m =
     let p = s.job i in
-    told_not i (make_for s i) p (device_for s i) p.client.stage (Imaging params got) at refl (e.sound.talks i) ((was m).1 (subst IsUnderWay (sym at) tt))
+    told_not i (make_for s i) p (device_for s i) p.client.stage (Imaging params got) at refl (e.sound.exchanges i) ((was m).1 (subst IsUnderWay (sym at) tt))
 
 answer_counted : Laws → (h : History) (w : WorldCore) (i : ℕ) (job : Job) (s : SystemState) (g : AbstractProgress) (challenge : Challenge) (fault : Option FailureCounts) → (s.job i).client.stage ≡ Running g → Here h i job s → AnsweredSo h w job s (By i (Actions.Answers challenge fault)) → IsEnabled s (By i (Actions.Answers challenge fault)) → CountedSo h w i job (s.job i) → CountedSo h w i job (step_of h w i job s (Actions.Answers challenge fault))
 answer_counted laws h w i job s g challenge fault at e so may was m =
@@ -213,14 +213,14 @@ answer_counted laws h w i job s g challenge fault at e so may was m =
     let dev = device_for s i in
     let on : IsUnderWay p.client.stage = subst IsUnderWay (sym at) tt in
     elim (either_met (causes_by i k ds p dev x) p.session.met (subst (IsCauseAmong TrayRanOut) (met_by i k ds p dev x) m)) [
-      | inr old ↦ asked_not i k p dev p.client.stage g at (e.sound.talks i) may.0 may.1 ((was old).1 on)
+      | inr old ↦ asked_not i k p dev p.client.stage g at (e.sound.exchanges i) may.0 may.1 ((was old).1 on)
       | inl new ↦
           let dry = (pick_it (Comes i k p dev x) (causes_by i k ds p dev x) (all_come laws.grounds i k ds p dev x may) new).1 in
           let front : Front h w job s i = (fault, so on) in
-          let ready = starts_ready i k p dev p.client.stage dry.0 on (e.sound.talks i) dry.1 dry.2 in
-          let none = no_page h w i job s e on front dry.0 dry.1 dry.2 (dry_there i k p dev p.client.stage (e.sound.talks i) on dry) in
+          let ready = starts_ready i k p dev p.client.stage dry.0 on (e.sound.exchanges i) dry.1 dry.2 in
+          let none = no_page h w i job s e on front dry.0 dry.1 dry.2 (dry_there i k p dev p.client.stage (e.sound.exchanges i) on dry) in
           let next = by_next i k ds p dev challenge fault p.todo dry.0 dry.1 ready.0.still.awaited ready.0.held.mine ready.0.still.transfer dry.2 dry.3 new in
-          (subst (HadNoPage h w i job) (ap (λ (v : ClientView). length v.pages) (sym next.0)) none, λ still. inl (next.1 ∙ ap (λ (ds : List AbstractReply). ds ++ Refused NoDocs ∷ []) (due_none i k p dev p.client.stage g at (e.sound.talks i) may.1)))
+          (subst (HadNoPage h w i job) (ap (λ (v : ClientView). length v.pages) (sym next.0)) none, λ still. inl (next.1 ∙ ap (λ (ds : List AbstractReply). ds ++ Refused NoDocs ∷ []) (due_none i k p dev p.client.stage g at (e.sound.exchanges i) may.1)))
     ]
   where
     due_none : (i : ℕ) (k : Make) (p : JobState) (dev : AbstractDevice) (stage : JobStage) (g : AbstractProgress) → stage ≡ Running g → StageInvariant i k p dev stage → p.todo ≢ [] → p.due ≡ []
@@ -298,7 +298,7 @@ idle_off i k p dev (Ended status why) at inv = absurd (let clash : Ended status 
 idle_none : (h : History) (i : ℕ) (job : Job) (s : SystemState) (x : Action) → (s.job i).client.stage ≡ Idle → Here h i job s → IsEnabled s (By i x) → (IsCauseAmong TrayRanOut (s.job i).session.met → ⊥) → IsCauseAmong TrayRanOut (job_after_action i (make_for s i) (listed_devices s) (s.job i) (device_for s i) x).session.met → ⊥
 idle_none h i job s x at e may was m =
     let p = s.job i in
-    was (earlier (causes_by i (make_for s i) (listed_devices s) p (device_for s i) x) p.session.met (none_new i (make_for s i) (listed_devices s) p (device_for s i) x may (idle_off i (make_for s i) p (device_for s i) p.client.stage at (e.sound.talks i)))
+    was (earlier (causes_by i (make_for s i) (listed_devices s) p (device_for s i) x) p.session.met (none_new i (make_for s i) (listed_devices s) p (device_for s i) x may (idle_off i (make_for s i) p (device_for s i) p.client.stage at (e.sound.exchanges i)))
     (subst (IsCauseAmong TrayRanOut) (met_by i (make_for s i) (listed_devices s) p (device_for s i) x) m))
 
 -- ---- what it comes to
@@ -381,7 +381,7 @@ running_step laws h w i job s g x at e f so may was =
     let t = after_transition s (By i x) in
     let here : t.job i ≡ job_after_action i (make_for s i) (listed_devices s) (s.job i) (device_for s i) x = own_party s i x in
     kept_of h w i job t (t.job i).client.stage f.sound refl
-    (λ idle. not_idle i (make_for s i) (listed_devices s) (s.job i) (device_for s i) g x at (e.sound.talks i) may (ap (λ (p : JobState). p.client.stage) (sym here) ∙ idle) (ap (λ (p : JobState). p.served) (sym here) ∙ idle_off i (make_for t i) (t.job i) (device_for t i) (t.job i).client.stage idle (f.sound.talks i)))
+    (λ idle. not_idle i (make_for s i) (listed_devices s) (s.job i) (device_for s i) g x at (e.sound.exchanges i) may (ap (λ (p : JobState). p.client.stage) (sym here) ∙ idle) (ap (λ (p : JobState). p.served) (sym here) ∙ idle_off i (make_for t i) (t.job i) (device_for t i) (t.job i).client.stage idle (f.sound.exchanges i)))
     (subst (CountedSo h w i job) (sym here) (running_counted laws h w i job s g x at e so may was))
 
 over_step : Laws → (h : History) (w : WorldCore) (i : ℕ) (job : Job) (s : SystemState) (x : Action) (stage : JobStage) → (s.job i).client.stage ≡ stage → (IsUnderWay stage → ⊥) → IsEnabled s (By i x) → Kept h w i job (s.job i) stage → KeptAt h w i job (after_transition s (By i x))

@@ -50,7 +50,7 @@ use Rattle.world_contract.proofs.moments.Entries.{set_here, unsome}
 use Rattle.world_contract.proofs.moments.Asking.{IsStartOf, OneStays, held_one, request_stays}
 use Rattle.world_contract.proofs.moments.Holder.{no_endpoints}
 use Rattle.world_contract.proofs.moments.Others.{decide}
-use Rattle.world_contract.proofs.moments.Paging.{NotAsked, linked_as, seat_session, unasked_page}
+use Rattle.world_contract.proofs.moments.Paging.{NotAsked, linked_as, slot_session, unasked_page}
 use Rattle.world_contract.proofs.moments.Stands.{one_lease}
 
 -- ---- one request behind another
@@ -158,7 +158,7 @@ fed_on t w v i n p q id s feds.Standing h at link stands f is =
     let one : a.session ≡ s = unsome a.session s (sym a.stood ∙ stands) in
     let answers : AnswersAll w.daemon.users (core_context w.daemon s) a.feeds.so_far.requests a.feeds.so_far.told a.now.context = subst (λ (x : Session DeviceState). AnswersAll w.daemon.users (core_context w.daemon x) a.feeds.so_far.requests a.feeds.so_far.told a.now.context) one a.feeds.so_far.answers in
     let stays = asked_one t w i n p id s a.now a.feeds.so_far.requests a.feeds.so_far.told h at link stands a.feeds.so_far.reads answers in
-    inr (a.now.context.session, ap (λ (x : Endpoint). x.link) is ∙ link, ap (λ (x : List (Option Slot)). session_in (session_slot_of x id.number)) a.slots ∙ seat_session (answered_slot a.now) id.number w.daemon.slots (session_slot_of w.daemon.slots id.number) s a.now.context.session refl stands (λ slot there. (_, refl, refl, refl)), stays)
+    inr (a.now.context.session, ap (λ (x : Endpoint). x.link) is ∙ link, ap (λ (x : List (Option Slot)). session_in (session_slot_of x id.number)) a.slots ∙ slot_session (answered_slot a.now) id.number w.daemon.slots (session_slot_of w.daemon.slots id.number) s a.now.context.session refl stands (λ slot there. (_, refl, refl, refl)), stays)
 
 delivered : (t : Ghost) (w v : WorldCore) (i n : ℕ) (p q : Endpoint) (id : SessionId) (s : Session DeviceState) → WorldRefines t w → slice_get w.endpoints i ≡ Some p → p.link ≡ Some id → session_of w.daemon id.number ≡ Some s → (v.daemon ≡ w.daemon) × (q ≡ p) ⊎ FeedsPiece id.number n w.daemon p v.daemon q → Goes_one v.daemon q id s
 delivered t w v i n p q id s h at link stands (inl same) = inr (s, ap (λ (x : Endpoint). x.link) same.1 ∙ link, ap (λ (x : Core). session_of x id.number) same.0 ∙ stands, held_one (Unit {0}) s s refl)

@@ -20,7 +20,7 @@ use Rattle.scan_job.specs.declared.report.Reports.{Reports}
 use Rattle.client_replies.specs.ProtocolStates.{is_batch}
 use Rattle.client_refines.specs.ClientRefinement.{task_of, wholes}
 use Rattle.system_model.specs.AbstractDevices.{Begin}
-use Rattle.system_model.specs.Client as rules
+use Rattle.system_model.specs.Client as model
 use Rattle.system_model.specs.Client.{AbstractJob}
 use Rattle.system_model.specs.Devices.{Make}
 use Rattle.system_model.specs.Invariants.{IsRightlyDone, StageInvariant}
@@ -177,14 +177,14 @@ pub finished_low : (u : Ghost) (w : WorldCore) (i : ℕ) (p : Endpoint) → Worl
 finished_low u w i p h at =
     let s = h.endpoints i p at in
     let me = job_state u i in
-    by_laid (u.jobs i).task (u.history i) (u.pages i) p me.client.pages (is_laid (u.jobs i).task p.client.outcome (u.history i)) refl s.talks.files (sym (woken_pages me.client.stage me.client) ∙ s.talks.reads.files.all)
+    by_laid (u.jobs i).task (u.history i) (u.pages i) p me.client.pages (is_laid (u.jobs i).task p.client.outcome (u.history i)) refl s.exchanges.files (sym (woken_pages me.client.stage me.client) ∙ s.exchanges.reads.files.all)
 
 -- a scan that is done has one
 one_page : (u : Ghost) (w : WorldCore) (i : ℕ) (job : Job) (p : Endpoint) (reports : Reports) → WorldRefines u w → IsOutcome u i (Done reports) → slice_get w.endpoints i ≡ Some p → u.jobs i ≡ job → job.task ≡ tasks.Scan → 0 < length (job_state u i).client.pages
 one_page u w i job p reports h done at own scan =
     let me = job_state u i in
-    let task : me.session.job.task ≡ rules.Scan = ap (λ (j : AbstractJob). j.task) (h.endpoints i p at).job_is ∙ ap task_of (ap (λ (j : Job). j.task) own ∙ scan) in
-    let right : IsRightlyDone (make_for u.system i) me.session me.client me.session.job.task = subst (StageInvariant i (make_for u.system i) me (device_for u.system i)) done.stage (h.sound.talks i) in
+    let task : me.session.job.task ≡ model.Scan = ap (λ (j : AbstractJob). j.task) (h.endpoints i p at).job_is ∙ ap task_of (ap (λ (j : Job). j.task) own ∙ scan) in
+    let right : IsRightlyDone (make_for u.system i) me.session me.client me.session.job.task = subst (StageInvariant i (make_for u.system i) me (device_for u.system i)) done.stage (h.sound.exchanges i) in
     let one = (subst (IsRightlyDone (make_for u.system i) me.session me.client) task right).1 in
     omega (arith, one)
 
@@ -254,10 +254,10 @@ counted_there below h w i job p j count reports batch done =
     let k = kept_by below.kept h w job j.led in
     let me = job_state u i in
     let task : (u.jobs i).task ≡ tasks.Batch count = ap (λ (x : Job). x.task) (job_of h w job j.led (sources_of h) c i j.job_at) ∙ batch in
-    let ruled : me.session.job.task ≡ rules.Batch (count - 1) = ap (λ (x : AbstractJob). x.task) (c.stands.endpoints i p j.endpoint_at).job_is ∙ ap task_of task in
+    let ruled : me.session.job.task ≡ model.Batch (count - 1) = ap (λ (x : AbstractJob). x.task) (c.stands.endpoints i p j.endpoint_at).job_is ∙ ap task_of task in
     let promise : KeepsPromise u i reports = subst (IsOutcome u i) done (below.outcomes u w i p c.stands j.endpoint_at) in
     let so : CountsTo h w i job me = subst (λ (s : SystemState). CountsTo h w i job (s.job i)) (sym c.rules_are)
-    (counts (laws_of below) h w i job c.steps t.system (first_here below h w i job j.led j.job_at) (steps_of_one below h w job j.led) c.answered c.legal (λ m. m) (subst (λ (s : SystemState). (s.job i).client.stage ≡ rules.Done) c.rules_are promise.stage)) in
+    (counts (laws_of below) h w i job c.steps t.system (first_here below h w i job j.led j.job_at) (steps_of_one below h w job j.led) c.answered c.legal (λ m. m) (subst (λ (s : SystemState). (s.job i).client.stage ≡ model.Done) c.rules_are promise.stage)) in
     let pages = pages_count u w i p c.stands j.endpoint_at (ap is_done done) (ap is_batch task) in
     let known = k.promises.batches i count p reports j.endpoint_at (ap (λ (x : Job). x.task) (job_there h w job j.led k i j.job_at) ∙ batch) done in
     few_or_none (HadNoPage h w i job) p.finished count (length me.client.pages) _ pages known (so (count - 1) ruled)

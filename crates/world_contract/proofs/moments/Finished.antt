@@ -78,11 +78,11 @@ count_at t w i rest (Some p) at h stage ready =
     let s = h.endpoints i p at in
     let me = t.system.job i in
     let past = t.history i in
-    let reads = s.talks.reads in
-    let fits : HistoryFits (target_of (t.jobs i)).task p.client.outcome p.client.progress past = subst (λ (x : JobTarget). HistoryFits x.task p.client.outcome p.client.progress past) s.talks.target s.talks.serves.fits in
+    let reads = s.exchanges.reads in
+    let fits : HistoryFits (target_of (t.jobs i)).task p.client.outcome p.client.progress past = subst (λ (x : JobTarget). HistoryFits x.task p.client.outcome p.client.progress past) s.exchanges.target s.exchanges.serves.fits in
     let is = outcome_between (place_of_info t.infos) (target_of (t.jobs i)) me.session.job (map (λ (q : JoinHistory). q.ended) (t.pages i)) p.client.outcome p.client.progress p.client.notes past (client_at_greeting me.client.stage me.client) (woken me.client.stage me.client Starting stage refl) s.waits.unturned reads.stands fits in
     let laid : is_laid (t.jobs i).task p.client.outcome past ≡ false = unlaid (is_done p.client.outcome) (cond (is_batch (t.jobs i).task) (is_joined past.ended) false) is.0 in
-    let files : HasFiles past.given (t.pages i) p = subst (λ (b : Bool). KeepsFiles b past (t.pages i) p) laid s.talks.files in
+    let files : HasFiles past.given (t.pages i) p = subst (λ (b : Bool). KeepsFiles b past (t.pages i) p) laid s.exchanges.files in
     let pages : me.client.pages ≡ map (λ (q : JoinHistory). q.ended) (t.pages i) =
     sym (woken_pages me.client.stage me.client) ∙ (reads.files.all ∙ (ap (λ (x : List (List Frame)). map (λ (q : JoinHistory). q.ended) (t.pages i) ++ x) (none_whole past.ended _ is.1.2) ∙ append-nil (map (λ (q : JoinHistory). q.ended) (t.pages i)))) in
     let started : length me.session.started ≡ length me.client.pages = as_many (make_for t.system i) me.session.job.settings me.session.started me.client.pages ready.pictures in

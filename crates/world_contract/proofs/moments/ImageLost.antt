@@ -40,7 +40,7 @@ some_text (Some image) x e is = subst IsSome e refl
 pub counts_there : (u : Ghost) (w : WorldCore) (i : ℕ) (p : Endpoint) → WorldRefines u w → slice_get w.endpoints i ≡ Some p → IsUnderWay (u.system.job i).client.stage → IsSome p.image → is_lost_by links.Image p.client.outcome p.client.progress ≡ true
 counts_there u w i p h at on image =
     let s = h.endpoints i p at in
-    image_counts (place_of_info u.infos) (u.jobs i) (u.history i) (u.pages i) (u.wires i) (u.system.job i) p s.talks s.means (some_text p.image (u.wires i).image s.carries.image image) on
+    image_counts (place_of_info u.infos) (u.jobs i) (u.history i) (u.pages i) (u.wires i) (u.system.job i) p s.exchanges s.means (some_text p.image (u.wires i).image s.carries.image image) on
 
 lost_by : {A : Type 0} (link : Option SessionId) (P : ℕ → Type 0) → IfLinked link P → ((k : ℕ) → P k → A) → A
 lost_by None P h then_is = absurd h

@@ -94,8 +94,8 @@ StepSo h w job s x = AnsweredSo h w job s x × HappenedSo h w job s x
 abbrev own_of : History → ℕ → Action → Type 0
 own_of h i x = IsOfOne h (By i x)
 
-of_deed : (h : History) (i : ℕ) (x y : Action) → x ≡ y → own_of h i x → own_of h i y
-of_deed h i x y e o = subst (own_of h i) e o
+of_action : (h : History) (i : ℕ) (x y : Action) → x ≡ y → own_of h i x → own_of h i y
+of_action h i x y e o = subst (own_of h i) e o
 
 -- what happened in a step of that kind
 happened_by : (h : History) (w : WorldCore) (job : Job) (s : SystemState) (i : ℕ) (x y : Action) → x ≡ y → StepSo h w job s (By i x) → HappenedSo h w job s (By i y)
@@ -166,7 +166,7 @@ not_listed h w i job s e on a opens none =
 -- whether its user and password are allowed for the challenge that its session had sent
 pub judged_by : (h : History) (w : WorldCore) (i : ℕ) (job : Job) (s : SystemState) (allowed : Bool) → Here h i job s → IsUnderWay (s.job i).client.stage → (s.job i).served ≡ true → (a : Front h w job s i) → (c : Challenge) → (s.job i).session.awaited ≡ Some c → (s.job i).session.job.allows c ≡ allowed → HasPassed h a.1.at.before i job allowed
 judged_by h w i job s allowed e on served a c awaited allows =
-    let linked = linked_by i (make_for s i) (s.job i) (device_for s i) (s.job i).client.stage (e.sound.talks i) on served in
+    let linked = linked_by i (make_for s i) (s.job i) (device_for s i) (s.job i).client.stage (e.sound.exchanges i) on served in
     let r = awaits_there a.1.ghost a.1.at.before i c a.1.stands (slice_get a.1.at.before.endpoints i) refl (ap (λ (u : SystemState). (u.job i).served) a.1.state ∙ served) (ap (λ (u : SystemState). (u.job i).linked) a.1.state ∙ linked) (ap (λ (u : SystemState). (u.job i).session.awaited) a.1.state ∙ awaited) in
     let so : is_allowed_for h.users job.user job.password (backend_of job.device) (challenge_of c) ≡ allowed = ap (λ (j : RuledJob). j.allows c) (sym e.is) ∙ allows in
     record {
@@ -189,7 +189,7 @@ HasNone i dev = (dev.holder ≡ Some i) × ((d : DeviceState) → dev ≡ abstra
 finished_there : (h : History) (w : WorldCore) (i : ℕ) (job : Job) (s : SystemState) → Here h i job s → IsUnderWay (s.job i).client.stage → (a : Front h w job s i) → (rest : List AbstractRequest) → (s.job i).todo ≡ Start ∷ rest → (device_for s i).phase ≡ Resting → HasFinished a.1.at.before i (length (s.job i).client.pages)
 finished_there h w i job s e on a rest todo rests =
     let p = s.job i in
-    let ready = starts_ready i (make_for s i) p (device_for s i) p.client.stage rest on (e.sound.talks i) todo rests in
+    let ready = starts_ready i (make_for s i) p (device_for s i) p.client.stage rest on (e.sound.exchanges i) todo rests in
     let count : HasFinished a.1.at.before i (length (a.1.ghost.system.job i).session.started) =
     count_at a.1.ghost a.1.at.before i rest (slice_get a.1.at.before.endpoints i) refl a.1.stands (ap (λ (u : SystemState). (u.job i).client.stage) a.1.state ∙ ready.1)
     (subst (λ (u : SystemState). Ready i (make_for u i) (u.job i).session (u.job i).client (device_for u i)) (sym a.1.state) ready.0) in
@@ -205,7 +205,7 @@ scans_so (tasks.Batch count) is = refl
 
 -- a job that asks for a start scans
 starts_scan : (h : History) (i : ℕ) (job : Job) (s : SystemState) → Here h i job s → IsUnderWay (s.job i).client.stage → (rest : List AbstractRequest) → (s.job i).todo ≡ Start ∷ rest → scans job.task ≡ true
-starts_scan h i job s e on rest todo = scans_so job.task (subst (λ (j : RuledJob). Scans j.task) e.is (starting_scans i (make_for s i) (s.job i) (device_for s i) (s.job i).client.stage rest on (e.sound.talks i) todo))
+starts_scan h i job s e on rest todo = scans_so job.task (subst (λ (j : RuledJob). Scans j.task) e.is (starting_scans i (make_for s i) (s.job i) (device_for s i) (s.job i).client.stage rest on (e.sound.exchanges i) todo))
 
 none_begun : (xs : List Begin) → is_some_begun xs ≡ false → length xs ≡ 0
 none_begun [] e = refl
@@ -249,7 +249,7 @@ source_failed : (h : History) (w : WorldCore) (i : ℕ) (job : Job) (s : SystemS
 source_failed h w i job s x e (inl (a, begins)) on so may at =
     let m : AnswersAt h w job s i (Some a.1) = (subst (λ (y : Action). AnsweredSo h w job s (By i y)) a.2 so.0) on in
     let fails = (subst (λ (y : Action). IsEnabled s (By i y)) a.2 may).2.0 in
-    let set = starting i (make_for s i) (s.job i) (device_for s i) (s.job i).client.stage begins.0 on (e.sound.talks i) begins.1 in (
+    let set = starting i (make_for s i) (s.job i) (device_for s i) (s.job i).client.stage begins.0 on (e.sound.exchanges i) begins.1 in (
       starts_scan h i job s e on begins.0 begins.1,
       can_fail h i job s e fails set.0,
       inl (asked_start h w i job s on (Some a.1, m) begins.0 begins.1, subst (λ (j : Job). FailedIn m.at.before m.at.behind.daemon i j.device) (get_or_from_slice_get h.jobs i job job at) m.failed),
@@ -257,7 +257,7 @@ source_failed h w i job s x e (inl (a, begins)) on so may at =
 source_failed h w i job s x e (inr a) on so may at =
     let f = happened_by h w job s i x (Actions.TurnsFault a.0) a.1 so on in
     let turns = subst (λ (y : Action). IsEnabled s (By i y)) a.1 may in
-    let streamed = streaming i (make_for s i) (s.job i) (device_for s i) (s.job i).client.stage on (e.sound.talks i) turns.3.0 in (
+    let streamed = streaming i (make_for s i) (s.job i) (device_for s i) (s.job i).client.stage on (e.sound.exchanges i) turns.3.0 in (
       scans_so job.task (subst (λ (j : RuledJob). Scans j.task) e.is streamed.1),
       can_fail h i job s e turns.4.0 turns.3.1,
       inr (f.0, subst (λ (j : Job). FailedIn f.0.0.before f.0.0.behind.daemon i j.device) (get_or_from_slice_get h.jobs i job job at) f.1, f.2),
@@ -268,11 +268,11 @@ served_by_step i k p dev x a may = (subst (IsActionEnabled i k p dev) a.2 may).0
 
 named_by : (h : History) (w : WorldCore) (i : ℕ) (job : Job) (s : SystemState) (status : Status) → Here h i job s → IsUnderWay (s.job i).client.stage → (s.job i).session.transfer ≡ Streaming → (device_for s i).holder ≡ Some i → read_status_of (make_for s i) (device_for s i).options ≡ Some status → Happened h w i (DataTurn i) → IsNamed h w i job status
 named_by h w i job s status e on streams held reads turn =
-    let streamed = streaming i (make_for s i) (s.job i) (device_for s i) (s.job i).client.stage on (e.sound.talks i) streams in
+    let streamed = streaming i (make_for s i) (s.job i) (device_for s i) (s.job i).client.stage on (e.sound.exchanges i) streams in
     (turn, scans_so job.task (subst (λ (j : RuledJob). Scans j.task) e.is streamed.1), told_by h i job s status e.own_job e.fine e.is held streamed.0 reads)
 
 evid : (h : History) (w : WorldCore) (i : ℕ) (job : Job) (s : SystemState) (x : Action) → Here h i job s → IsUnderWay (s.job i).client.stage → own_of h i x → StepSo h w job s (By i x) → IsEnabled s (By i x) → (c : Cause) → Comes i (make_for s i) (s.job i) (device_for s i) x c → Evid h w i job c
-evid h w i job s x e on of so may GaveUp c = let o = of_deed h i x Actions.Stops c of in stops_event (Contains h.events) (infos_of h) i o.event (contains_in h.events o.event o.among) o.is
+evid h w i job s x e on of so may GaveUp c = let o = of_action h i x Actions.Stops c of in stops_event (Contains h.events) (infos_of h) i o.event (contains_in h.events o.event o.among) o.is
 evid h w i job s x e on of so may LinkLost c = link_lost h w job s i x on c so
 evid h w i job s x e on of so may LinkOutOfMemory c = tt
 evid h w i job s x e on of so may WasUnsaid c = subst (HadUnsaidReply h w i) (get_or_from_slice_get h.jobs i job job e.own_job.at) (happened_by h w job s i x (Actions.Breaks false) c so on)
@@ -282,15 +282,15 @@ evid h w i job s x e on of so may (Names status) c = named_by h w i job s status
 evid h w i job s x e on of so may Unforced c = absurd c
 evid h w i job s x e on of so may WasUnlisted c = not_listed h w i job s e on (front_by h w i job s x c.0 on so) c.1 c.2
 evid h w i job s x e on of so may HadNoPicture c =
-    no_meaning_there h w i job s e on (front_by h w i job s x c.0 on so) c.1.0 c.1.1 (starting i (make_for s i) (s.job i) (device_for s i) (s.job i).client.stage c.1.0 on (e.sound.talks i) c.1.1) c.1.2.0 c.1.2.1 c.1.2.2 c.1.2.3 c.2
+    no_meaning_there h w i job s e on (front_by h w i job s x c.0 on so) c.1.0 c.1.1 (starting i (make_for s i) (s.job i) (device_for s i) (s.job i).client.stage c.1.0 on (e.sound.exchanges i) c.1.1) c.1.2.0 c.1.2.1 c.1.2.2 c.1.2.3 c.2
 evid h w i job s x e on of so may WasHeld c = held_by_other h w i job s c.2.0 e on (front_by h w i job s x c.0 on so) c.1 c.2.1 c.2.2
 evid h w i job s x e on of so may Disallowed c = not_allowed h w i job s e on (served_by_step i (make_for s i) (s.job i) (device_for s i) x c.0 may) (front_by h w i job s x c.0 on so) c.1 c.2.0 c.2.1 c.2.2
 evid h w i job s x e on of so may TrayWasEmpty c =
     let p = s.job i in
-    let rests = first_rests i (make_for s i) p (device_for s i) p.client.stage (e.sound.talks i) on c.1 in
-    let ready = starts_ready i (make_for s i) p (device_for s i) p.client.stage c.1.0 on (e.sound.talks i) c.1.1 rests in
+    let rests = first_rests i (make_for s i) p (device_for s i) p.client.stage (e.sound.exchanges i) on c.1 in
+    let ready = starts_ready i (make_for s i) p (device_for s i) p.client.stage c.1.0 on (e.sound.exchanges i) c.1.1 rests in
     let none : length p.client.pages ≡ 0 = sym (as_many (make_for s i) p.session.job.settings p.session.started p.client.pages ready.0.pictures) ∙ none_begun p.session.started c.1.3 in
-    subst (HadNoPage h w i job) none (no_page h w i job s e on (front_by h w i job s x c.0 on so) c.1.0 c.1.1 rests (empty_there i (make_for s i) p (device_for s i) p.client.stage (e.sound.talks i) on c.1))
+    subst (HadNoPage h w i job) none (no_page h w i job s e on (front_by h w i job s x c.0 on so) c.1.0 c.1.1 rests (empty_there i (make_for s i) p (device_for s i) p.client.stage (e.sound.exchanges i) on c.1))
 evid h w i job s x e on of so may TrayRanOut c = tt
 evid h w i job s x e on of so may ClientOutOfMemory c = happened_by h w job s i x Actions.RunsOutOfMemory c so on
 
@@ -335,7 +335,7 @@ judge_all : (h : History) (w : WorldCore) (i : ℕ) (job : Job) (s : SystemState
 judge_all h w i job s Idle at e a = a
 judge_all h w i job s (Running g) at e a = a
 judge_all h w i job s Done at e a = tt
-judge_all h w i job s (Ended status why) at e a = caused h w i job s status why e a (subst (λ (st : JobStage). StageInvariant i (make_for s i) (s.job i) (device_for s i) st) at (e.sound.talks i))
+judge_all h w i job s (Ended status why) at e a = caused h w i job s status why e a (subst (λ (st : JobStage). StageInvariant i (make_for s i) (s.job i) (device_for s i) st) at (e.sound.exchanges i))
 
 met_then : CausesAreGrounded → (h : History) (w : WorldCore) (i : ℕ) (job : Job) (s : SystemState) (x : Action) → Here h i job s → IsUnderWay (s.job i).client.stage → own_of h i x → StepSo h w job s (By i x) → IsEnabled s (By i x) → AllByRecursion (Evid h w i job) (s.job i).session.met → AllByRecursion (Evid h w i job) ((after_transition s (By i x)).job i).session.met
 met_then so h w i job s x e on of step legal a =

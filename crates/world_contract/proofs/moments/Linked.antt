@@ -15,7 +15,7 @@ use Rattle.scan_job.specs.declared.outcome.Outcome.{Outcome}
 use Rattle.scan_job.specs.declared.outcome.Outcome.TheVariants.{Running, Done, Ended}
 use Rattle.scan_job.specs.declared.outcome.Why.TheVariants as whys
 use Rattle.system_model.specs.AbstractDevices.{AbstractDevice}
-use Rattle.system_model.specs.Client as rules
+use Rattle.system_model.specs.Client as model
 use Rattle.system_model.specs.Client.{JobStage}
 use Rattle.system_model.specs.Devices.{Make}
 use Rattle.system_model.specs.Invariants.{StageInvariant}
@@ -225,13 +225,13 @@ joined_by (e ∷ es) w v i (u, leads, rest) (suc k, low, same) runs = joined_by 
 
 -- ---- its link stands
 
-linked_stage : (i : ℕ) (k : Make) (p : JobState) (dev : AbstractDevice) (stage : JobStage) → StageInvariant i k p dev stage → IsUnderWay stage → (stage ≡ rules.Idle → ⊥) → p.linked ≡ true
-linked_stage i k p dev rules.Idle inv on other = absurd (other refl)
-linked_stage i k p dev (rules.Running g) (inl r) on other = r.linked
-linked_stage i k p dev (rules.Running g) (inr (inl r)) on other = r.linked
-linked_stage i k p dev (rules.Running g) (inr (inr r)) on other = r.linked
-linked_stage i k p dev rules.Done inv on other = absurd on
-linked_stage i k p dev (rules.Ended status why) inv on other = absurd on
+linked_stage : (i : ℕ) (k : Make) (p : JobState) (dev : AbstractDevice) (stage : JobStage) → StageInvariant i k p dev stage → IsUnderWay stage → (stage ≡ model.Idle → ⊥) → p.linked ≡ true
+linked_stage i k p dev model.Idle inv on other = absurd (other refl)
+linked_stage i k p dev (model.Running g) (inl r) on other = r.linked
+linked_stage i k p dev (model.Running g) (inr (inl r)) on other = r.linked
+linked_stage i k p dev (model.Running g) (inr (inr r)) on other = r.linked
+linked_stage i k p dev model.Done inv on other = absurd on
+linked_stage i k p dev (model.Ended status why) inv on other = absurd on
 
 some_link : (o : Option SessionId) → is_some o ≡ true → (id : SessionId) × (o ≡ Some id)
 some_link None e = absurd (let clash : false ≡ true = e in cc)
@@ -243,7 +243,7 @@ link_there all h w job i l p at runs was =
     let u = k.run.ghost_then in
     let e = k.run.stands.endpoints i p at in
     let on : IsUnderWay (u.system.job i).client.stage = subst (IsOutcome u i) runs (k.promises.outcomes i p at) in
-    let linked = linked_stage i (make_for u.system i) (u.system.job i) (device_for u.system i) (u.system.job i).client.stage (k.run.stands.sound.talks i) on (λ idle. (let clash : true ≡ false = sym was ∙ e.talks.idle idle in cc)) in
+    let linked = linked_stage i (make_for u.system i) (u.system.job i) (device_for u.system i) (u.system.job i).client.stage (k.run.stands.sound.exchanges i) on (λ idle. (let clash : true ≡ false = sym was ∙ e.exchanges.idle idle in cc)) in
     some_link p.link (sym e.means.linked ∙ linked)
 
 -- ---- the loss

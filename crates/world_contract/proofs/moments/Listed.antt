@@ -17,7 +17,7 @@ use Rattle.system_model.specs.AbstractDevices.{AbstractDevice}
 use Rattle.system_model.specs.AbstractSessions.{AbstractSession}
 use Rattle.system_model.specs.Actions
 use Rattle.system_model.specs.Actions.{Action, answer_next, environment_of, first_noted, job_after_action, served_by}
-use Rattle.system_model.specs.Client as rules
+use Rattle.system_model.specs.Client as model
 use Rattle.system_model.specs.Client.{ClientView, JobStage}
 use Rattle.system_model.specs.Daemon.{FailureCounts}
 use Rattle.system_model.specs.Devices.{Make}
@@ -140,7 +140,7 @@ shown_on notes h w job i s x sound may so on known ds is = elim (shown_by i (mak
     | inl none ↦
         let front : Front h w job s i = (a.1, (subst (λ (y : Action). AnsweredSo h w job s (By i y)) a.2 so) on) in
         let served : (s.job i).served ≡ true = (subst (λ (y : Action). IsEnabled s (By i y)) a.2 may).0 in
-        let linked = linked_by i (make_for s i) (s.job i) (device_for s i) (s.job i).client.stage (sound.talks i) on served in
+        let linked = linked_by i (make_for s i) (s.job i) (device_for s i) (s.job i).client.stage (sound.exchanges i) on served in
         let shows : (job_after_action i (make_for s i) (listed_devices s) (s.job i) (device_for s i) (Actions.Answers a.0 a.1)).session.shown ≡ Some ds =
         subst (λ (y : Action). (job_after_action i (make_for s i) (listed_devices s) (s.job i) (device_for s i) y).session.shown ≡ Some ds) a.2 (sym (ap (λ (q : JobState). q.session.shown) (own_party s i x)) ∙ is) in
         let asked = next_asked i (make_for s i) (listed_devices s) (s.job i) (device_for s i) a.0 a.1 (s.job i).todo ds refl none shows in
@@ -159,31 +159,31 @@ shown_over h w i s x old is known ds now =
 -- ---- all steps
 
 abbrev KnownIn : History → WorldCore → ℕ → Option (List ℕ) → JobStage → Type 0
-KnownIn h w i shown rules.Idle = (ds : List ℕ) → shown ≡ Some ds → ListedAt h w i ds
-KnownIn h w i shown (rules.Running g) = (ds : List ℕ) → shown ≡ Some ds → ListedAt h w i ds
-KnownIn h w i shown rules.Done = (ds : List ℕ) → shown ≡ Some ds → ListedAt h w i ds
-KnownIn h w i shown (rules.Ended status why) = Unit {0}
+KnownIn h w i shown model.Idle = (ds : List ℕ) → shown ≡ Some ds → ListedAt h w i ds
+KnownIn h w i shown (model.Running g) = (ds : List ℕ) → shown ≡ Some ds → ListedAt h w i ds
+KnownIn h w i shown model.Done = (ds : List ℕ) → shown ≡ Some ds → ListedAt h w i ds
+KnownIn h w i shown (model.Ended status why) = Unit {0}
 
 abbrev Known : History → WorldCore → ℕ → SystemState → JobStage → Type 0
 Known h w i s stage = KnownIn h w i (s.job i).session.shown stage
 
 known_all : (h : History) (w : WorldCore) (i : ℕ) (s : SystemState) (stage : JobStage) → ShownBy h w i s → Known h w i s stage
-known_all h w i s rules.Idle k = k
-known_all h w i s (rules.Running g) k = k
-known_all h w i s rules.Done k = k
-known_all h w i s (rules.Ended status why) k = tt
+known_all h w i s model.Idle k = k
+known_all h w i s (model.Running g) k = k
+known_all h w i s model.Done k = k
+known_all h w i s (model.Ended status why) k = tt
 
 abbrev Lists : SystemState → ℕ → Type 0
-Lists s i = (s.job i).session.job.task ≡ rules.List_
+Lists s i = (s.job i).session.job.task ≡ model.List_
 
 own_step : NotesAreTrue → OutcomesLast → (h : History) (w : WorldCore) (job : Job) (i : ℕ) (s : SystemState) (x : Action) (stage : JobStage) → (s.job i).client.stage ≡ stage → Invariant s → IsEnabled s (By i x) → AnsweredSo h w job s (By i x) → Lists s i → Known h w i s stage → Known h w i (after_transition s (By i x)) ((after_transition s (By i x)).job i).client.stage
-own_step notes last h w job i s x rules.Idle at sound may so lists known = known_all h w i (after_transition s (By i x)) _ (shown_on notes h w job i s x sound may so (subst IsUnderWay (sym at) tt) known)
-own_step notes last h w job i s x (rules.Running g) at sound may so lists known = known_all h w i (after_transition s (By i x)) _ (shown_on notes h w job i s x sound may so (subst IsUnderWay (sym at) tt) known)
-own_step notes last h w job i s x rules.Done at sound may so lists known =
-    let inv : IsRightlyDone (make_for s i) (s.job i).session (s.job i).client (s.job i).session.job.task = subst (StageInvariant i (make_for s i) (s.job i) (device_for s i)) at (sound.talks i) in
+own_step notes last h w job i s x model.Idle at sound may so lists known = known_all h w i (after_transition s (By i x)) _ (shown_on notes h w job i s x sound may so (subst IsUnderWay (sym at) tt) known)
+own_step notes last h w job i s x (model.Running g) at sound may so lists known = known_all h w i (after_transition s (By i x)) _ (shown_on notes h w job i s x sound may so (subst IsUnderWay (sym at) tt) known)
+own_step notes last h w job i s x model.Done at sound may so lists known =
+    let inv : IsRightlyDone (make_for s i) (s.job i).session (s.job i).client (s.job i).session.job.task = subst (StageInvariant i (make_for s i) (s.job i) (device_for s i)) at (sound.exchanges i) in
     let shown : (s.job i).session.shown ≡ Some (s.job i).client.devices = subst (IsRightlyDone (make_for s i) (s.job i).session (s.job i).client) lists inv in
     known_all h w i (after_transition s (By i x)) _ (shown_over h w i s x (s.job i).client.devices shown known)
-own_step notes last h w job i s x (rules.Ended status why) at sound may so lists known =
+own_step notes last h w job i s x (model.Ended status why) at sound may so lists known =
     let off : IsUnderWay (s.job i).client.stage → ⊥ = λ on. subst IsUnderWay at on in
     subst (Known h w i (after_transition s (By i x))) (sym (ap (λ (m : ClientView). m.stage) (last s i x may off) ∙ at)) tt
 

@@ -142,7 +142,7 @@ spent_by s j challenge fault one =
     ap (λ (q : JobState). q.todo) (own_party s j (Actions.Answers challenge fault)) ∙ next_todo j (make_for s j) (listed_devices s) p (device_for s j) challenge fault p.todo refl one
 
 few_left : (s : SystemState) (j : ℕ) → Invariant s → IsUnderWay (s.job j).client.stage → without_first (s.job j).todo ≡ []
-few_left s j sound on = few j (make_for s j) (s.job j) (device_for s j) (s.job j).client.stage (sound.talks j) on
+few_left s j sound on = few j (make_for s j) (s.job j) (device_for s j) (s.job j).client.stage (sound.exchanges j) on
 
 answered : (s : SystemState) (j : ℕ) (challenge : Challenge) (fault : Option FailureCounts) → Invariant s → IsUnderWay ((after_transition s (By j (Actions.Answers challenge fault))).job j).client.stage → ((after_transition s (By j (Actions.Answers challenge fault))).job j).todo ≡ []
 answered s j challenge fault sound on =

@@ -80,10 +80,10 @@ other_at f k n x slots true e keeps off more =
     here ∙ sym (gone_by n x slots (λ new is same. off (sym same ∙ (let both : Some new ≡ Some s.0 = sym is ∙ s.1 in let one : new ≡ s.0 = cc in ap (λ (y : Slot). y.number) one ∙ s.2))))
 other_at f k n x slots false e keeps off more = cons_same n x (on_session_slot f k slots) slots more
 
-other_seat : (f : Slot → Option Slot) (k n : ℕ) (slots : Slots) → KeepsNumber f → n ≢ k → session_slot_of (on_session_slot f k slots) n ≡ session_slot_of slots n
+other_slot : (f : Slot → Option Slot) (k n : ℕ) (slots : Slots) → KeepsNumber f → n ≢ k → session_slot_of (on_session_slot f k slots) n ≡ session_slot_of slots n
 unfolding on_session_slot
-other_seat f k n [] keeps off = refl
-other_seat f k n (x ∷ slots) keeps off = other_at f k n x slots (is_slot_number k x) refl keeps off (other_seat f k n slots keeps off)
+other_slot f k n [] keeps off = refl
+other_slot f k n (x ∷ slots) keeps off = other_at f k n x slots (is_slot_number k x) refl keeps off (other_slot f k n slots keeps off)
 
 opened_other : (slots : Slots) (new : Slot) (m : ℕ) → new.number ≢ m → session_slot_of (with_session_slot slots new) m ≡ session_slot_of slots m
 unfolding session_slot_of with_session_slot
@@ -123,10 +123,10 @@ connects_kept port false d p e q h n low = ap (λ (x : Core). session_slot_of x.
 
 turned_kept : (o : Option (Session DeviceState)) (k n : ℕ) (old : Slots) (step : DataStep) (new : Slots) (buf : List ℕ) → TurnsSessions o k old step new buf → n ≢ k → session_slot_of new n ≡ session_slot_of old n
 turned_kept None k n old step new buf h off = ap (λ (x : Slots). session_slot_of x n) h.1
-turned_kept (Some s) k n old step new buf h off = ap (λ (x : Slots). session_slot_of x n) h.2 ∙ other_seat (with_session h.0) k n old (with_number h.0) off
+turned_kept (Some s) k n old step new buf h off = ap (λ (x : Slots). session_slot_of x n) h.2 ∙ other_slot (with_session h.0) k n old (with_number h.0) off
 
 lost_kept : (k n : ℕ) (d : Core) → n ≢ k → Kept d (image_lost k d) n
-lost_kept k n d off = other_seat (on_session after_lost) k n d.slots (on_number after_lost) off
+lost_kept k n d off = other_slot (on_session after_lost) k n d.slots (on_number after_lost) off
 
 record_kept : (k : ℕ) (bytes : List ℕ) (last : Bool) (d : Core) (p : Endpoint) (e : Core) (q : Endpoint) → SendsRecord k bytes last d p e q → (n : ℕ) → n ≢ k → Kept d e n
 record_kept k bytes last d p e q (inl (image, at, same, is)) n off = ap (λ (x : Core). session_slot_of x.slots n) same
@@ -140,11 +140,11 @@ step_kept k (turns.Last m) buf d p e q h n off = record_kept k _ true d p e q h 
 does_kept : (d : Core) (p : Endpoint) (x : JobEvent) (e : Core) (q : Endpoint) → Does d p x e q → (n : ℕ) → ((id : SessionId) → p.link ≡ Some id → n ≢ id.number) → n < d.opened → Kept d e n
 does_kept d p Connect e q h n off low = connects_kept h.0 (is_closed d) d p e q h.1 n low
 does_kept d p (ToDaemon m) e q h n off low = by_link p.link _ h (λ id is it. it.1.others.slots n (off id is))
-does_kept d p (ToClient m) e q h n off low = by_link p.link _ h (λ id is it. ap (λ (x : Core). session_slot_of x.slots n) it.0 ∙ other_seat _ id.number n d.slots (taken_number _) (off id is))
-does_kept d p DataConnect e q h n off low = by_link p.link _ h (λ id is it. ap (λ (x : Core). session_slot_of x.slots n) it.0 ∙ other_seat (on_session after_connected) id.number n d.slots (on_number after_connected) (off id is))
+does_kept d p (ToClient m) e q h n off low = by_link p.link _ h (λ id is it. ap (λ (x : Core). session_slot_of x.slots n) it.0 ∙ other_slot _ id.number n d.slots (taken_number _) (off id is))
+does_kept d p DataConnect e q h n off low = by_link p.link _ h (λ id is it. ap (λ (x : Core). session_slot_of x.slots n) it.0 ∙ other_slot (on_session after_connected) id.number n d.slots (on_number after_connected) (off id is))
 does_kept d p DataTurn e q h n off low = by_link p.link _ h (λ id is it. step_kept id.number it.step it.buf it.mid p e q it.sends n (off id is) ∙ turned_kept _ id.number n d.slots it.step it.mid.slots it.buf it.turns.slots (off id is))
 does_kept d p (DataToClient m) e q h n off low = ap (λ (x : Core). session_slot_of x.slots n) h.0
-does_kept d p LoseControl e q h n off low = by_link p.link _ h (λ id is it. ap (λ (x : Core). session_slot_of x.slots n) it.0 ∙ other_seat no_more id.number n d.slots none_number (off id is))
+does_kept d p LoseControl e q h n off low = by_link p.link _ h (λ id is it. ap (λ (x : Core). session_slot_of x.slots n) it.0 ∙ other_slot no_more id.number n d.slots none_number (off id is))
 does_kept d p LoseImage e q h n off low = by_link p.link _ h (λ id is it. ap (λ (x : Core). session_slot_of x.slots n) it.0 ∙ lost_kept id.number n d (off id is))
 does_kept d p Cancel e q h n off low = ap (λ (x : Core). session_slot_of x.slots n) h.0
 

@@ -33,7 +33,7 @@ use Rattle.world_contract.proofs.moments.Others.{decide, stays_at, still_has}
 use Rattle.world_contract.proofs.moments.Stands.{one_lease}
 use Rattle.world_contract.proofs.moments.Reading.{reads_stay}
 use Rattle.saned_requests.specs.declared.session.DataPhase.{DataPhase}
-use Rattle.daemon_refines.proofs.Cores.{own_seat}
+use Rattle.daemon_refines.proofs.Cores.{own_slot}
 use Rattle.world_refines.specs.GhostStates.{Ghost}
 use Rattle.device_api.specs.State.Phase.{AtRest, Between, Reading}
 use Rattle.saned_core.specs.declared.session_slot.DataStep.TheVariants as turns
@@ -136,11 +136,11 @@ stream_stay streams.Ending s step t buf h = held_stay s t (ap (λ (x : Session D
 
 -- ---- a slot
 
-pub seat_session : (f : Slot → Option Slot) (k : ℕ) (slots : Slots) (o : Option Slot) (s t : Session DeviceState) → session_slot_of slots k ≡ o → session_in o ≡ Some s → ((slot : Slot) → slot.session ≡ Some s → (new : Slot) × (f slot ≡ Some new) × (new.number ≡ slot.number) × (new.session ≡ Some t)) → session_in (session_slot_of (on_session_slot f k slots) k) ≡ Some t
-seat_session f k slots None s t at is becomes = absurd (let clash : None ≡ Some s = is in cc)
-seat_session f k slots (Some slot) s t at is becomes =
+pub slot_session : (f : Slot → Option Slot) (k : ℕ) (slots : Slots) (o : Option Slot) (s t : Session DeviceState) → session_slot_of slots k ≡ o → session_in o ≡ Some s → ((slot : Slot) → slot.session ≡ Some s → (new : Slot) × (f slot ≡ Some new) × (new.number ≡ slot.number) × (new.session ≡ Some t)) → session_in (session_slot_of (on_session_slot f k slots) k) ≡ Some t
+slot_session f k slots None s t at is becomes = absurd (let clash : None ≡ Some s = is in cc)
+slot_session f k slots (Some slot) s t at is becomes =
     let n = becomes slot is in
-    ap session_in (own_seat f k slots slot n.0 at n.1 n.2) ∙ n.3
+    ap session_in (own_slot f k slots slot n.0 at n.1 n.2) ∙ n.3
 
 taken_some : (count : ℕ) (slot : Slot) (s : Session DeviceState) → slot.session ≡ Some s → (new : Slot) × (after_taken count slot ≡ Some new) × (new.number ≡ slot.number) × (new.session ≡ Some s)
 taken_some count slot s is = (after_reply_bytes count slot, ap (λ (o : Option (Session DeviceState)). slot_if_open o (after_reply_bytes count slot).replies (after_reply_bytes count slot)) is, refl, is)
@@ -153,7 +153,7 @@ abbrev Goes_on : Core → Endpoint → SessionId → Session DeviceState → Typ
 Goes_on e q id s = (q.link ≡ None) ⊎ ((t : Session DeviceState) × (q.link ≡ Some id) × (session_of e id.number ≡ Some t) × PagesStay s t)
 
 lost_on : (d : Core) (q : Endpoint) (id : SessionId) (s : Session DeviceState) → q.link ≡ Some id → session_of d id.number ≡ Some s → (t : Session DeviceState) × (q.link ≡ Some id) × (session_of (image_lost id.number d) id.number ≡ Some t) × PagesStay s t
-lost_on d q id s link is = (after_lost s, link, seat_session (on_session after_lost) id.number d.slots (session_slot_of d.slots id.number) s (after_lost s) refl is (λ slot there. on_some after_lost slot s there), lost_stay s.transfer s)
+lost_on d q id s link is = (after_lost s, link, slot_session (on_session after_lost) id.number d.slots (session_slot_of d.slots id.number) s (after_lost s) refl is (λ slot there. on_some after_lost slot s there), lost_stay s.transfer s)
 
 -- ---- what comes to its own job, but for requests
 
@@ -162,7 +162,7 @@ turned_on None k old step new buf s is at h = absurd (let clash : None ≡ Some 
 turned_on (Some r) k old step new buf s is at h =
     let one : r ≡ s = unsome r s is in
     let stays : PagesStay r h.0 = stream_stay r.transfer r step h.0 buf h.1 in
-    (h.0, ap (λ (x : Slots). session_in (session_slot_of x k)) h.2 ∙ seat_session (with_session h.0) k old (session_slot_of old k) s h.0 refl at (λ slot there. (record slot { session = Some h.0 }, refl, refl, refl)), subst (λ (x : Session DeviceState). PagesStay x h.0) one stays)
+    (h.0, ap (λ (x : Slots). session_in (session_slot_of x k)) h.2 ∙ slot_session (with_session h.0) k old (session_slot_of old k) s h.0 refl at (λ slot there. (record slot { session = Some h.0 }, refl, refl, refl)), subst (λ (x : Session DeviceState). PagesStay x h.0) one stays)
 
 record_on : (bytes : List ℕ) (last : Bool) (d : Core) (p : Endpoint) (e : Core) (q : Endpoint) (id : SessionId) (s : Session DeviceState) → SendsRecord id.number bytes last d p e q → p.link ≡ Some id → session_of d id.number ≡ Some s → (t : Session DeviceState) × (q.link ≡ Some id) × (session_of e id.number ≡ Some t) × PagesStay s t
 record_on bytes last d p e q id s (inl (image, at, same, is)) link there = (s, ap (λ (x : Endpoint). x.link) is ∙ link, ap (λ (x : Core). session_of x id.number) same ∙ there, held_stay s s refl)
@@ -183,10 +183,10 @@ does_on d p Connect e q h not_asked not_made id link s there = absurd (not_made 
 does_on d p (ToDaemon n) e q h not_asked not_made id link s there = absurd (not_asked n refl)
 does_on d p (ToClient n) e q h not_asked not_made id link s there =
     let it = linked_as p.link _ id link h in
-    inr (s, heeds_link _ (after_move p) q (is_running p.client.outcome) refl it.1 ∙ link, ap (λ (x : Core). session_of x id.number) it.0 ∙ seat_session _ id.number d.slots (session_slot_of d.slots id.number) s s refl there (λ slot is. taken_some _ slot s is), held_stay s s refl)
+    inr (s, heeds_link _ (after_move p) q (is_running p.client.outcome) refl it.1 ∙ link, ap (λ (x : Core). session_of x id.number) it.0 ∙ slot_session _ id.number d.slots (session_slot_of d.slots id.number) s s refl there (λ slot is. taken_some _ slot s is), held_stay s s refl)
 does_on d p DataConnect e q h not_asked not_made id link s there =
     let it = linked_as p.link _ id link h in
-    inr (after_connected s, ap (λ (x : Endpoint). x.link) it.1 ∙ link, ap (λ (x : Core). session_of x id.number) it.0 ∙ seat_session (on_session after_connected) id.number d.slots (session_slot_of d.slots id.number) s (after_connected s) refl there (λ slot is. on_some after_connected slot s is), held_stay s (after_connected s) refl)
+    inr (after_connected s, ap (λ (x : Endpoint). x.link) it.1 ∙ link, ap (λ (x : Core). session_of x id.number) it.0 ∙ slot_session (on_session after_connected) id.number d.slots (session_slot_of d.slots id.number) s (after_connected s) refl there (λ slot is. on_some after_connected slot s is), held_stay s (after_connected s) refl)
 does_on d p DataTurn e q h not_asked not_made id link s there =
     let it = linked_as p.link _ id link h in
     let a = turned_on (session_of d id.number) id.number d.slots it.step it.mid.slots it.buf s there there it.turns.slots in

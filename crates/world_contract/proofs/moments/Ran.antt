@@ -14,7 +14,7 @@ use Rattle.scan_job.specs.declared.job.Job.{Job}
 use Rattle.scan_job.specs.declared.outcome.Outcome.{Outcome}
 use Rattle.scan_job.specs.declared.outcome.Outcome.TheVariants as outcomes
 use Rattle.system_model.specs.Actions.{Action}
-use Rattle.system_model.specs.Client as rules
+use Rattle.system_model.specs.Client as model
 use Rattle.system_model.specs.Client.{ClientView, JobStage, Idle, Running, Done, Ended}
 use Rattle.system_model.specs.ModelPromises.{OutcomesLast}
 use Rattle.system_model.specs.SystemStates.{JobState, SystemState}
@@ -44,14 +44,14 @@ woken_on (Running g) m e on = subst IsUnderWay (sym e) tt
 woken_on Done m e on = absurd on
 woken_on (Ended status why) m e on = absurd on
 
-runs_by : (place : DeviceInfo → ℕ) (target : JobTarget) (job : rules.AbstractJob) (pages : List (List Frame)) (o : Outcome) (progress : Progress) (notes : Notes) (past : JoinHistory) (m : ClientView) → IsUnderWay m.stage → OutcomeRefines place target job pages o progress notes past m → o ≡ outcomes.Running
+runs_by : (place : DeviceInfo → ℕ) (target : JobTarget) (job : model.AbstractJob) (pages : List (List Frame)) (o : Outcome) (progress : Progress) (notes : Notes) (past : JoinHistory) (m : ClientView) → IsUnderWay m.stage → OutcomeRefines place target job pages o progress notes past m → o ≡ outcomes.Running
 runs_by place target job pages outcomes.Running progress notes past m on h = refl
 runs_by place target job pages (outcomes.Done reports) progress notes past m on h = absurd (subst IsUnderWay h.stage on)
 runs_by place target job pages (outcomes.Ended status why) progress notes past m on h = absurd (subst IsUnderWay h.1.1 on)
 
 pub runs_there : (t : Ghost) (w : WorldCore) (i : ℕ) (p : Endpoint) → WorldRefines t w → slice_get w.endpoints i ≡ Some p → IsUnderWay (t.system.job i).client.stage → RunsAt w i
 runs_there t w i p h at on =
-    let reads = (h.endpoints i p at).talks.reads in
+    let reads = (h.endpoints i p at).exchanges.reads in
     let me = t.system.job i in
     (p, at, runs_by (place_of_info t.infos) (target_of (t.jobs i)) me.session.job (map (λ (q : JoinHistory). q.ended) (t.pages i)) p.client.outcome p.client.progress p.client.notes (t.history i) (client_at_greeting me.client.stage me.client) (woken_on me.client.stage me.client refl on) reads.stands)
 

@@ -8,7 +8,7 @@ use Rattle.sane_fixed.specs.declared.device_info.DeviceInfo.{DeviceInfo}
 use Rattle.data_records.specs.Records.{end_record}
 use Rattle.page_picture.specs.SourceView.{source_state}
 use Rattle.daemon_refines.proofs.Moved.{own}
-use Rattle.system_model.specs.Actions as deeds
+use Rattle.system_model.specs.Actions as model_actions
 use Rattle.system_model.specs.SystemStates.{with_entry}
 use Rattle.system_model.specs.Transitions.{By, Transition}
 use Rattle.scan_world.specs.declared.endpoint.Endpoint.{Endpoint}
@@ -29,7 +29,7 @@ use Rattle.world_contract.proofs.Traced.{StepOf, comes_of}
 
 -- where a source fails in the step, its end came
 abbrev pub FaultSends : WorldCore → WorldCore → Transition → Type 0
-FaultSends before behind (By i (deeds.TurnsFault fault)) = SendsOrLoses before behind i
+FaultSends before behind (By i (model_actions.TurnsFault fault)) = SendsOrLoses before behind i
 FaultSends before behind x = Unit {0}
 
 abbrev pub AllSend : WorldCore → WorldCore → List Transition → Type 0
@@ -42,7 +42,7 @@ IsNoTurn (DataTurn i) = ⊥
 IsNoTurn e = Unit {0}
 
 no_fault : (infos : List DeviceInfo) (before behind : WorldCore) (e : Event) → IsNoTurn e → (x : Transition) → StepOf infos e x → FaultSends before behind x
-no_fault infos before behind e none (By i (deeds.TurnsFault fault)) of = absurd (fault_event IsNoTurn infos i fault e none of)
+no_fault infos before behind e none (By i (model_actions.TurnsFault fault)) of = absurd (fault_event IsNoTurn infos i fault e none of)
 no_fault infos before behind e none x of = tt
 
 -- ---- the bytes on the way
@@ -62,24 +62,24 @@ some_image (Some sent) h = (sent, refl)
 own_wires : (t g : Ghost) (i : ℕ) (x : Wires) → g.wires ≡ with_entry t.wires i x → g.wires i ≡ x
 own_wires t g i x e = ap (λ (f : ℕ → Wires). f i) e ∙ ap (λ (b : Bool). cond b x (t.wires i)) (own i)
 
-sends_end : (t g : Ghost) (before behind : WorldCore) (i : ℕ) (deed : deeds.Action) (text : List ℕ) (steps : List Transition) → WorldRefines t before → WorldRefines g behind → IsSome (wires t i).image → text ≡ end_record (status_code codes.IoError) → GhostSends t i deed text steps g → SendsOrLoses before behind i
-sends_end t g before behind i deed text steps h k some ends (inl s) =
+sends_end : (t g : Ghost) (before behind : WorldCore) (i : ℕ) (this_action : model_actions.Action) (text : List ℕ) (steps : List Transition) → WorldRefines t before → WorldRefines g behind → IsSome (wires t i).image → text ≡ end_record (status_code codes.IoError) → GhostSends t i this_action text steps g → SendsOrLoses before behind i
+sends_end t g before behind i this_action text steps h k some ends (inl s) =
     let im = some_image (t.wires i).image some in
     let now : (g.wires i).image ≡ Some (im.0 ++ text) = ap (λ (x : Wires). x.image) (own_wires t g i (with_record text (wires t i)) (ap (λ (u : Ghost). u.wires) s.1.then_is)) ∙ ap (option_map (λ (bytes : List ℕ). bytes ++ text)) im.1 in
     (im.0, image_is t before i h ∙ im.1, inl (image_is g behind i k ∙ (now ∙ ap (λ (x : List ℕ). Some (im.0 ++ x)) ends)))
-sends_end t g before behind i deed text steps h k some ends (inr s) =
+sends_end t g before behind i this_action text steps h k some ends (inr s) =
     let im = some_image (t.wires i).image some in
     let now : (g.wires i).image ≡ None = ap (λ (x : Wires). x.image) (own_wires t g i (wires_with_image None (wires t i)) (ap (λ (u : Ghost). u.wires) s.1.then_is)) in
     (im.0, image_is t before i h ∙ im.1, inr (image_is g behind i k ∙ now))
 
 -- of the only record of a turn
-by_record : (t g : Ghost) (before behind : WorldCore) (i : ℕ) (deed : deeds.Action) (text : List ℕ) (steps : List Transition) → WorldRefines t before → WorldRefines g behind → IsSome (wires t i).image → IsRecordOf deed text → GhostSends t i deed text steps g → FaultSends before behind (By i deed)
-by_record t g before behind i (deeds.TurnsFault fault) text steps h k some is s = sends_end t g before behind i (deeds.TurnsFault fault) text steps h k some is s
-by_record t g before behind i deed text steps h k some is s = tt
+by_record : (t g : Ghost) (before behind : WorldCore) (i : ℕ) (this_action : model_actions.Action) (text : List ℕ) (steps : List Transition) → WorldRefines t before → WorldRefines g behind → IsSome (wires t i).image → IsRecordOf this_action text → GhostSends t i this_action text steps g → FaultSends before behind (By i this_action)
+by_record t g before behind i (model_actions.TurnsFault fault) text steps h k some is s = sends_end t g before behind i (model_actions.TurnsFault fault) text steps h k some is s
+by_record t g before behind i this_action text steps h k some is s = tt
 
-all_by : (t g : Ghost) (before behind : WorldCore) (i : ℕ) (deed : deeds.Action) (text : List ℕ) (steps : List Transition) → FaultSends before behind (By i deed) → GhostSends t i deed text steps g → AllSend before behind steps
-all_by t g before behind i deed text steps f (inl s) = subst (AllSend before behind) (sym s.0) (f, tt)
-all_by t g before behind i deed text steps f (inr s) = subst (AllSend before behind) (sym s.0) (f, (tt, tt))
+all_by : (t g : Ghost) (before behind : WorldCore) (i : ℕ) (this_action : model_actions.Action) (text : List ℕ) (steps : List Transition) → FaultSends before behind (By i this_action) → GhostSends t i this_action text steps g → AllSend before behind steps
+all_by t g before behind i this_action text steps f (inl s) = subst (AllSend before behind) (sym s.0) (f, tt)
+all_by t g before behind i this_action text steps f (inr s) = subst (AllSend before behind) (sym s.0) (f, (tt, tt))
 
 by_turn : (t g : Ghost) (before behind : WorldCore) (i : ℕ) (steps : List Transition) → WorldRefines t before → WorldRefines g behind → GhostHappens (GhostCan t i moves.DataTurn) (GhostTurns t i steps g) t steps g → AllSend before behind steps
 by_turn t g before behind i steps h k c = elim c.either [

@@ -43,12 +43,12 @@ pub record StartFact (h : History) (w : WorldCore) (i : ℕ) (job : Job) (count 
 
 start_fact : (h : History) (w : WorldCore) (i : ℕ) (job : Job) (s : SystemState) (begin : Begin) → Here h i job s → IsUnderWay (s.job i).client.stage → Front h w job s i → (rest : List AbstractRequest) → (s.job i).todo ≡ Start ∷ rest → (device_for s i).phase ≡ Resting → (later : List Page) → (device_for s i).tray ≡ begin.page ∷ later → StartFact h w i job (length (s.job i).session.started) begin
 start_fact h w i job s begin e on a rest todo rests later tray =
-    let set = starting i (make_for s i) (s.job i) (device_for s i) (s.job i).client.stage rest on (e.sound.talks i) todo in
+    let set = starting i (make_for s i) (s.job i) (device_for s i) (s.job i).client.stage rest on (e.sound.exchanges i) todo in
     let r = has_there h w i job s i e.own_job e.fine a set.0 in
     let place : wanted_place s i ≡ place_named (infos_of h) job.device = e.fine.places i ∙ own_place h i job e.own_job.at in
     let pages = (subst (AllByRecursion (IsOfDevice h (wanted_place s i))) tray (e.fine.slots (wanted_place s i)).pages).0 in
     let begun : IsBegun h (wanted_place s i) begin = ((e.fine.slots (wanted_place s i)).held i set.0, pages) in
-    let ready = starts_ready i (make_for s i) (s.job i) (device_for s i) (s.job i).client.stage rest on (e.sound.talks i) todo rests in
+    let ready = starts_ready i (make_for s i) (s.job i) (device_for s i) (s.job i).client.stage rest on (e.sound.exchanges i) todo rests in
     let finished : HasFinished a.1.at.before i (length (a.1.ghost.system.job i).session.started) =
     count_at a.1.ghost a.1.at.before i rest (slice_get a.1.at.before.endpoints i) refl a.1.stands
     (ap (λ (u : SystemState). (u.job i).client.stage) a.1.state ∙ ready.1)

@@ -19,10 +19,10 @@ use Rattle.scan_world.specs.Worlds.{WorldCore}
 use Rattle.world_refines.specs.GhostStates.{Ghost, Wires, place_of_info, wired_then}
 use Rattle.world_refines.specs.WorldRefinement.{WiresMatch, IsNobody, IsServed, EndpointRefines, EndpointRefinesAt, WorldRefines, slot_of_link, session_by, AreStartedViews}
 use Rattle.world_refines.specs.GhostEvents.{wires_with_image}
-use Rattle.world_refines.proofs.state.EndpointSlots.{reseats_on}
+use Rattle.world_refines.proofs.state.EndpointSlots.{replaces_on}
 use Rattle.world_refines.proofs.state.CoreCallsKeep.{is_lost, on_core}
 use Rattle.world_refines.proofs.state.Changing.{stands_change}
-use Rattle.world_refines.proofs.job_events.Lost.{IsLost, talks_lost}
+use Rattle.world_refines.proofs.job_events.Lost.{IsLost, exchanges_lost}
 use Rattle.world_refines.proofs.state.Sees.{Leaves}
 use Rattle.world_refines.specs.Speaks.{Speaks}
 use Rattle.world_refines.proofs.state.Held.{held_after_all}
@@ -55,7 +55,7 @@ cut_stands t w i p id h at low link some =
     let served = subst (λ (x : Option SessionId). IsServed i t.system.make w.daemon x me.served t.system.device (session_by i t.system.device me)) link s.served in
     let both = is_lost i t.system.make w.daemon id me.served t.system.device me after h.slots h.faithful s.means.calm refl refl refl served in
     let idle : b ≡ false → IsUnderWay me.client.stage → ⊥ = λ over under.
-    let counts = image_counts place (t.jobs i) (t.history i) (t.pages i) (t.wires i) me p s.talks s.means some under in
+    let counts = image_counts place (t.jobs i) (t.history i) (t.pages i) (t.wires i) me p s.exchanges s.means some under in
     let clash : true ≡ false = sym counts ∙ over in absurd (cc) in
     let job_state = one_party t i (actions.LosesImage true) bytes (t.history i) (t.pages i) in
     stands_change t u w i p q e h at (subst (λ (n : ℕ). i < n) h.is_of.count low) (record {
@@ -66,7 +66,7 @@ cut_stands t w i p id h at low link some =
       shown = shown_after t w steps h;
       sits = sits_there u e i q after bytes (t.history i) (t.pages i) job_state (put_there t.wires i bytes) (put_there t.history i (t.history i)) (put_there t.pages i (t.pages i)) (record {
         job_is = s.job_is;
-        talks = talks_lost place (t.jobs i) (t.history i) (t.pages i) me (without_image me.session LinkOutOfMemory) p q links.Image b refl idle refl (cut_lost p) s.talks after refl refl;
+        exchanges = exchanges_lost place (t.jobs i) (t.history i) (t.pages i) me (without_image me.session LinkOutOfMemory) p q links.Image b refl idle refl (cut_lost p) s.exchanges after refl refl;
         carries = subst (λ (x : Option SessionId). WiresMatch bytes (slot_of_link e x) q) (sym link) (carries_dropped (t.wires i) w.daemon id b p q (cut_lost p) refl (subst (λ (x : Option SessionId). WiresMatch (t.wires i) (slot_of_link w.daemon x) p) link s.carries));
         means = means_dropped place (t.jobs i) (t.wires i) me LinkOutOfMemory p q (λ _. refl) refl refl refl refl s.means;
         served = subst (λ (x : Option SessionId). IsServed i t.system.make e x me.served u.system.device (session_by i u.system.device after)) (sym link) both.1;
@@ -78,7 +78,7 @@ cut_stands t w i p id h at low link some =
         pends = pends_if b p.client (t.wires i) bytes s.pends.asking refl s.pends;
       });
       link = λ x is. inl is;
-      reseats = reseats_on after_lost p.link w.daemon id.number;
+      replaces = replaces_on after_lost p.link w.daemon id.number;
       begun = subst (λ (x : JobState). AreStartedViews t.system.make x) (sym job_state) (h.begun i);
     })
 

@@ -25,7 +25,7 @@ use Rattle.client_replies.specs.ProtocolStates.{HistoryFits, FitsAt, progress_co
 use Rattle.client_replies.specs.ProtocolStates as client
 use Rattle.net_client.specs.ClientStates.{phase_connected, protocol_of}
 use Rattle.system_model.specs.AbstractMessages.{AbstractReply, Status}
-use Rattle.system_model.specs.Client as rules
+use Rattle.system_model.specs.Client as model
 use Rattle.system_model.specs.Client.{Idle, ClientView, JobStage, request_awaited}
 use Rattle.system_model.specs.Daemon.{TransferState, Quiet, Waiting, Streaming, Ending}
 use Rattle.system_model.specs.Actions as actions
@@ -55,7 +55,7 @@ use Rattle.world_refines.specs.WorldRefinement.{WiresMatch, IsServed, KeepsFiles
 use Rattle.world_refines.specs.GhostEvents.{Dials, GhostLeads, wires_with_image}
 use Rattle.world_refines.proofs.state.CoreCallsKeep.{input_on, is_connected, on_core, replies_on}
 use Rattle.world_refines.proofs.state.Changing.{stands_change}
-use Rattle.world_refines.proofs.state.EndpointSlots.{reseats_on}
+use Rattle.world_refines.proofs.state.EndpointSlots.{replaces_on}
 use Rattle.world_refines.proofs.state.Sees.{Leaves}
 use Rattle.world_refines.specs.Speaks.{Speaks}
 use Rattle.world_refines.proofs.state.Held.{held_after_all}
@@ -85,7 +85,7 @@ wants_wanted stages.Turning phase h = absurd (let clash : false ≡ true = h in 
 wants_wanted stages.Over phase h = absurd (let clash : false ≡ true = h in cc)
 
 -- it waits for the data of a frame
-wants_stage : (job : rules.AbstractJob) (progress : Progress) (notes : Notes) (past : JoinHistory) (m : ClientView) → WaitsAs job progress notes past m → IsSome (client.wanted_port progress) → IsImaging m.stage
+wants_stage : (job : model.AbstractJob) (progress : Progress) (notes : Notes) (past : JoinHistory) (m : ClientView) → WaitsAs job progress notes past m → IsSome (client.wanted_port progress) → IsImaging m.stage
 wants_stage job (stages.Imaging port made) notes past m w h = (w.params, w.payload, w.stage)
 wants_stage job stages.Greeting notes past m w h = absurd (let clash : false ≡ true = h in cc)
 wants_stage job stages.Listing notes past m w h = absurd (let clash : false ≡ true = h in cc)
@@ -101,10 +101,10 @@ wants_stage job stages.Turning notes past m w h = absurd (let clash : false ≡ 
 wants_stage job stages.Over notes past m w h = absurd (let clash : false ≡ true = h in cc)
 
 woken_imaging : (st : JobStage) (m : ClientView) → m.stage ≡ st → IsImaging (client_at_greeting st m).stage → IsImaging st
-woken_imaging Idle m e h = absurd (let clash : rules.Running rules.Greeting ≡ rules.Running (rules.Imaging h.0 h.1) = h.2 in cc)
-woken_imaging (rules.Running g) m e h = subst IsImaging e h
-woken_imaging rules.Done m e h = subst IsImaging e h
-woken_imaging (rules.Ended status why) m e h = subst IsImaging e h
+woken_imaging Idle m e h = absurd (let clash : model.Running model.Greeting ≡ model.Running (model.Imaging h.0 h.1) = h.2 in cc)
+woken_imaging (model.Running g) m e h = subst IsImaging e h
+woken_imaging model.Done m e h = subst IsImaging e h
+woken_imaging (model.Ended status why) m e h = subst IsImaging e h
 
 runs_wanted : (o : Outcome) (progress : Progress) → (is_running o ≡ false → progress ≡ stages.Over) → IsSome (client.wanted_port progress) → is_running o ≡ true
 runs_wanted outcomes.Running progress over h = refl
@@ -176,8 +176,8 @@ frame_waits i make core (Some id) device p h e = ap frame_in h.stands ∙ waitin
 
 -- ---- the model
 
-asks_nothing : (g : rules.AbstractProgress) → IsImaging (rules.Running g) → request_awaited g ≡ []
-asks_nothing g h = ap (λ (x : rules.AbstractProgress). request_awaited x) (let same : rules.Running g ≡ rules.Running (rules.Imaging h.0 h.1) = h.2 in let is : g ≡ rules.Imaging h.0 h.1 = cc in is)
+asks_nothing : (g : model.AbstractProgress) → IsImaging (model.Running g) → request_awaited g ≡ []
+asks_nothing g h = ap (λ (x : model.AbstractProgress). request_awaited x) (let same : model.Running g ≡ model.Running (model.Imaging h.0 h.1) = h.2 in let is : g ≡ model.Imaging h.0 h.1 = cc in is)
 
 -- the session of a client that takes data goes on, and nothing is due to it
 pub record IsStill (p : JobState) : Type 0 where
@@ -185,17 +185,17 @@ pub record IsStill (p : JobState) : Type 0 where
   pub due : p.due ≡ []
 
 pub imaging_still : (i : ℕ) (k : Make) (p : JobState) (dev : AbstractDevice) (st : JobStage) → sound.StageInvariant i k p dev st → IsImaging st → IsStill p
-imaging_still i k p dev Idle h is = absurd (let clash : Idle ≡ rules.Running (rules.Imaging is.0 is.1) = is.2 in cc)
-imaging_still i k p dev (rules.Running g) (inl asks) is = record { served = asks.served; due = asks.due }
-imaging_still i k p dev (rules.Running g) (inr (inl told)) is = absurd (told.waits (asks_nothing g is))
-imaging_still i k p dev (rules.Running g) (inr (inr dead)) is = absurd (dead.waits (asks_nothing g is))
-imaging_still i k p dev rules.Done h is = absurd (let clash : rules.Done ≡ rules.Running (rules.Imaging is.0 is.1) = is.2 in cc)
-imaging_still i k p dev (rules.Ended status why) h is = absurd (let clash : rules.Ended status why ≡ rules.Running (rules.Imaging is.0 is.1) = is.2 in cc)
+imaging_still i k p dev Idle h is = absurd (let clash : Idle ≡ model.Running (model.Imaging is.0 is.1) = is.2 in cc)
+imaging_still i k p dev (model.Running g) (inl asks) is = record { served = asks.served; due = asks.due }
+imaging_still i k p dev (model.Running g) (inr (inl told)) is = absurd (told.waits (asks_nothing g is))
+imaging_still i k p dev (model.Running g) (inr (inr dead)) is = absurd (dead.waits (asks_nothing g is))
+imaging_still i k p dev model.Done h is = absurd (let clash : model.Done ≡ model.Running (model.Imaging is.0 is.1) = is.2 in cc)
+imaging_still i k p dev (model.Ended status why) h is = absurd (let clash : model.Ended status why ≡ model.Running (model.Imaging is.0 is.1) = is.2 in cc)
 
 -- what flows to a client that waits for its connection
 flows_waiting : (st : JobStage) (c : TransferState) (progress : Progress) (phase : RecordPhase) (image : Option (List ℕ)) (flight : List ℕ) (ending : Option Status) → IsImaging st → c ≡ Waiting → FlightMatches st c progress phase image flight ending → IsNotDialled progress image flight ending
 flows_waiting st c progress phase image flight ending is e h =
-    subst (λ (x : TransferState). FlightMatches (rules.Running (rules.Imaging is.0 is.1)) x progress phase image flight ending) e (subst (λ (x : JobStage). FlightMatches x c progress phase image flight ending) is.2 h)
+    subst (λ (x : TransferState). FlightMatches (model.Running (model.Imaging is.0 is.1)) x progress phase image flight ending) e (subst (λ (x : JobStage). FlightMatches x c progress phase image flight ending) is.2 h)
 
 -- no bytes carry nothing
 carries_none : (flight : List ℕ) (ending : Option Status) → flight ≡ [] → ending ≡ None → CarriesFlight phases.Head [] flight ending
@@ -214,8 +214,8 @@ told_nothing place progress other due text e h = subst (λ (x : List AbstractRep
 abbrev dials_by : JobState → JobState
 dials_by p = record p { image = true; session = with_transfer p.session Streaming }
 
-talks_dialled : (place : DeviceInfo → ℕ) (job : Job) (past : JoinHistory) (pages : List JoinHistory) (p : JobState) (old : Endpoint) → EndpointClientRefines place job past pages p old → EndpointClientRefines place job past pages (dials_by p) (endpoints.with_image_link (after_move old))
-talks_dialled place job past pages p old h =
+exchanges_dialled : (place : DeviceInfo → ℕ) (job : Job) (past : JoinHistory) (pages : List JoinHistory) (p : JobState) (old : Endpoint) → EndpointClientRefines place job past pages p old → EndpointClientRefines place job past pages (dials_by p) (endpoints.with_image_link (after_move old))
+exchanges_dialled place job past pages p old h =
     let shown : List (List Frame) = map (λ (q : JoinHistory). q.ended) pages in
     record {
       task = h.task;
@@ -274,8 +274,8 @@ dialled_stands t w i p id h at low link some frame =
     let place = place_of_info t.infos in
     let served = subst (λ (x : Option SessionId). IsServed i t.system.make w.daemon x me.served t.system.device (session_by i t.system.device me)) link s.served in
     let waits = waits_by i t.system.make w.daemon id me.served t.system.device me refl served frame in
-    let is = wants_imaging place (t.jobs i) (t.history i) (t.pages i) me p s.talks some in
-    let still = imaging_still i (make_for t.system i) me (device_for t.system i) me.client.stage (h.sound.talks i) is in
+    let is = wants_imaging place (t.jobs i) (t.history i) (t.pages i) me p s.exchanges some in
+    let still = imaging_still i (make_for t.system i) me (device_for t.system i) me.client.stage (h.sound.exchanges i) is in
     let flow = flows_waiting me.client.stage me.session.transfer p.client.progress p.client.phase (t.wires i).image me.session.flight me.session.ending is waits.transfer s.means.flow in
     let bytes : Wires = wires_with_image (Some []) (t.wires i) in
     let steps = By i actions.Dials ∷ [] in
@@ -295,7 +295,7 @@ dialled_stands t w i p id h at low link some frame =
       shown = shown_after t w steps h;
       sits = sits_there u e i q after bytes (t.history i) (t.pages i) job_state (put_there t.wires i bytes) (put_there t.history i (t.history i)) (put_there t.pages i (t.pages i)) (record {
         job_is = s.job_is;
-        talks = talks_dialled place (t.jobs i) (t.history i) (t.pages i) me p s.talks;
+        exchanges = exchanges_dialled place (t.jobs i) (t.history i) (t.pages i) me p s.exchanges;
         carries = subst (λ (x : Option SessionId). WiresMatch bytes (slot_of_link e x) q) (sym link) (carries_dialled (t.wires i) w.daemon id p (subst (λ (x : Option SessionId). WiresMatch (t.wires i) (slot_of_link w.daemon x) p) link s.carries));
         means = means_dialled place (t.jobs i) (t.wires i) me p waits.served still.due is flow s.means;
         served =
@@ -309,7 +309,7 @@ dialled_stands t w i p id h at low link some frame =
         pends = pends_connected p.client.outcome p.client.progress p.client.phase (t.wires i) bytes s.pends.asking refl s.pends;
       });
       link = λ x is. inl is;
-      reseats = reseats_on after_connected p.link w.daemon id.number;
+      replaces = replaces_on after_connected p.link w.daemon id.number;
       begun = subst (λ (x : JobState). AreStartedViews t.system.make x) (sym job_state) (h.begun i);
     }))
 
@@ -333,7 +333,7 @@ may_dial : (t : Ghost) (w : WorldCore) (i : ℕ) (p : Endpoint) → WorldRefines
 may_dial t w i p h at can =
     let s = h.endpoints i p at in
     let me = t.system.job i in
-    let still = imaging_still i (make_for t.system i) me (device_for t.system i) me.client.stage (h.sound.talks i) can.1 in
+    let still = imaging_still i (make_for t.system i) me (device_for t.system i) me.client.stage (h.sound.exchanges i) can.1 in
     let flow = flows_waiting me.client.stage me.session.transfer p.client.progress p.client.phase (t.wires i).image me.session.flight me.session.ending can.1 can.0 s.means.flow in
     (flow.wants, frame_waits i t.system.make w.daemon p.link t.system.device me (subst (λ (x : Bool). IsServed i t.system.make w.daemon p.link x t.system.device (session_by i t.system.device me)) still.served s.served) can.0)
 
@@ -341,7 +341,7 @@ pub dial_decides : DecidesAt events.DataConnect Dials
 dial_decides t w i p h at low =
     record {
       can = λ can. may_dial t w i p h at can;
-      back = λ can. (waits_back p.link refl can.1, wants_imaging (place_of_info t.infos) (t.jobs i) (t.history i) (t.pages i) (t.system.job i) p (h.endpoints i p at).talks can.0);
+      back = λ can. (waits_back p.link refl can.1, wants_imaging (place_of_info t.infos) (t.jobs i) (t.history i) (t.pages i) (t.system.job i) p (h.endpoints i p at).exchanges can.0);
       either = both_or (some_or (client.wanted_port p.client.progress)) (frame_or w.daemon p.link);
       does = λ can e q d. by_link t w i p p.link h at low refl can.0 can.1 e q d;
     }

@@ -15,7 +15,7 @@ use Rattle.client_replies.specs.declared.progress.Progress.TheVariants as stages
 use Rattle.client_replies.specs.ProtocolStates.{HistoryFits, ProtocolState, target_of, is_batch, is_ended, is_running, scans, turns}
 use Rattle.net_client.specs.ClientStates.{ClientRepresents, ClientState, Turns, TurnsPage, protocol_of}
 use Rattle.system_model.specs.AbstractMessages.{Start}
-use Rattle.system_model.specs.Client as rules
+use Rattle.system_model.specs.Client as model
 use Rattle.system_model.specs.Client.{ClientView, further_pages}
 use Rattle.client_refines.specs.ClientRefinement.{ClientRefines, task_of}
 use Rattle.client_refines.specs.RequestRefinement.{asks_of}
@@ -32,7 +32,7 @@ use Rattle.world_refines.specs.WorldRefinement.{IsFinished}
 -- ---- what stands of a client
 
 -- It stands for what its joins were told and gave, and so does the file under way, which is not laid by yet.
-pub record IsTold (place : DeviceInfo → ℕ) (job : Job) (ruled : rules.AbstractJob) (past : JoinHistory) (pages : List JoinHistory) (m : ClientView) (endpoint : Endpoint) : Type 0 where
+pub record IsTold (place : DeviceInfo → ℕ) (job : Job) (ruled : model.AbstractJob) (past : JoinHistory) (pages : List JoinHistory) (m : ClientView) (endpoint : Endpoint) : Type 0 where
   pub task : endpoint.task ≡ job.task
   pub target : endpoint.client.target ≡ target_of job
   pub word : is_running endpoint.client.outcome ≡ true → endpoint.client.notes.word ≡ 0
@@ -56,7 +56,7 @@ awaits_next true progress = stages.Starting true
 awaits_next false progress = progress
 
 -- what is left of an endpoint whose file was pulled
-pub record IsDrained (place : DeviceInfo → ℕ) (job : Job) (ruled : rules.AbstractJob) (was : JoinHistory) (before : List JoinHistory) (m : ClientView) (old new : Endpoint) : Type 0 where
+pub record IsDrained (place : DeviceInfo → ℕ) (job : Job) (ruled : model.AbstractJob) (was : JoinHistory) (before : List JoinHistory) (m : ClientView) (old new : Endpoint) : Type 0 where
   pub history : JoinHistory
   pub pages : List JoinHistory
   -- no page is laid by of a client that waits for no turn
@@ -117,7 +117,7 @@ joined_by (tasks.Batch count) (outcomes.Done reports) progress past s e j (inr b
 
 -- ---- a file that waits for no turn
 
-dry_told : (place : DeviceInfo → ℕ) (job : Job) (ruled : rules.AbstractJob) (past : JoinHistory) (pages : List JoinHistory) (m : ClientView) (old new : Endpoint) → IsTold place job ruled past pages m old → (d : RunsDry past pages old new) → IsTold place job ruled (after_pull d.bytes past) pages m new
+dry_told : (place : DeviceInfo → ℕ) (job : Job) (ruled : model.AbstractJob) (past : JoinHistory) (pages : List JoinHistory) (m : ClientView) (old new : Endpoint) → IsTold place job ruled past pages m old → (d : RunsDry past pages old new) → IsTold place job ruled (after_pull d.bytes past) pages m new
 dry_told place job ruled past pages m old new h d =
     let client = d.given.client in
     let shown : List (List Frame) = map (λ (q : JoinHistory). q.ended) pages in
@@ -136,7 +136,7 @@ dry_told place job ruled past pages m old new h d =
       scanned = λ e joined. h.scanned (sym (ap (λ (v : ClientState). is_done v.outcome) client) ∙ e) joined;
     }
 
-dry_drained : (place : DeviceInfo → ℕ) (job : Job) (ruled : rules.AbstractJob) (past : JoinHistory) (pages : List JoinHistory) (m : ClientView) (old new : Endpoint) → IsTold place job ruled past pages m old → Drains old new → RunsDry past pages old new → IsDrained place job ruled past pages m old new
+dry_drained : (place : DeviceInfo → ℕ) (job : Job) (ruled : model.AbstractJob) (past : JoinHistory) (pages : List JoinHistory) (m : ClientView) (old new : Endpoint) → IsTold place job ruled past pages m old → Drains old new → RunsDry past pages old new → IsDrained place job ruled past pages m old new
 dry_drained place job ruled past pages m old new h drains d =
     let client = d.given.client in
     let is_same : is_done new.client.outcome ≡ is_done old.client.outcome = ap (λ (v : ClientState). is_done v.outcome) client in
@@ -164,13 +164,13 @@ dry_drained place job ruled past pages m old new h drains d =
 -- ---- the page of a batch
 
 -- what the turn sends, and how the client reads then
-record Starts (place : DeviceInfo → ℕ) (job : Job) (ruled : rules.AbstractJob) (past : JoinHistory) (pages : List JoinHistory) (m : ClientView) (old new : ClientState) : Type 0 where
+record Starts (place : DeviceInfo → ℕ) (job : Job) (ruled : model.AbstractJob) (past : JoinHistory) (pages : List JoinHistory) (m : ClientView) (old new : ClientState) : Type 0 where
   pub sent : List ℕ
   pub out : new.out ≡ old.out ++ sent
   pub spells : SpellsAsked job m (Start ∷ []) sent
   pub reads : ClientRefines place (target_of job) ruled (map (λ (q : JoinHistory). q.ended) pages ++ past.ended ∷ []) (protocol_of new empty_history) m
 
-starts : (place : DeviceInfo → ℕ) (job : Job) (ruled : rules.AbstractJob) (past : JoinHistory) (pages : List JoinHistory) (m : ClientView) (old new : Endpoint) → IsTold place job ruled past pages m old → TurnsTo past pages old new → Starts place job ruled past pages m old.client new.client
+starts : (place : DeviceInfo → ℕ) (job : Job) (ruled : model.AbstractJob) (past : JoinHistory) (pages : List JoinHistory) (m : ClientView) (old new : Endpoint) → IsTold place job ruled past pages m old → TurnsTo past pages old new → Starts place job ruled past pages m old.client new.client
 starts place job ruled past pages m old new h t =
     let shown : List (List Frame) = map (λ (q : JoinHistory). q.ended) pages in
     let page : TurnsPage old.client new.client = record { rest = t.client.rest; text = t.client.text; stands = t.client.stands } in
@@ -195,7 +195,7 @@ finished_more pages x each is k q at = by_place pages x each is k q (snoc_at pag
     by_place pages x each is k q (inl e) = each k q e
     by_place pages x each is k q (inr e) = subst IsFinished (sym e.1) is
 
-turned_drained : (place : DeviceInfo → ℕ) (job : Job) (ruled : rules.AbstractJob) (past : JoinHistory) (pages : List JoinHistory) (m : ClientView) (old new : Endpoint) → IsTold place job ruled past pages m old → Drains old new → TurnsTo past pages old new → IsDrained place job ruled past pages m old new
+turned_drained : (place : DeviceInfo → ℕ) (job : Job) (ruled : model.AbstractJob) (past : JoinHistory) (pages : List JoinHistory) (m : ClientView) (old new : Endpoint) → IsTold place job ruled past pages m old → Drains old new → TurnsTo past pages old new → IsDrained place job ruled past pages m old new
 turned_drained place job ruled past pages m old new h drains t =
     let client = t.client.rest in
     let page : JoinHistory = after_pull t.bytes past in
@@ -239,7 +239,7 @@ no_turn : (b : Bool) (task : Task) (o : Outcome) (progress : Progress) (past : J
 no_turn true task o progress past t s f = absurd (let scan : true ≡ false = sym (batch_scans task (turned_fits task o progress past t f).0) ∙ s in cc)
 no_turn false task o progress past t s f = refl
 
-same_drained : (place : DeviceInfo → ℕ) (job : Job) (ruled : rules.AbstractJob) (past : JoinHistory) (pages : List JoinHistory) (m : ClientView) (old : Endpoint) → scans job.task ≡ false → IsTold place job ruled past pages m old → IsDrained place job ruled past pages m old old
+same_drained : (place : DeviceInfo → ℕ) (job : Job) (ruled : model.AbstractJob) (past : JoinHistory) (pages : List JoinHistory) (m : ClientView) (old : Endpoint) → scans job.task ≡ false → IsTold place job ruled past pages m old → IsDrained place job ruled past pages m old old
 same_drained place job ruled past pages m old off h =
     let scan : scans old.client.target.task ≡ false = ap (λ (x : JobTarget). scans x.task) h.target ∙ off in
     let still = no_turn (turns old.client.outcome old.client.progress) old.client.target.task old.client.outcome old.client.progress past refl scan h.serves.fits in
@@ -262,18 +262,18 @@ same_drained place job ruled past pages m old off h =
 
 -- ---- all of it
 
-by_turn : (b : Bool) (place : DeviceInfo → ℕ) (job : Job) (ruled : rules.AbstractJob) (past : JoinHistory) (pages : List JoinHistory) (m : ClientView) (old new : Endpoint) → IsTold place job ruled past pages m old → Drains old new → HasDrained b past pages old new → IsDrained place job ruled past pages m old new
+by_turn : (b : Bool) (place : DeviceInfo → ℕ) (job : Job) (ruled : model.AbstractJob) (past : JoinHistory) (pages : List JoinHistory) (m : ClientView) (old new : Endpoint) → IsTold place job ruled past pages m old → Drains old new → HasDrained b past pages old new → IsDrained place job ruled past pages m old new
 by_turn true place job ruled past pages m old new h drains d = turned_drained place job ruled past pages m old new h drains d
 by_turn false place job ruled past pages m old new h drains d = dry_drained place job ruled past pages m old new h drains d
 
-by_task : (b : Bool) (place : DeviceInfo → ℕ) (job : Job) (ruled : rules.AbstractJob) (past : JoinHistory) (pages : List JoinHistory) (m : ClientView) (old new : Endpoint) → scans job.task ≡ b → IsTold place job ruled past pages m old → HasPlace old pages → Drains old new → IsDrained place job ruled past pages m old new
+by_task : (b : Bool) (place : DeviceInfo → ℕ) (job : Job) (ruled : model.AbstractJob) (past : JoinHistory) (pages : List JoinHistory) (m : ClientView) (old new : Endpoint) → scans job.task ≡ b → IsTold place job ruled past pages m old → HasPlace old pages → Drains old new → IsDrained place job ruled past pages m old new
 by_task true place job ruled past pages m old new scan h room d =
     let holds : HoldsHistory past pages old = record { task = h.task ∙ sym (ap (λ (x : JobTarget). x.task) h.target); serves = h.serves; files = h.files } in
     by_turn (turns old.client.outcome old.client.progress) place job ruled past pages m old new h d (d.drains past pages (ap scans h.task ∙ scan) room holds)
 by_task false place job ruled past pages m old new scan h room d =
     subst (λ (x : Endpoint). IsDrained place job ruled past pages m old x) (sym (d.none (ap scans h.task ∙ scan))) (same_drained place job ruled past pages m old scan h)
 
-pub drained : (place : DeviceInfo → ℕ) (job : Job) (ruled : rules.AbstractJob) (past : JoinHistory) (pages : List JoinHistory) (m : ClientView) (old new : Endpoint) → IsTold place job ruled past pages m old → HasPlace old pages → Drains old new → IsDrained place job ruled past pages m old new
+pub drained : (place : DeviceInfo → ℕ) (job : Job) (ruled : model.AbstractJob) (past : JoinHistory) (pages : List JoinHistory) (m : ClientView) (old new : Endpoint) → IsTold place job ruled past pages m old → HasPlace old pages → Drains old new → IsDrained place job ruled past pages m old new
 drained place job ruled past pages m old new h room d = by_task (scans job.task) place job ruled past pages m old new refl h room d
 
 -- ---- the place of a page

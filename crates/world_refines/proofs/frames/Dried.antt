@@ -10,7 +10,7 @@ use Rattle.scan_job.specs.declared.outcome.Outcome.TheVariants as outcomes
 use Rattle.client_replies.specs.declared.progress.JobTarget.{JobTarget}
 use Rattle.client_replies.specs.ProtocolStates.{ProtocolState, target_of, is_batch, is_running, scans, turns}
 use Rattle.net_client.specs.ClientStates.{ClientRepresents, ClientState, protocol_of}
-use Rattle.system_model.specs.Client as rules
+use Rattle.system_model.specs.Client as model
 use Rattle.system_model.specs.Client.{Idle, ClientView, Running, JobStage}
 use Rattle.system_model.specs.SystemStates.{JobState}
 use Rattle.client_refines.specs.ClientRefinement.{ClientRefines}
@@ -74,13 +74,13 @@ laid_part task o past e = part_laid (is_done o) (is_batch task) (is_joined past.
 
 -- ---- what reads as a client is awake
 
-pub reads_awake : (place : DeviceInfo → ℕ) (target : JobTarget) (job : rules.AbstractJob) (pages : List (List Frame)) (protocol : ProtocolState) (m : ClientView) → ClientRefines place target job pages protocol m → m.stage ≡ Idle → ⊥
+pub reads_awake : (place : DeviceInfo → ℕ) (target : JobTarget) (job : model.AbstractJob) (pages : List (List Frame)) (protocol : ProtocolState) (m : ClientView) → ClientRefines place target job pages protocol m → m.stage ≡ Idle → ⊥
 reads_awake place target job pages protocol m r idle = by_outcome place target job pages protocol m protocol.outcome refl r idle
   where
-    by_outcome : (place : DeviceInfo → ℕ) (target : JobTarget) (job : rules.AbstractJob) (pages : List (List Frame)) (protocol : ProtocolState) (m : ClientView) (o : Outcome) → protocol.outcome ≡ o → ClientRefines place target job pages protocol m → m.stage ≡ Idle → ⊥
+    by_outcome : (place : DeviceInfo → ℕ) (target : JobTarget) (job : model.AbstractJob) (pages : List (List Frame)) (protocol : ProtocolState) (m : ClientView) (o : Outcome) → protocol.outcome ≡ o → ClientRefines place target job pages protocol m → m.stage ≡ Idle → ⊥
     by_outcome place target job pages protocol m outcomes.Running e r idle = let g = (outcomes_alike place target job pages protocol m r).runs e in let clash : Idle ≡ Running g.0 = sym idle ∙ g.1 in absurd (cc)
-    by_outcome place target job pages protocol m (outcomes.Done reports) e r idle = let d = (outcomes_alike place target job pages protocol m r).done reports e in let clash : Idle ≡ rules.Done = sym idle ∙ d.stage in absurd (cc)
-    by_outcome place target job pages protocol m (outcomes.Ended status why) e r idle = let d = (outcomes_alike place target job pages protocol m r).ended status why e in let clash : Idle ≡ rules.Ended _ d.0 = sym idle ∙ d.1.1 in absurd (cc)
+    by_outcome place target job pages protocol m (outcomes.Done reports) e r idle = let d = (outcomes_alike place target job pages protocol m r).done reports e in let clash : Idle ≡ model.Done = sym idle ∙ d.stage in absurd (cc)
+    by_outcome place target job pages protocol m (outcomes.Ended status why) e r idle = let d = (outcomes_alike place target job pages protocol m r).ended status why e in let clash : Idle ≡ model.Ended _ d.0 = sym idle ∙ d.1.1 in absurd (cc)
 
 -- ---- the endpoint of a job that has heard something
 
@@ -92,16 +92,16 @@ files_with : (given other : List ℕ) (pages : List JoinHistory) (c : ClientStat
 files_with given other pages c p e h = subst (λ (l : List ℕ). HasFiles l pages (with_client c p)) (sym e) (record { file = h.file; each = h.each; count = h.count; room = h.room })
 
 -- how it refines then a client view that is awake
-pub talks_dried : (place : DeviceInfo → ℕ) (job : Job) (past : JoinHistory) (pages : List JoinHistory) (me after : JobState) (m : ClientView) (text : List ℕ) (p q : Endpoint) (c : ClientState) → EndpointClientRefines place job past pages me p → is_joined past.ended ≡ false → (p.was_connected ≡ false → ⊥) → after.session.job ≡ me.session.job → after.client ≡ m → client_at_greeting m.stage m ≡ m →
+pub exchanges_dried : (place : DeviceInfo → ℕ) (job : Job) (past : JoinHistory) (pages : List JoinHistory) (me after : JobState) (m : ClientView) (text : List ℕ) (p q : Endpoint) (c : ClientState) → EndpointClientRefines place job past pages me p → is_joined past.ended ≡ false → (p.was_connected ≡ false → ⊥) → after.session.job ≡ me.session.job → after.client ≡ m → client_at_greeting m.stage m ≡ m →
     (r : Reaches place me.session.job (map (λ (x : JoinHistory). x.ended) pages) p.client past m text c) → (d : Dried r.history_then pages (with_client c p) q) → EndpointClientRefines place job (after_pull d.more r.history_then) pages after q
-talks_dried place job past pages me after m text p q c h part connected same view awake r d =
+exchanges_dried place job past pages me after m text p q c h part connected same view awake r d =
     let shown : List (List Frame) = map (λ (x : JoinHistory). x.ended) pages in
     let then_ : JoinHistory = after_pull d.more r.history_then in
     let joined : is_joined then_.ended ≡ false = ap is_joined r.ended ∙ part in
     let outcome : q.client.outcome ≡ c.outcome = ap (λ (v : ClientState). v.outcome) d.client in
     let reads : ClientRefines place (target_of job) after.session.job shown (protocol_of q.client then_) m =
     subst (λ (t : ProtocolState). ClientRefines place (target_of job) after.session.job shown t m) (sym (ap (λ (v : ClientState). protocol_of v then_) d.client))
-    (subst (λ (x : rules.AbstractJob). ClientRefines place (target_of job) x shown (protocol_of c then_) m) (sym same)
+    (subst (λ (x : model.AbstractJob). ClientRefines place (target_of job) x shown (protocol_of c then_) m) (sym same)
     (subst (λ (x : JobTarget). ClientRefines place x me.session.job shown (protocol_of c then_) m) h.target (pulls_unseen place p.client.target me.session.job shown (protocol_of c r.history_then) m d.more r.reads).0)) in
     let woken_is : client_at_greeting after.client.stage after.client ≡ m = ap (λ (x : ClientView). client_at_greeting x.stage x) view ∙ awake in
     record {

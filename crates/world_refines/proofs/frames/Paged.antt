@@ -10,7 +10,7 @@ use Rattle.scan_job.specs.declared.job.Task.{Task}
 use Rattle.scan_job.specs.declared.outcome.Outcome.{Outcome}
 use Rattle.client_replies.specs.ProtocolStates.{is_batch}
 use Rattle.system_model.specs.Devices.{Make}
-use Rattle.system_model.specs.Client as rules
+use Rattle.system_model.specs.Client as model
 use Rattle.system_model.specs.Client.{ClientView, JobStage}
 use Rattle.system_model.specs.AbstractMessages.{RequestedSetting}
 use Rattle.system_model.specs.AbstractDevices.{Begin}
@@ -110,10 +110,10 @@ start_of k settings (b ∷ begins) (p ∷ pages) zero frames h e = record { begi
 start_of k settings (b ∷ begins) (p ∷ pages) (suc n) frames h e = let more = start_of k settings begins pages n frames h.1 e in record { begin = more.begin; at = more.at; picture = more.picture }
 
 pub woken_pages : (st : JobStage) (m : ClientView) → (client_at_greeting st m).pages ≡ m.pages
-woken_pages rules.Idle m = refl
-woken_pages (rules.Running g) m = refl
-woken_pages rules.Done m = refl
-woken_pages (rules.Ended status why) m = refl
+woken_pages model.Idle m = refl
+woken_pages (model.Running g) m = refl
+woken_pages model.Done m = refl
+woken_pages (model.Ended status why) m = refl
 
 -- ---- a page
 
@@ -124,7 +124,7 @@ page_meant t w i k endpoint file q h at p is kept =
     let f = p.are.files.each k q is in
     let same : f.0 ≡ Some file = unsome f.0 (Some file) (sym f.1 ∙ kept) in
     let given : file ≡ q.given = subst (λ (x : Option (List ℕ)). KeepsFile endpoint.out_of_memory q.given x) same f.2 in
-    let shown : me.client.pages ≡ map (λ (x : JoinHistory). x.ended) p.all ++ p.are.rest = sym (woken_pages me.client.stage me.client) ∙ (s.talks.reads.files.all ∙ p.are.shown) in
+    let shown : me.client.pages ≡ map (λ (x : JoinHistory). x.ended) p.all ++ p.are.rest = sym (woken_pages me.client.stage me.client) ∙ (s.exchanges.reads.files.all ∙ p.are.shown) in
     let frames : slice_get me.client.pages k ≡ Some q.ended = ap (λ (x : List (List Frame)). slice_get x k) shown ∙ front_at (map (λ (x : JoinHistory). x.ended) p.all) p.are.rest k q.ended (map_at (λ (x : JoinHistory). x.ended) p.all k q is) in
     let r = pages_right t.system i h.sound in
     let start = start_of (make_for t.system i) me.session.job.settings r.0 me.client.pages k q.ended r.3 frames in
@@ -142,5 +142,5 @@ by_place t w i k endpoint file h at low kept p (inr high) = let count : endpoint
 pub pages_are_meant : PagesAreMeant
 pages_are_meant t w i k endpoint file h at low kept =
     let s = h.endpoints i endpoint at in
-    let p = pages_by (t.jobs i).task (t.history i) (t.pages i) endpoint (is_laid (t.jobs i).task endpoint.client.outcome (t.history i)) refl s.talks.files s.talks.finished s.talks.done in
+    let p = pages_by (t.jobs i).task (t.history i) (t.pages i) endpoint (is_laid (t.jobs i).task endpoint.client.outcome (t.history i)) refl s.exchanges.files s.exchanges.finished s.exchanges.done in
     by_place t w i k endpoint file h at low kept p (there p.all k)

@@ -26,7 +26,7 @@ use Rattle.net_client.specs.ClientStates.{ClientRepresents, ClientState, protoco
 use Rattle.net_client.proofs.Ending.{receives_at}
 use Rattle.system_model.specs.AbstractMessages.{AbstractReply, AbstractRequest, Status}
 use Rattle.system_model.specs.Devices.{Make}
-use Rattle.system_model.specs.Client as rules
+use Rattle.system_model.specs.Client as model
 use Rattle.system_model.specs.Client.{ClientView, Running, JobStage}
 use Rattle.system_model.specs.Daemon.{TransferState, Quiet, Waiting, Streaming, Ending}
 use Rattle.system_model.specs.Actions.{Action}
@@ -64,7 +64,7 @@ use Rattle.world_refines.proofs.frames.Dialling.{imaging_still, told_nothing}
 use Rattle.world_refines.proofs.frames.Drained.{awaits_next, drained, few_further, place_few}
 use Rattle.world_refines.proofs.state.ListEntries.{nil_both}
 use Rattle.world_refines.proofs.state.GhostClients.{runs_under, under_runs}
-use Rattle.world_refines.proofs.state.EndpointSlots.{Reseats, reseats_same}
+use Rattle.world_refines.proofs.state.EndpointSlots.{Replaces, replaces_same}
 use Rattle.world_refines.proofs.frames.SeenPiece.{IsMid, IsReader, IsThen, fewer_pages, handed, images, received_mid}
 use Rattle.world_refines.proofs.frames.SeenSteps.{MayAll, after_each, change_all, device_all, legal_all, make_all, party_all}
 use Rattle.world_refines.proofs.requests.Spelling.{spell_behind}
@@ -136,15 +136,15 @@ still_is image im e = open_by (image.is_last && (length image.bytes == 0)) image
 -- the session of a job is by these alone
 ruled_same : (i : ℕ) (device : ℕ → AbstractDevice) (me now : JobState) → now.session.job ≡ me.session.job → now.session.transfer ≡ me.session.transfer → now.session.awaited ≡ me.session.awaited → session_by i device now ≡ session_by i device me
 ruled_same i device me now job transfer awaited =
-    ap (λ (x : rules.AbstractJob). one_word_session (is_held_by i (device x.wants).holder) x.wants now.session.transfer now.session.awaited) job
+    ap (λ (x : model.AbstractJob). one_word_session (is_held_by i (device x.wants).holder) x.wants now.session.transfer now.session.awaited) job
     ∙ (ap (λ (c : TransferState). one_word_session (is_held_by i (device me.session.job.wants).holder) me.session.job.wants c now.session.awaited) transfer
     ∙ ap (λ (x : Option _). one_word_session (is_held_by i (device me.session.job.wants).holder) me.session.job.wants me.session.transfer x) awaited)
 
-woken_alive : (st : JobStage) (m : ClientView) → m.stage ≡ st → (st ≡ rules.Idle → ⊥) → client_at_greeting st m ≡ m
-woken_alive rules.Idle m e n = absurd (n refl)
+woken_alive : (st : JobStage) (m : ClientView) → m.stage ≡ st → (st ≡ model.Idle → ⊥) → client_at_greeting st m ≡ m
+woken_alive model.Idle m e n = absurd (n refl)
 woken_alive (Running g) m e n = refl
-woken_alive rules.Done m e n = refl
-woken_alive (rules.Ended status why) m e n = refl
+woken_alive model.Done m e n = refl
+woken_alive (model.Ended status why) m e n = refl
 
 -- what the delivery leaves of the endpoint, of the job by the model, and of what is on the way
 pub record IsSeen (t : Ghost) (i : ℕ) (p : Endpoint) (n : ℕ) (image : Image) (r : Endpoint) : Type 0 where
@@ -156,7 +156,7 @@ pub record IsSeen (t : Ghost) (i : ℕ) (p : Endpoint) (n : ℕ) (image : Image)
   pub pages : List JoinHistory
   pub rest : IsLaid (handed n image p) r
   pub starved : p.out_of_memory ≡ true → r.out_of_memory ≡ true
-  pub talks : EndpointClientRefines (place_of_info t.infos) (t.jobs i) history pages now (without_ended_image r)
+  pub exchanges : EndpointClientRefines (place_of_info t.infos) (t.jobs i) history pages now (without_ended_image r)
   pub input : r.client.input ≡ p.client.input
   pub sent : List ℕ
   pub out : r.client.out ≡ p.client.out ++ sent
@@ -224,8 +224,8 @@ means_seen t i p n image r at last s h =
 
 -- ---- a job that is over
 
-talks_closed : (place : DeviceInfo → ℕ) (job : Job) (past : JoinHistory) (pages : List JoinHistory) (me : JobState) (n : ℕ) (image : Image) (p : Endpoint) → EndpointClientRefines place job past pages me p → EndpointClientRefines place job past pages me (without_ended_image (handed n image p))
-talks_closed place job past pages me n image p h =
+exchanges_closed : (place : DeviceInfo → ℕ) (job : Job) (past : JoinHistory) (pages : List JoinHistory) (me : JobState) (n : ℕ) (image : Image) (p : Endpoint) → EndpointClientRefines place job past pages me p → EndpointClientRefines place job past pages me (without_ended_image (handed n image p))
+exchanges_closed place job past pages me n image p h =
     record {
       task = h.task;
       target = h.target;
@@ -259,7 +259,7 @@ over_seen t w i p n image h at has never =
       pages = t.pages i;
       rest = refl;
       starved = λ e. e;
-      talks = talks_closed (place_of_info t.infos) (t.jobs i) (t.history i) (t.pages i) me n image p s.talks;
+      exchanges = exchanges_closed (place_of_info t.infos) (t.jobs i) (t.history i) (t.pages i) me n image p s.exchanges;
       input = refl;
       sent = [];
       out = sym (append-nil p.client.out);
@@ -319,7 +319,7 @@ receives_by o (stages.Imaging port true) r e n = ap (λ (b : Bool). b && true) r
 receives_by o (stages.Imaging port false) r e n = absurd (let clash : Some port ≡ None = n in cc)
 receives_by o progress r e n = absurd (let clash : false ≡ true = e in cc)
 
-imaging_part : (job : rules.AbstractJob) (progress : Progress) (notes : Notes) (past : JoinHistory) (m : ClientView) → WaitsAs job progress notes past m → is_imaging progress ≡ true → is_joined past.ended ≡ false
+imaging_part : (job : model.AbstractJob) (progress : Progress) (notes : Notes) (past : JoinHistory) (m : ClientView) → WaitsAs job progress notes past m → is_imaging progress ≡ true → is_joined past.ended ≡ false
 imaging_part job (stages.Imaging port made) notes past m w e = w.part
 imaging_part job progress notes past m w e = absurd (let clash : false ≡ true = e in cc)
 
@@ -331,25 +331,25 @@ is_reader t w i p image h at low has runs =
     let shown : List (List Frame) = map (λ (q : JoinHistory). q.ended) (t.pages i) in
     let text : (t.wires i).image ≡ Some image.bytes = sym s.carries.image ∙ ap (option_map image_bytes) has in
     let some : IsSome (t.wires i).image = subst IsSome (sym text) refl in
-    let under : IsUnderWay me.client.stage = runs_under place (target_of (t.jobs i)) me.session.job shown (protocol_of p.client (t.history i)) me.client s.talks.reads runs in
+    let under : IsUnderWay me.client.stage = runs_under place (target_of (t.jobs i)) me.session.job shown (protocol_of p.client (t.history i)) me.client s.exchanges.reads runs in
     let is : IsImaging me.client.stage = flows_imaging me.client.stage me.session.transfer p.client.progress p.client.phase (t.wires i).image me.session.flight me.session.ending s.means.flow some under in
     let flow : FlowsAt me.session.transfer p.client.progress p.client.phase (t.wires i).image me.session.flight me.session.ending =
     subst (λ (st : JobStage). FlightMatches st me.session.transfer p.client.progress p.client.phase (t.wires i).image me.session.flight me.session.ending) is.2 s.means.flow in
     let d = dialled_at me.session.transfer p.client.progress p.client.phase (t.wires i).image me.session.flight me.session.ending some flow in
     let bytes : d.text ≡ image.bytes = unsome d.text image.bytes (sym d.image_is ∙ text) in
-    let waits = waits_as place (target_of (t.jobs i)) me.session.job shown (protocol_of p.client (t.history i)) (client_at_greeting me.client.stage me.client) s.talks.reads runs in
+    let waits = waits_as place (target_of (t.jobs i)) me.session.job shown (protocol_of p.client (t.history i)) (client_at_greeting me.client.stage me.client) s.exchanges.reads runs in
     let imaging = waits_imaging me.session.job p.client.progress p.client.notes (t.history i) (client_at_greeting me.client.stage me.client) waits (imaging_woken me.client.stage me.client refl is) in
     let receiving = receives_by p.client.outcome p.client.progress runs imaging d.wants in
-    let frame = images i (make_for t.system i) me (device_for t.system i) is.0 is.1 (subst (λ (st : JobStage). sound.StageInvariant i (make_for t.system i) me (device_for t.system i) st) is.2 (h.sound.talks i)) in
-    let alive : me.client.stage ≡ rules.Idle → ⊥ = λ e. (let clash : rules.Idle ≡ Running (rules.Imaging is.0 is.1) = sym e ∙ is.2 in absurd (cc)) in
-    let reads = subst (λ (m : ClientView). ClientRefines place (target_of (t.jobs i)) me.session.job shown (protocol_of p.client (t.history i)) m) (woken_alive me.client.stage me.client refl alive) s.talks.reads in
-    let task : me.session.job.task ≡ task_of (t.jobs i).task = ap (λ (x : rules.AbstractJob). x.task) s.job_is in
+    let frame = images i (make_for t.system i) me (device_for t.system i) is.0 is.1 (subst (λ (st : JobStage). sound.StageInvariant i (make_for t.system i) me (device_for t.system i) st) is.2 (h.sound.exchanges i)) in
+    let alive : me.client.stage ≡ model.Idle → ⊥ = λ e. (let clash : model.Idle ≡ Running (model.Imaging is.0 is.1) = sym e ∙ is.2 in absurd (cc)) in
+    let reads = subst (λ (m : ClientView). ClientRefines place (target_of (t.jobs i)) me.session.job shown (protocol_of p.client (t.history i)) m) (woken_alive me.client.stage me.client refl alive) s.exchanges.reads in
+    let task : me.session.job.task ≡ task_of (t.jobs i).task = ap (λ (x : model.AbstractJob). x.task) s.job_is in
     record {
       params = is.0;
       heard = is.1;
       stage = is.2;
       images = frame;
-      few = fewer_pages (t.history i) (t.pages i) me.client.pages (rules.further_pages me.session.job.task) reads.files.all frame.continues.fewer (subst (λ (x : rules.Task). rules.further_pages x ≤ 15) (sym task) (few_further (t.jobs i).task (h.is_of.counts i low)));
+      few = fewer_pages (t.history i) (t.pages i) me.client.pages (model.further_pages me.session.job.task) reads.files.all frame.continues.fewer (subst (λ (x : model.Task). model.further_pages x ≤ 15) (sym task) (few_further (t.jobs i).task (h.is_of.counts i low)));
       made = s.means.image some;
       unended = s.means.unended;
       runs = runs;
@@ -357,10 +357,10 @@ is_reader t w i p image h at low has runs =
       wants = d.wants;
       flows = λ progress phase o flight ending dialled. flows_at me.session.transfer p.client.progress progress p.client.phase phase (t.wires i).image o me.session.flight flight me.session.ending ending some flow dialled;
       carried = subst (λ (l : List ℕ). CarriesFlight p.client.phase l me.session.flight me.session.ending) bytes d.carried;
-      talks = s.talks;
+      exchanges = s.exchanges;
       reads = reads;
       part = imaging_part me.session.job p.client.progress p.client.notes (t.history i) (client_at_greeting me.client.stage me.client) waits imaging;
-      scanning = ap (λ (x : JobTarget). scans x.task) (sym s.talks.target) ∙ (receives_at p.client (t.history i) receiving s.talks.serves).0;
+      scanning = ap (λ (x : JobTarget). scans x.task) (sym s.exchanges.target) ∙ (receives_at p.client (t.history i) receiving s.exchanges.serves).0;
     }
 
 done_still : (o : Outcome) (progress : Progress) → is_done o ≡ true → turns o progress ≡ false
@@ -401,7 +401,7 @@ under_seen t w i p n image mid after st at low has h m unopened reading drains =
     let laid_is : is_laid (t.jobs i).task r.client.outcome d.history ≡ is_laid after.task after.client.outcome d.history = ap (λ (o : Outcome). is_laid (t.jobs i).task o d.history) outcome ∙ ap (λ (x : _). is_laid x after.client.outcome d.history) (sym d.told.task) in
     let awake = woken_alive m.now.client.stage m.now.client refl m.then_is.alive in
     let shown : List (List Frame) = map (λ (x : JoinHistory). x.ended) d.pages in
-    let still = imaging_still i (make_for t.system i) me (device_for t.system i) me.client.stage (st.sound.talks i) (h.params, h.heard, h.stage) in
+    let still = imaging_still i (make_for t.system i) me (device_for t.system i) me.client.stage (st.sound.exchanges i) (h.params, h.heard, h.stage) in
     let connected : r.was_connected ≡ p.was_connected = ap (λ (x : Endpoint). x.was_connected) rest in
     let bytes = wires_after_data n image.bytes (m.sent ++ d.sent) me.session.ending (t.wires i) in
     let nothing = subst (λ (due : List AbstractReply). SpellsReplies place p.client.progress due ((t.wires i).telling ++ (t.wires i).down)) still.due (s.means.down (subst IsUnderWay (sym h.stage) tt)) in
@@ -415,7 +415,7 @@ under_seen t w i p n image mid after st at low has h m unopened reading drains =
       pages = d.pages;
       rest = rest;
       starved = λ e. finished_starved b after ∙ d.starved e;
-      talks = record {
+      exchanges = record {
         task = ap (λ (x : Endpoint). x.task) laid ∙ d.told.task;
         target = ap (λ (v : ClientState). v.target) same ∙ d.told.target;
         word = λ e. ap (λ (v : ClientState). v.notes.word) same ∙ d.told.word (sym (ap (λ (v : ClientState). is_running v.outcome) same) ∙ e);
@@ -424,9 +424,9 @@ under_seen t w i p n image mid after st at low has h m unopened reading drains =
         reads =
             subst (λ (v : ClientState). ClientRefines place (target_of (t.jobs i)) m.now.session.job shown (protocol_of v d.history) (client_at_greeting m.now.client.stage m.now.client)) (sym same)
             (subst (λ (x : ClientView). ClientRefines place (target_of (t.jobs i)) m.now.session.job shown (protocol_of after.client d.history) x) (sym awake)
-            (subst (λ (x : rules.AbstractJob). ClientRefines place (target_of (t.jobs i)) x shown (protocol_of after.client d.history) m.now.client) (sym m.then_is.job) d.told.reads));
+            (subst (λ (x : model.AbstractJob). ClientRefines place (target_of (t.jobs i)) x shown (protocol_of after.client d.history) m.now.client) (sym m.then_is.job) d.told.reads));
         idle = λ e. absurd (m.then_is.alive e);
-        begun = λ e. absurd (never_begun me.client.stage h.params h.heard h.stage (s.talks.begun (sym connected ∙ e)));
+        begun = λ e. absurd (never_begun me.client.stage h.params h.heard h.stage (s.exchanges.begun (sym connected ∙ e)));
         files = closed_files (is_laid (t.jobs i).task r.client.outcome d.history) d.history d.pages r (subst (λ (x : Bool). KeepsFiles x d.history d.pages r) (sym laid_is) files);
         finished = d.told.finished;
         alone = d.told.alone;
@@ -465,8 +465,8 @@ under_seen t w i p n image mid after st at low has h m unopened reading drains =
       };
     }
   where
-    never_begun : (stage : JobStage) (params : _) (heard : List ℕ) → stage ≡ Running (rules.Imaging params heard) → (stage ≡ rules.Idle) ⊎ (IsUnderWay stage → ⊥) → ⊥
-    never_begun stage params heard e (inl idle) = let clash : rules.Idle ≡ Running (rules.Imaging params heard) = sym idle ∙ e in absurd (cc)
+    never_begun : (stage : JobStage) (params : _) (heard : List ℕ) → stage ≡ Running (model.Imaging params heard) → (stage ≡ model.Idle) ⊎ (IsUnderWay stage → ⊥) → ⊥
+    never_begun stage params heard e (inl idle) = let clash : model.Idle ≡ Running (model.Imaging params heard) = sym idle ∙ e in absurd (cc)
     never_begun stage params heard e (inr over) = over (subst IsUnderWay (sym e) tt)
 
 -- ---- the event
@@ -496,7 +496,7 @@ seen_stands t w i p n image r h at low has some positive s =
       shown = shown_after t w steps h;
       sits = sits_there u w.daemon i q s.now bytes s.history s.pages job_state (put_there t.wires i bytes) (put_there t.history i s.history) (put_there t.pages i s.pages) (record {
         job_is = c.job ∙ sits.job_is;
-        talks = s.talks;
+        exchanges = s.exchanges;
         carries = carries_seen t i p n image r w.daemon has last s sits.carries;
         means = means_seen t i p n image r has last s sits.means;
         served =
@@ -510,7 +510,7 @@ seen_stands t w i p n image r h at low has some positive s =
         pends = s.pends;
       });
       link = λ id e. inl (sym link ∙ e);
-      reseats = subst (λ (x : Option SessionId). Reseats p.link x w.daemon w.daemon) (sym link) (reseats_same p.link w.daemon);
+      replaces = subst (λ (x : Option SessionId). Replaces p.link x w.daemon w.daemon) (sym link) (replaces_same p.link w.daemon);
       begun = subst (λ (x : JobState). AreStartedViews t.system.make x) (sym job_state)
           (λ steady. subst (λ (x : List Begin). AllByRecursion (λ (b : Begin). IsPageView b.page) x) (sym c.started) (h.begun i (ap (λ (j : _). (t.system.make j.wants).steady) (sym c.job) ∙ steady)));
     }))
@@ -521,13 +521,13 @@ seen_by t w i p n image r h at low has (inr off) d =
     let s = h.endpoints i p at in
     let me = t.system.job i in
     let never : IsUnderWay me.client.stage → ⊥ = λ under.
-    (let clash : true ≡ false = sym (under_runs (place_of_info t.infos) (target_of (t.jobs i)) me.session.job (map (λ (x : JoinHistory). x.ended) (t.pages i)) (protocol_of p.client (t.history i)) me.client s.talks.reads under) ∙ off in absurd (cc)) in
+    (let clash : true ≡ false = sym (under_runs (place_of_info t.infos) (target_of (t.jobs i)) me.session.job (map (λ (x : JoinHistory). x.ended) (t.pages i)) (protocol_of p.client (t.history i)) me.client s.exchanges.reads under) ∙ off in absurd (cc)) in
     subst (λ (x : Endpoint). IsSeen t i p n image x) (sym (d.over off)) (over_seen t w i p n image h at has never)
 seen_by t w i p n image r h at low has (inl runs) d =
     let s = h.endpoints i p at in
     let reader = is_reader t w i p image h at low has runs in
-    let task : (t.system.job i).session.job.task ≡ task_of (t.jobs i).task = ap (λ (x : rules.AbstractJob). x.task) s.job_is in
-    let came = d.receives reader.receiving (t.history i) s.talks.serves in
+    let task : (t.system.job i).session.job.task ≡ task_of (t.jobs i).task = ap (λ (x : model.AbstractJob). x.task) s.job_is in
+    let came = d.receives reader.receiving (t.history i) s.exchanges.serves in
     let mid = received_mid t i p n image d.mid (h.is_of.counts i low) task reader came in
     let reading = received_reading p.client (t.history i) (delivered_bytes n image.bytes) d.mid (turns d.mid.outcome d.mid.progress) came in
     let unopened = received_unopened p.client (t.history i) (delivered_bytes n image.bytes) d.mid reader.receiving came in

@@ -31,7 +31,7 @@ use Rattle.net_client.specs.FramePieces.{Receives}
 use Rattle.system_model.specs.AbstractMessages as words
 use Rattle.system_model.specs.AbstractMessages.{AbstractReply, AbstractRequest, Status}
 use Rattle.system_model.specs.Devices.{Make, frame_fills, frame_overflows, abstract_status}
-use Rattle.system_model.specs.Client as rules
+use Rattle.system_model.specs.Client as model
 use Rattle.system_model.specs.Client.{Imaging, ClientView, Running, JobStage, further_pages, requests_sent}
 use Rattle.system_model.specs.Causes.{ClientOutOfMemory, IsCauseAmong, LinkOutOfMemory}
 use Rattle.system_model.specs.Daemon.{TransferState}
@@ -129,15 +129,15 @@ page_flows : (b : Bool) (c : TransferState) (progress : Progress) (phase : Recor
 page_flows true c progress phase = record { image_is = refl; flight_is = refl; ending_is = refl }
 page_flows false c progress phase = tt
 
-close_flows : (b : Bool) (task : rules.Task) (f : Frame) (m : ClientView) (c : TransferState) (progress : Progress) (phase : RecordPhase) → FlightMatches (close_page b task f m).stage c progress phase None [] None
+close_flows : (b : Bool) (task : model.Task) (f : Frame) (m : ClientView) (c : TransferState) (progress : Progress) (phase : RecordPhase) → FlightMatches (close_page b task f m).stage c progress phase None [] None
 close_flows true task f m c progress phase = page_flows _ c progress phase
 close_flows false task f m c progress phase = record { image_is = refl; flight_is = refl; ending_is = refl }
 
-frame_flows : (b : Bool) (task : rules.Task) (params : Params) (heard : List ℕ) (m : ClientView) (c : TransferState) (progress : Progress) (phase : RecordPhase) → FlightMatches (close_frame b task params heard m).stage c progress phase None [] None
+frame_flows : (b : Bool) (task : model.Task) (params : Params) (heard : List ℕ) (m : ClientView) (c : TransferState) (progress : Progress) (phase : RecordPhase) → FlightMatches (close_frame b task params heard m).stage c progress phase None [] None
 frame_flows true task params heard m c progress phase = close_flows params.last_frame task _ m c progress phase
 frame_flows false task params heard m c progress phase = tt
 
-end_flows : (status : Status) (task : rules.Task) (params : Params) (heard : List ℕ) (m : ClientView) (c : TransferState) (progress : Progress) (phase : RecordPhase) → FlightMatches (end_frame status task params heard m).stage c progress phase None [] None
+end_flows : (status : Status) (task : model.Task) (params : Params) (heard : List ℕ) (m : ClientView) (c : TransferState) (progress : Progress) (phase : RecordPhase) → FlightMatches (end_frame status task params heard m).stage c progress phase None [] None
 end_flows words.Eof task params heard m c progress phase = frame_flows (frame_fills params heard) task params heard m c progress phase
 end_flows words.Good task params heard m c progress phase = tt
 end_flows words.Unsupported task params heard m c progress phase = tt
@@ -154,25 +154,25 @@ end_flows words.AccessDenied task params heard m c progress phase = tt
 -- what is so of a client view behind an end: it knows its descriptors, is connected, and is done with a page that is whole alone
 pub record IsEnd (m old : ClientView) : Type 0 where
   pub known : m.known ≡ old.known
-  pub alive : m.stage ≡ rules.Idle → ⊥
-  pub done : m.stage ≡ rules.Done → (frames : List Frame) × (m.pages ≡ old.pages ++ frames ∷ [])
+  pub alive : m.stage ≡ model.Idle → ⊥
+  pub done : m.stage ≡ model.Done → (frames : List Frame) × (m.pages ≡ old.pages ++ frames ∷ [])
 
 page_end : (b : Bool) (m : ClientView) (f : Frame) → IsEnd (record m { stage = after_page b; frames = []; pages = m.pages ++ (m.frames ++ f ∷ []) ∷ [] }) m
-page_end true m f = record { known = refl; alive = λ e. let clash : Running rules.Starting ≡ rules.Idle = e in absurd (cc); done = λ e. (m.frames ++ f ∷ [], refl) }
-page_end false m f = record { known = refl; alive = λ e. let clash : rules.Done ≡ rules.Idle = e in absurd (cc); done = λ e. (m.frames ++ f ∷ [], refl) }
+page_end true m f = record { known = refl; alive = λ e. let clash : Running model.Starting ≡ model.Idle = e in absurd (cc); done = λ e. (m.frames ++ f ∷ [], refl) }
+page_end false m f = record { known = refl; alive = λ e. let clash : model.Done ≡ model.Idle = e in absurd (cc); done = λ e. (m.frames ++ f ∷ [], refl) }
 
-close_end : (b : Bool) (task : rules.Task) (f : Frame) (m : ClientView) → IsEnd (close_page b task f m) m
+close_end : (b : Bool) (task : model.Task) (f : Frame) (m : ClientView) → IsEnd (close_page b task f m) m
 close_end true task f m = page_end _ m f
-close_end false task f m = record { known = refl; alive = λ e. let clash : Running rules.Starting ≡ rules.Idle = e in absurd (cc); done = λ e. let clash : Running rules.Starting ≡ rules.Done = e in absurd (cc) }
+close_end false task f m = record { known = refl; alive = λ e. let clash : Running model.Starting ≡ model.Idle = e in absurd (cc); done = λ e. let clash : Running model.Starting ≡ model.Done = e in absurd (cc) }
 
-stopped_end : (status : Status) (why : words.Why) (m : ClientView) → IsEnd (record m { stage = rules.Ended status why }) m
-stopped_end status why m = record { known = refl; alive = λ e. let clash : rules.Ended status why ≡ rules.Idle = e in absurd (cc); done = λ e. let clash : rules.Ended status why ≡ rules.Done = e in absurd (cc) }
+stopped_end : (status : Status) (why : words.Why) (m : ClientView) → IsEnd (record m { stage = model.Ended status why }) m
+stopped_end status why m = record { known = refl; alive = λ e. let clash : model.Ended status why ≡ model.Idle = e in absurd (cc); done = λ e. let clash : model.Ended status why ≡ model.Done = e in absurd (cc) }
 
-frame_end : (b : Bool) (task : rules.Task) (params : Params) (heard : List ℕ) (m : ClientView) → IsEnd (close_frame b task params heard m) m
+frame_end : (b : Bool) (task : model.Task) (params : Params) (heard : List ℕ) (m : ClientView) → IsEnd (close_frame b task params heard m) m
 frame_end true task params heard m = close_end params.last_frame task _ m
 frame_end false task params heard m = stopped_end words.IoError words.Short m
 
-end_end : (status : Status) (task : rules.Task) (params : Params) (heard : List ℕ) (m : ClientView) → IsEnd (end_frame status task params heard m) m
+end_end : (status : Status) (task : model.Task) (params : Params) (heard : List ℕ) (m : ClientView) → IsEnd (end_frame status task params heard m) m
 end_end words.Eof task params heard m = frame_end (frame_fills params heard) task params heard m
 end_end words.Good task params heard m = stopped_end words.IoError words.Malformed m
 end_end words.Unsupported task params heard m = stopped_end words.Unsupported words.Answer m
@@ -210,7 +210,7 @@ pub record IsReader (t : Ghost) (i : ℕ) (p : Endpoint) (bytes : List ℕ) : Ty
   pub wants : client.wanted_port p.client.progress ≡ None
   pub flows : (progress : Progress) (phase : RecordPhase) (image : Option (List ℕ)) (flight : List ℕ) (ending : Option Status) → IsDialled progress phase image flight ending → FlowsAt (t.system.job i).session.transfer progress phase image flight ending
   pub carried : CarriesFlight p.client.phase bytes (t.system.job i).session.flight (t.system.job i).session.ending
-  pub talks : EndpointClientRefines (place_of_info t.infos) (t.jobs i) (t.history i) (t.pages i) (t.system.job i) p
+  pub exchanges : EndpointClientRefines (place_of_info t.infos) (t.jobs i) (t.history i) (t.pages i) (t.system.job i) p
   pub reads : ClientRefines (place_of_info t.infos) (target_of (t.jobs i)) (t.system.job i).session.job (map (λ (q : JoinHistory). q.ended) (t.pages i)) (protocol_of p.client (t.history i)) (t.system.job i).client
   pub part : is_joined (t.history i).ended ≡ false
   pub scanning : scans (t.jobs i).task ≡ true
@@ -229,7 +229,7 @@ pub record IsThen (me now : JobState) (open_ : Option (List ℕ)) (asks : List A
   pub due : now.due ≡ me.due
   pub todo : now.todo ≡ me.todo ++ asks
   pub known : now.client.known ≡ me.client.known
-  pub alive : now.client.stage ≡ rules.Idle → ⊥
+  pub alive : now.client.stage ≡ model.Idle → ⊥
   pub image : IsSome open_ → now.image ≡ true
   pub last : IsSome open_ → is_some now.session.ending ≡ is_some me.session.ending
   pub unended : HasNoEnd now.session.transfer now.session.ending
@@ -267,15 +267,15 @@ told_mid : (t : Ghost) (i : ℕ) (p : Endpoint) (bytes : List ℕ) (n : ℕ) (im
     ClientRefines (place_of_info t.infos) p.client.target (t.system.job i).session.job (map (λ (q : JoinHistory). q.ended) (t.pages i)) (protocol_of mid past) m → IsTold (place_of_info t.infos) (t.jobs i) (t.system.job i).session.job past (t.pages i) m (record (handed n image p) { client = mid })
 told_mid t i p bytes n image mid past m h kept serves given r =
     record {
-      task = h.talks.task;
-      target = kept.target ∙ h.talks.target;
-      word = λ _. kept.word ∙ h.talks.word h.runs;
+      task = h.exchanges.task;
+      target = kept.target ∙ h.exchanges.target;
+      word = λ _. kept.word ∙ h.exchanges.word h.runs;
       over = kept.over;
       serves = serves;
-      reads = subst (λ (x : JobTarget). ClientRefines (place_of_info t.infos) x (t.system.job i).session.job (map (λ (q : JoinHistory). q.ended) (t.pages i)) (protocol_of mid past) m) h.talks.target r;
-      files = files_handed (is_laid (t.jobs i).task p.client.outcome (t.history i)) (t.history i).given past (t.pages i) n image p mid (laid_not (t.jobs i).task p.client.outcome (t.history i) (not_done p.client.outcome h.runs)) given (t.history i) refl h.talks.files;
-      finished = h.talks.finished;
-      alone = h.talks.alone;
+      reads = subst (λ (x : JobTarget). ClientRefines (place_of_info t.infos) x (t.system.job i).session.job (map (λ (q : JoinHistory). q.ended) (t.pages i)) (protocol_of mid past) m) h.exchanges.target r;
+      files = files_handed (is_laid (t.jobs i).task p.client.outcome (t.history i)) (t.history i).given past (t.pages i) n image p mid (laid_not (t.jobs i).task p.client.outcome (t.history i) (not_done p.client.outcome h.runs)) given (t.history i) refl h.exchanges.files;
+      finished = h.exchanges.finished;
+      alone = h.exchanges.alone;
       scanned = λ e joined. h.scanning;
     }
 
@@ -306,18 +306,18 @@ turns_imaging o (stages.Imaging port made) e = turns_else o (stages.Imaging port
 turns_imaging o progress e = absurd (let clash : false ≡ true = e in cc)
 
 -- what goes out at an end, and as the file of a page is taken behind it
-turning_spells : (o : Outcome) (job : Job) (ruled : rules.AbstractJob) (m : ClientView) (sent more : List ℕ) → (is_running o ≡ false → stages.Turning ≡ stages.Over) → SpellsSentAt (target_of job) 0 stages.Turning sent ruled m → SaysNext (turns o stages.Turning) job m more → SpellsAsked job m (requests_sent ruled.task m.stage) (sent ++ more)
+turning_spells : (o : Outcome) (job : Job) (ruled : model.AbstractJob) (m : ClientView) (sent more : List ℕ) → (is_running o ≡ false → stages.Turning ≡ stages.Over) → SpellsSentAt (target_of job) 0 stages.Turning sent ruled m → SaysNext (turns o stages.Turning) job m more → SpellsAsked job m (requests_sent ruled.task m.stage) (sent ++ more)
 turning_spells outcomes.Running job ruled m sent more over s n =
     subst (λ (l : List ℕ). SpellsAsked job m (requests_sent ruled.task m.stage) (l ++ more)) (sym s.0) (subst (λ (asks : List AbstractRequest). SpellsAsked job m asks more) (sym s.1) n)
 turning_spells (outcomes.Done reports) job ruled m sent more over s n = absurd (let clash : stages.Turning ≡ stages.Over = over refl in cc)
 turning_spells (outcomes.Ended status why) job ruled m sent more over s n = absurd (let clash : stages.Turning ≡ stages.Over = over refl in cc)
 
-still_spells : (o : Outcome) (progress : Progress) (job : Job) (ruled : rules.AbstractJob) (m : ClientView) (sent more : List ℕ) → is_turning progress ≡ false → SpellsSent (target_of job) sent (asks_of 0 m.known (requests_sent ruled.task m.stage)) → SaysNext (turns o progress) job m more → SpellsAsked job m (requests_sent ruled.task m.stage) (sent ++ more)
+still_spells : (o : Outcome) (progress : Progress) (job : Job) (ruled : model.AbstractJob) (m : ClientView) (sent more : List ℕ) → is_turning progress ≡ false → SpellsSent (target_of job) sent (asks_of 0 m.known (requests_sent ruled.task m.stage)) → SaysNext (turns o progress) job m more → SpellsAsked job m (requests_sent ruled.task m.stage) (sent ++ more)
 still_spells o progress job ruled m sent more e s n =
     subst (λ (l : List ℕ). SpellsAsked job m (requests_sent ruled.task m.stage) (sent ++ l)) (sym (silent (turns o progress) job m more (turns_else o progress e) n))
     (subst (λ (l : List ℕ). SpellsAsked job m (requests_sent ruled.task m.stage) l) (sym (append-nil sent)) s)
 
-spells_both : (o : Outcome) (progress : Progress) (job : Job) (ruled : rules.AbstractJob) (m : ClientView) (sent more : List ℕ) → (is_running o ≡ false → progress ≡ stages.Over) → SpellsSentAt (target_of job) 0 progress sent ruled m → SaysNext (turns o progress) job m more → SpellsAsked job m (requests_sent ruled.task m.stage) (sent ++ more)
+spells_both : (o : Outcome) (progress : Progress) (job : Job) (ruled : model.AbstractJob) (m : ClientView) (sent more : List ℕ) → (is_running o ≡ false → progress ≡ stages.Over) → SpellsSentAt (target_of job) 0 progress sent ruled m → SaysNext (turns o progress) job m more → SpellsAsked job m (requests_sent ruled.task m.stage) (sent ++ more)
 spells_both o stages.Turning job ruled m sent more over s n = turning_spells o job ruled m sent more over s n
 spells_both o progress job ruled m sent more over s n = still_spells o progress job ruled m sent more refl s n
 
@@ -363,7 +363,7 @@ goes t i p n image piece mid given past h whole kept carries same going serves g
         due = refl;
         todo = sym (append-nil me.todo);
         known = refl;
-        alive = λ e. let clash : Running (Imaging h.params (h.heard ++ given)) ≡ rules.Idle = e in absurd (cc);
+        alive = λ e. let clash : Running (Imaging h.params (h.heard ++ given)) ≡ model.Idle = e in absurd (cc);
         image = λ _. h.made;
         last = λ _. refl;
         unended = h.unended;
@@ -421,9 +421,9 @@ ends t i p n image piece mid given number past sent h whole kept b out e =
     let closes : EndRecordRefines place p.client.target me.session.job shown (t.history i).given past mid now.client sent =
     subst (λ (m : ClientView). EndRecordRefines place p.client.target me.session.job shown (t.history i).given past mid (finish_in m.stage me.session.job.task m status) sent) (read_is me.client h.params h.heard given h.stage short)
     (subst (λ (o : Option Code). EndByteRefines place p.client.target me.session.job shown (t.history i).given past mid (client_after_bytes me.client.stage me.client given) sent o) (ap status_at a.number ∙ code_at a.code) e) in
-    let word : mid.notes.word ≡ 0 = kept.word ∙ h.talks.word h.runs in
+    let word : mid.notes.word ≡ 0 = kept.word ∙ h.exchanges.word h.runs in
     let spell : SpellsSentAt (target_of (t.jobs i)) 0 mid.progress sent me.session.job now.client =
-    subst (λ (x : JobTarget). SpellsSentAt x 0 mid.progress sent me.session.job now.client) h.talks.target (subst (λ (w : ℕ). SpellsSentAt p.client.target w mid.progress sent me.session.job now.client) word closes.spells) in
+    subst (λ (x : JobTarget). SpellsSentAt x 0 mid.progress sent me.session.job now.client) h.exchanges.target (subst (λ (w : ℕ). SpellsSentAt p.client.target w mid.progress sent me.session.job now.client) word closes.spells) in
     let shut : open_still me.session.ending rest ≡ None = ap (λ (o : Option Status). open_still o rest) a.closing_is ∙ ap (open_still (Some status)) (back_none b.rest rest a.more_is) in
     let spells : (more : List ℕ) → SaysNext (turns mid.outcome mid.progress) (t.jobs i) now.client more → SpellsAsked (t.jobs i) now.client (requests_sent me.session.job.task now.client.stage) (sent ++ more) = λ more s. spells_both mid.outcome mid.progress (t.jobs i) me.session.job now.client sent more kept.over spell s in
     record {
@@ -514,7 +514,7 @@ starves t i p n image piece mid given more phase past h whole kept b out outcome
         due = refl;
         todo = sym (append-nil me.todo);
         known = refl;
-        alive = λ e. let clash : rules.Ended words.NoMem words.Memory ≡ rules.Idle = e in absurd (cc);
+        alive = λ e. let clash : model.Ended words.NoMem words.Memory ≡ model.Idle = e in absurd (cc);
         image = λ _. h.made;
         last = λ _. refl;
         unended = h.unended;
@@ -553,8 +553,8 @@ pub received_mid : (t : Ghost) (i : ℕ) (p : Endpoint) (n : ℕ) (image : Image
 received_mid t i p n image mid count task h r =
     let me = t.system.job i in
     let shown : List (List Frame) = map (λ (q : JoinHistory). q.ended) (t.pages i) in
-    let own : p.client.target.task ≡ (t.jobs i).task = ap (λ (x : JobTarget). x.task) h.talks.target in
+    let own : p.client.target.task ≡ (t.jobs i).task = ap (λ (x : JobTarget). x.task) h.exchanges.target in
     let received =
-    all_received (place_of_info t.infos) me.session.job shown p.client mid (t.history i) (delivered_bytes n image.bytes) me.client (task ∙ ap task_of (sym own)) (subst HasCount (sym own) count) h.receiving h.talks.serves
-    (subst (λ (x : JobTarget). ClientRefines (place_of_info t.infos) x me.session.job shown (protocol_of p.client (t.history i)) me.client) (sym h.talks.target) h.reads) r in
+    all_received (place_of_info t.infos) me.session.job shown p.client mid (t.history i) (delivered_bytes n image.bytes) me.client (task ∙ ap task_of (sym own)) (subst HasCount (sym own) count) h.receiving h.exchanges.serves
+    (subst (λ (x : JobTarget). ClientRefines (place_of_info t.infos) x me.session.job shown (protocol_of p.client (t.history i)) me.client) (sym h.exchanges.target) h.reads) r in
     by_received t i p n image (delivered_bytes n image.bytes) mid h (take-append-drop (min n 4096) image.bytes) (received_kept p.client (t.history i) (delivered_bytes n image.bytes) mid h.runs r) received

@@ -5,7 +5,7 @@ use Rattle.device_api.specs.State.{DeviceState}
 use Rattle.dispatch.specs.Table.{Table}
 use Rattle.saned_requests.specs.declared.session.DataPhase.{DataPhase as WordCarriage}
 use Rattle.saned_requests.specs.declared.session.DataPhase.TheVariants as word
-use Rattle.saned_requests.specs.declared.session.Session.{Session as DeskSession}
+use Rattle.saned_requests.specs.declared.session.Session.{Session as RequestSession}
 use Rattle.saned_core.specs.declared.session_slot.DataStep.{DataStep}
 use Rattle.saned_core.specs.declared.session_slot.FrameState.{FrameState}
 use Rattle.saned_core.specs.declared.session_slot.SessionSlot.{SessionSlot}
@@ -29,20 +29,20 @@ use Rattle.daemon_refines.specs.Failures.{FailedAt, IsCountedAt}
 use Rattle.daemon_refines.specs.Streams.{SendsAs}
 use Rattle.system_model.specs.Daemon.{TransferState, FailureCounts, Quiet, Waiting, Streaming, Ending}
 use Rattle.daemon_refines.proofs.CoreCalls.{core_turns, core_turns_off}
-use Rattle.daemon_refines.proofs.Cores.{own_seat}
+use Rattle.daemon_refines.proofs.Cores.{own_slot}
 use Rattle.daemon_refines.proofs.Leaves.{IsKept, changed, kept, leaves_kept, put_one}
 use Rattle.daemon_refines.proofs.Moved.{put_there}
 use Rattle.daemon_refines.proofs.OtherSessions.{own_of}
 use Rattle.scan_world.specs.declared.endpoint.Endpoint.{Endpoint}
 use Rattle.scan_world.specs.JobEvents as world
 use Rattle.world_refines.specs.WorldRefinement.{AreFaithful, IsBelow, IsFaithfulLease, IsFaithfulPlace, IsFaithfulSessionSlot, IsFaithfulSession, info_at, session_by}
-use Rattle.world_refines.proofs.state.EndpointSlots.{Reseats, reseats_with, with_number}
+use Rattle.world_refines.proofs.state.EndpointSlots.{Replaces, replaces_with, with_number}
 use Rattle.world_refines.proofs.state.CoreCallsKeep.{word_wanted}
-use Rattle.world_refines.proofs.state.Faithful.{on_seat_all, seat_all, session_true}
+use Rattle.world_refines.proofs.state.Faithful.{on_slot_all, slot_all, session_true}
 use Rattle.world_refines.proofs.state.ReadTrue.{stream_true}
 use Rattle.world_refines.proofs.state.Sees.{Leaves}
 use Rattle.world_refines.proofs.state.Spoken.{AreSame, same_streamed}
-use Rattle.world_refines.proofs.frames.Turned.{IsShortRecord, Turn, Failed, Gives, Named, Off, Short, Whole, carriage_after, deed_of, dev_after, device_is, is_end, is_turn, job_after, party_is, short_turn, text_of}
+use Rattle.world_refines.proofs.frames.Turned.{IsShortRecord, Turn, Failed, Gives, Named, Off, Short, Whole, carriage_after, action_of, dev_after, device_is, is_end, is_turn, job_after, party_is, short_turn, text_of}
 
 -- the devices behind it
 abbrev pub devices_after : Turn → (ℕ → AbstractDevice) → ℕ → ℕ → AbstractDevice
@@ -50,8 +50,8 @@ devices_after turn table wants = with_entry table wants (dev_after turn (table w
 
 -- where its source fails, the device that the session holds is so stopped, and the frame is over
 pub record IsFailedTurn (d e : Core) (n : ℕ) (fault : FailureCounts) : Type 0 where
-  pub old : DeskSession DeviceState
-  pub new : DeskSession DeviceState
+  pub old : RequestSession DeviceState
+  pub new : RequestSession DeviceState
   pub stood : session_in (session_slot_of d.slots n) ≡ Some old
   pub stands : session_in (session_slot_of e.slots n) ≡ Some new
   pub over : new.transfer ≡ word.Quiet
@@ -60,7 +60,7 @@ pub record IsFailedTurn (d e : Core) (n : ℕ) (fault : FailureCounts) : Type 0 
 
 pub record Streamed (i : ℕ) (make : ℕ → Make) (d e : Core) (id : SessionId) (table : ℕ → AbstractDevice) (p : JobState) (step : DataStep) (buf : List ℕ) : Type 0 where
   pub turn : Turn
-  pub may : IsActionEnabled i (make p.session.job.wants) p (table p.session.job.wants) (deed_of turn)
+  pub may : IsActionEnabled i (make p.session.job.wants) p (table p.session.job.wants) (action_of turn)
   pub short : IsShortRecord turn
   pub fails : (fault : FailureCounts) → turn ≡ Failed fault → IsFailedTurn d e id.number fault
   pub sends : (n : ℕ) (b : Core) (old : Endpoint) (c : Core) (new : Endpoint) → world.SendsStep n step buf b old c new → world.SendsRecord n (text_of turn) (is_end turn) b old c new
@@ -68,24 +68,24 @@ pub record Streamed (i : ℕ) (make : ℕ → Make) (d e : Core) (id : SessionId
   pub shows : SessionRefines i make e id.number (devices_after turn table p.session.job.wants) (session_by i (devices_after turn table p.session.job.wants) (job_after turn p))
   pub input : input_in (session_slot_of e.slots id.number) ≡ input_in (session_slot_of d.slots id.number)
   pub replies : replies_in (session_slot_of e.slots id.number) ≡ replies_in (session_slot_of d.slots id.number)
-  pub reseats : (link : Option SessionId) → Reseats link link d e
+  pub replaces : (link : Option SessionId) → Replaces link link d e
   pub same : AreSame (session_in (session_slot_of d.slots id.number)) (session_in (session_slot_of e.slots id.number))
 
 -- ---- its slot
 
 -- the slot with another session
-pub record IsSeated (n : ℕ) (slots : List (Option (SessionSlot DeviceState))) (now : DeskSession DeviceState) : Type 0 where
+pub record IsInSlot (n : ℕ) (slots : List (Option (SessionSlot DeviceState))) (now : RequestSession DeviceState) : Type 0 where
   pub slot : SessionSlot DeviceState
   pub old : session_slot_of slots n ≡ Some slot
   pub new : session_slot_of (on_session_slot (with_session now) n slots) n ≡ Some (record slot { session = Some now })
 
-is_seated : (n : ℕ) (slots : List (Option (SessionSlot DeviceState))) (session now : DeskSession DeviceState) (o : Option (SessionSlot DeviceState)) → session_slot_of slots n ≡ o → session_in o ≡ Some session → IsSeated n slots now
-is_seated n slots session now None e is = absurd (let clash : None ≡ Some session = is in cc)
-is_seated n slots session now (Some slot) e is = record { slot = slot; old = e; new = own_seat (with_session now) n slots slot (record slot { session = Some now }) e refl refl }
+is_in_slot : (n : ℕ) (slots : List (Option (SessionSlot DeviceState))) (session now : RequestSession DeviceState) (o : Option (SessionSlot DeviceState)) → session_slot_of slots n ≡ o → session_in o ≡ Some session → IsInSlot n slots now
+is_in_slot n slots session now None e is = absurd (let clash : None ≡ Some session = is in cc)
+is_in_slot n slots session now (Some slot) e is = record { slot = slot; old = e; new = own_slot (with_session now) n slots slot (record slot { session = Some now }) e refl refl }
 
 -- ---- its device
 
-turn_kept : (turn : Turn) (i : ℕ) (k : Make) (p : JobState) (dev : AbstractDevice) → IsActionEnabled i k p dev (deed_of turn) → IsKept i dev (dev_after turn dev)
+turn_kept : (turn : Turn) (i : ℕ) (k : Make) (p : JobState) (dev : AbstractDevice) → IsActionEnabled i k p dev (action_of turn) → IsKept i dev (dev_after turn dev)
 turn_kept (Gives bytes) i k p dev m = changed i dev _ (own_of i dev.holder (Some i) m.3.reads.1 refl) refl refl
 turn_kept Whole i k p dev m = changed i dev _ (own_of i dev.holder (Some i) m.2.1 refl) refl refl
 turn_kept (Named code) i k p dev m = changed i dev _ (own_of i dev.holder (Some i) m.3.1 refl) refl refl
@@ -96,13 +96,13 @@ turn_kept Off i k p dev m = kept i dev
 -- ---- what is left
 
 -- the session of a slot, behind the turn
-abbrev faithful_session : Core → ℕ → DeskSession DeviceState → Type 0
+abbrev faithful_session : Core → ℕ → RequestSession DeviceState → Type 0
 faithful_session d n session = AreFaithful d → AllByRecursion IsFaithfulLease session.held
 
 session_is_true : (i : ℕ) (make : ℕ → Make) (d : Core) (n : ℕ) (table : ℕ → AbstractDevice) (s : AbstractSession) → (h : SessionRefines i make d n table s) → AreFaithful d → AllByRecursion IsFaithfulLease h.session.held
-session_is_true i make d n table s h faithful = subst IsFaithfulSession h.stands (session_true (session_slot_of d.slots n) (seat_all IsFaithfulSessionSlot d.slots n tt faithful.lent))
+session_is_true i make d n table s h faithful = subst IsFaithfulSession h.stands (session_true (session_slot_of d.slots n) (slot_all IsFaithfulSessionSlot d.slots n tt faithful.lent))
 
-leaves_by : (i : ℕ) (make : ℕ → Make) (d e : Core) (id : SessionId) (table device : ℕ → AbstractDevice) (now : DeskSession DeviceState) (s : AbstractSession) → AllByRecursion (IsBelow d.opened) d.slots → AreFaithful d → e ≡ record d { slots = e.slots } → e.slots ≡ on_session_slot (with_session now) id.number d.slots →
+leaves_by : (i : ℕ) (make : ℕ → Make) (d e : Core) (id : SessionId) (table device : ℕ → AbstractDevice) (now : RequestSession DeviceState) (s : AbstractSession) → AllByRecursion (IsBelow d.opened) d.slots → AreFaithful d → e ≡ record d { slots = e.slots } → e.slots ≡ on_session_slot (with_session now) id.number d.slots →
     AllByRecursion IsFaithfulLease now.held → SessionRefines i make e id.number device s → LeavesOthers i d.registry d.registry table device → Leaves i make (Some id) d e table device
 leaves_by i make d e id table device now s below faithful others slots true_now shows leaves =
     let registry : e.registry ≡ d.registry = ap (λ (c : Core). c.registry) others in
@@ -113,10 +113,10 @@ leaves_by i make d e id table device now s below faithful others slots true_now 
       opened = omega (arith, opened);
       below =
           subst (λ (k : ℕ). AllByRecursion (IsBelow k) e.slots) (sym opened)
-          (subst (λ (x : List (Option (SessionSlot DeviceState))). AllByRecursion (IsBelow d.opened) x) (sym slots) (on_seat_all (IsBelow d.opened) (with_session now) id.number d.slots tt (λ slot b. b) below));
+          (subst (λ (x : List (Option (SessionSlot DeviceState))). AllByRecursion (IsBelow d.opened) x) (sym slots) (on_slot_all (IsBelow d.opened) (with_session now) id.number d.slots tt (λ slot b. b) below));
       faithful = record {
         lying = subst (λ (t : Table). AllByRecursion IsFaithfulPlace t) (sym registry) faithful.lying;
-        lent = subst (λ (x : List (Option (SessionSlot DeviceState))). AllByRecursion IsFaithfulSessionSlot x) (sym slots) (on_seat_all IsFaithfulSessionSlot (with_session now) id.number d.slots tt (λ slot b. true_now) faithful.lent);
+        lent = subst (λ (x : List (Option (SessionSlot DeviceState))). AllByRecursion IsFaithfulSessionSlot x) (sym slots) (on_slot_all IsFaithfulSessionSlot (with_session now) id.number d.slots tt (λ slot b. true_now) faithful.lent);
       };
       slots = λ m other low. ap (λ (x : List (Option (SessionSlot DeviceState))). session_slot_of x m) slots ∙ apart d.slots (with_session now) id.number m (with_number now) (λ x. other (sym x));
       held = shows.session.held;
@@ -124,7 +124,7 @@ leaves_by i make d e id table device now s below faithful others slots true_now 
       others = subst (λ (t : Table). LeavesOthers i d.registry t table device) (sym registry) leaves;
     }
 
-shows_by : (i : ℕ) (make : ℕ → Make) (listed : List ℕ) (d e : Core) (n : ℕ) (table : ℕ → AbstractDevice) (p : JobState) (action : Action) (turn : Turn) → action ≡ deed_of turn →
+shows_by : (i : ℕ) (make : ℕ → Make) (listed : List ℕ) (d e : Core) (n : ℕ) (table : ℕ → AbstractDevice) (p : JobState) (action : Action) (turn : Turn) → action ≡ action_of turn →
     SessionRefines i make e n (with_entry table p.session.job.wants (device_after i (make p.session.job.wants) listed p (table p.session.job.wants) action)) (record (session_by i table p) { transfer = (job_after_action i (make p.session.job.wants) listed p (table p.session.job.wants) action).session.transfer }) →
     SessionRefines i make e n (devices_after turn table p.session.job.wants) (session_by i (devices_after turn table p.session.job.wants) (job_after turn p))
 shows_by i make listed d e n table p action turn is h =
@@ -133,7 +133,7 @@ shows_by i make listed d e n table p action turn is h =
     let dev = table wants in
     let device = devices_after turn table wants in
     let of_turn = subst (λ (x : Action). SessionRefines i make e n (with_entry table wants (device_after i k listed p dev x)) (record (session_by i table p) { transfer = (job_after_action i k listed p dev x).session.transfer })) is h in
-    let by_device = subst (λ (x : AbstractDevice). SessionRefines i make e n (with_entry table wants x) (record (session_by i table p) { transfer = (job_after_action i k listed p dev (deed_of turn)).session.transfer })) (device_is turn i k listed p dev) of_turn in
+    let by_device = subst (λ (x : AbstractDevice). SessionRefines i make e n (with_entry table wants x) (record (session_by i table p) { transfer = (job_after_action i k listed p dev (action_of turn)).session.transfer })) (device_is turn i k listed p dev) of_turn in
     let by_party = subst (λ (x : JobState). SessionRefines i make e n device (record (session_by i table p) { transfer = x.session.transfer })) (party_is turn i k listed p dev) by_device in
     let ruled : session_by i device (job_after turn p) ≡ record (session_by i table p) { transfer = carriage_after turn p.session.transfer } =
     ap (λ (x : AbstractDevice). one_word_session (is_held_by i x.holder) wants (carriage_after turn p.session.transfer) p.session.awaited) (put_there table wants (dev_after turn dev)) in
@@ -146,9 +146,9 @@ quiet_word (word.Streaming w) c framed h e = absurd (let clash : Quiet ≡ Strea
 quiet_word word.Ending c framed h e = absurd (let clash : Quiet ≡ Ending = sym e ∙ h in cc)
 
 failed_turn : (i : ℕ) (make : ℕ → Make) (d e : Core) (id : SessionId) (table device : ℕ → AbstractDevice) (p : JobState) (place : ℕ) (turn : Turn) (fault : FailureCounts) → (h : SessionRefines i make d id.number table (session_by i table p)) → (shows : SessionRefines i make e id.number device (session_by i device (job_after turn p))) →
-    ((a b : DeskSession DeviceState) → session_in (session_slot_of d.slots id.number) ≡ Some a → session_in (session_slot_of e.slots id.number) ≡ Some b → IsCountedAt a.held b.held (session_by i table p).words place (deed_of turn)) → turn ≡ Failed fault → IsFailedTurn d e id.number fault
+    ((a b : RequestSession DeviceState) → session_in (session_slot_of d.slots id.number) ≡ Some a → session_in (session_slot_of e.slots id.number) ≡ Some b → IsCountedAt a.held b.held (session_by i table p).words place (action_of turn)) → turn ≡ Failed fault → IsFailedTurn d e id.number fault
 failed_turn i make d e id table device p place turn fault h shows counted is =
-    let c : IsCountedAt h.session.held shows.session.held (session_by i table p).words place (deed_of (Failed fault)) = subst (λ (x : Turn). IsCountedAt h.session.held shows.session.held (session_by i table p).words place (deed_of x)) is (counted h.session shows.session h.stands shows.stands) in
+    let c : IsCountedAt h.session.held shows.session.held (session_by i table p).words place (action_of (Failed fault)) = subst (λ (x : Turn). IsCountedAt h.session.held shows.session.held (session_by i table p).words place (action_of x)) is (counted h.session shows.session h.stands shows.stands) in
     record {
       old = h.session;
       new = shows.session;
@@ -166,28 +166,28 @@ streamed_by i make listed d e id table p step buf below faithful h g c =
     let wants = p.session.job.wants in
     let t = is_turn c.action step buf c.sends in
     let turn = t.turn in
-    let may : IsActionEnabled i (make wants) p (table wants) (deed_of turn) = subst (λ (x : Action). IsActionEnabled i (make wants) p (table wants) x) t.deed_is c.may in
-    let sent : SendsAs step buf (deed_of turn) = subst (λ (x : Action). SendsAs step buf x) t.deed_is c.sends in
-    let run : TurnsSessions (Some h.session) n d.slots step e.slots buf = subst (λ (o : Option (DeskSession DeviceState)). TurnsSessions o n d.slots step e.slots buf) h.stands g.slots in
-    let now : DeskSession DeviceState = run.0 in
-    let seated = is_seated n d.slots h.session now (session_slot_of d.slots n) refl h.stands in
-    let slot = ap (λ (x : List (Option (SessionSlot DeviceState))). session_slot_of x n) run.2 ∙ seated.new in
-    let shows = shows_by i make listed d e n table p c.action turn t.deed_is c.stands.own in
+    let may : IsActionEnabled i (make wants) p (table wants) (action_of turn) = subst (λ (x : Action). IsActionEnabled i (make wants) p (table wants) x) t.action_is c.may in
+    let sent : SendsAs step buf (action_of turn) = subst (λ (x : Action). SendsAs step buf x) t.action_is c.sends in
+    let run : TurnsSessions (Some h.session) n d.slots step e.slots buf = subst (λ (o : Option (RequestSession DeviceState)). TurnsSessions o n d.slots step e.slots buf) h.stands g.slots in
+    let now : RequestSession DeviceState = run.0 in
+    let in_slot = is_in_slot n d.slots h.session now (session_slot_of d.slots n) refl h.stands in
+    let slot = ap (λ (x : List (Option (SessionSlot DeviceState))). session_slot_of x n) run.2 ∙ in_slot.new in
+    let shows = shows_by i make listed d e n table p c.action turn t.action_is c.stands.own in
     let device = devices_after turn table wants in
     record {
       turn = turn;
       may = may;
       short = short_turn turn h.session.transfer h.session now step buf run.1 sent;
-      fails = λ fault is. failed_turn i make d e id table device p wants turn fault h shows (λ a b stood stands. subst (λ (x : Action). IsCountedAt a.held b.held (session_by i table p).words wants x) t.deed_is (c.counted a b stood stands)) is;
+      fails = λ fault is. failed_turn i make d e id table device p wants turn fault h shows (λ a b stood stands. subst (λ (x : Action). IsCountedAt a.held b.held (session_by i table p).words wants x) t.action_is (c.counted a b stood stands)) is;
       sends = t.sends;
       leaves = leaves_by i make d e id table device now (session_by i device (job_after turn p)) below faithful g.others run.2 (stream_true h.session.transfer h.session now step buf run.1 (session_is_true i make d n table (session_by i table p) h faithful)) shows
           (leaves_kept i d.registry table device (put_one i table wants (dev_after turn (table wants)) (turn_kept turn i (make wants) p (table wants) may)));
       shows = shows;
-      input = ap input_in slot ∙ sym (ap input_in seated.old);
-      replies = ap replies_in slot ∙ sym (ap replies_in seated.old);
-      reseats = λ link. reseats_with now link d e n run.2;
+      input = ap input_in slot ∙ sym (ap input_in in_slot.old);
+      replies = ap replies_in slot ∙ sym (ap replies_in in_slot.old);
+      replaces = λ link. replaces_with now link d e n run.2;
       same =
-          subst (λ (o : Option (DeskSession DeviceState)). AreSame o (session_in (session_slot_of e.slots n))) (sym h.stands)
+          subst (λ (o : Option (RequestSession DeviceState)). AreSame o (session_in (session_slot_of e.slots n))) (sym h.stands)
           (subst (λ (o : Option (SessionSlot DeviceState)). AreSame (Some h.session) (session_in o)) (sym slot) (same_streamed h.session.transfer h.session now step buf run.1));
     }
 

@@ -16,14 +16,14 @@ use Rattle.saned_core.specs.declared.session_slot.SessionSlot.{SessionSlot}
 use Rattle.saned_core.specs.DaemonStates.{Core, after_lost, frame_in, frame_state_of, lost_from, on_session, on_session_slot, replies_in, session_slot_of, session_in}
 use Rattle.saned_core.specs.Feeding.{core_context, input_in}
 use Rattle.device_api.specs.State.{DeviceState}
-use Rattle.saned_requests.specs.declared.session.Session.{Session as DeskSession}
+use Rattle.saned_requests.specs.declared.session.Session.{Session as RequestSession}
 use Rattle.saned_requests.specs.Holding.{held_by}
-use Rattle.daemon_refines.proofs.Cores.{own_seat}
+use Rattle.daemon_refines.proofs.Cores.{own_slot}
 use Rattle.scan_job.specs.declared.job.Job.{Job}
 use Rattle.client_replies.specs.declared.progress.Progress.{Progress}
 use Rattle.system_model.specs.AbstractMessages.{Status}
 use Rattle.system_model.specs.Causes.{Cause, IsCauseAmong, Names, NamesEof, SourceFailed, LinkOutOfMemory}
-use Rattle.system_model.specs.Client as rules
+use Rattle.system_model.specs.Client as model
 use Rattle.system_model.specs.Client.{Idle, JobStage}
 use Rattle.system_model.specs.Daemon.{TransferState, FailureCounts, Quiet, Waiting, Streaming, Ending}
 use Rattle.system_model.specs.Actions as actions
@@ -62,7 +62,7 @@ use Rattle.world_refines.proofs.state.ListedPlaces.{shown_after}
 use Rattle.world_refines.proofs.state.Spoken.{speaks_still}
 use Rattle.world_refines.proofs.state.Failing.{Counting, plain_decides}
 use Rattle.world_refines.proofs.state.Taking.{DecidesAt, DecidesIn, done, one_change, one_party, sits_there}
-use Rattle.world_refines.proofs.frames.Turned.{IsShortRecord, Turn, Failed, Gives, Named, Off, Short, Whole, carriage_after, deed_of, device_is, ending_after, flight_after, is_end, job_after, met_after, party_is, record_of, text_of}
+use Rattle.world_refines.proofs.frames.Turned.{IsShortRecord, Turn, Failed, Gives, Named, Off, Short, Whole, carriage_after, action_of, device_is, ending_after, flight_after, is_end, job_after, met_after, party_is, record_of, text_of}
 use Rattle.world_refines.proofs.frames.Unimaged.{both_or, by_imaging, bytes_some, none_some, some_bytes, some_or}
 use Rattle.world_refines.proofs.state.WorldPending.{pends_same}
 
@@ -111,13 +111,13 @@ dialled_turned turn progress phase image flight ending short none h =
 flows_turned : (st : JobStage) (turn : Turn) (c : TransferState) (progress : Progress) (phase : RecordPhase) (image : Option (List ℕ)) (flight : List ℕ) (ending : Option Status) → IsShortRecord turn → Started c → ending ≡ None → IsSome image → FlightMatches st c progress phase image flight ending →
     FlightMatches st (carriage_after turn c) progress phase (option_map (λ (bytes : List ℕ). bytes ++ text_of turn) image) (flight_after turn flight) (ending_after turn ending)
 flows_turned Idle turn c progress phase image flight ending short started none some h = absurd (none_some image h.image_is some)
-flows_turned (rules.Running g) turn c progress phase image flight ending short started none some h =
+flows_turned (model.Running g) turn c progress phase image flight ending short started none some h =
     let is = by_imaging g c progress phase image flight ending h some in
     let at : FlowsAt c progress phase image flight ending = subst (λ (x : JobStage). FlightMatches x c progress phase image flight ending) is.2 h in
     subst (λ (x : JobStage). FlightMatches x (carriage_after turn c) progress phase (option_map (λ (bytes : List ℕ). bytes ++ text_of turn) image) (flight_after turn flight) (ending_after turn ending)) (sym is.2)
     (at_turned turn c progress phase _ _ _ started (dialled_turned turn progress phase image flight ending short none (to_dialled c progress phase image flight ending started at)))
-flows_turned rules.Done turn c progress phase image flight ending short started none some h = tt
-flows_turned (rules.Ended status why) turn c progress phase image flight ending short started none some h = tt
+flows_turned model.Done turn c progress phase image flight ending short started none some h = tt
+flows_turned (model.Ended status why) turn c progress phase image flight ending short started none some h = tt
 
 -- ---- what is meant by it
 
@@ -157,8 +157,8 @@ some_record (Some bytes) text h = refl
 abbrev gained : Turn → Image → Endpoint → Endpoint
 gained turn im p = world.with_image (world.with_data_record (text_of turn) (is_end turn) im) (after_move p)
 
-talks_turned : (turn : Turn) (im : Image) (place : DeviceInfo → ℕ) (job : Job) (past : JoinHistory) (pages : List JoinHistory) (p : JobState) (old : Endpoint) → EndpointClientRefines place job past pages p old → EndpointClientRefines place job past pages (job_after turn p) (gained turn im old)
-talks_turned turn im place job past pages p old h =
+exchanges_turned : (turn : Turn) (im : Image) (place : DeviceInfo → ℕ) (job : Job) (past : JoinHistory) (pages : List JoinHistory) (p : JobState) (old : Endpoint) → EndpointClientRefines place job past pages p old → EndpointClientRefines place job past pages (job_after turn p) (gained turn im old)
+exchanges_turned turn im place job past pages p old h =
     record {
       task = h.task;
       target = h.target;
@@ -211,13 +211,13 @@ means_turned turn im place job x p old served started short some h =
 -- ---- the turn, and its record on the connection
 
 abbrev turn_steps : ℕ → Turn → List Transition
-turn_steps i turn = By i (deed_of turn) ∷ []
+turn_steps i turn = By i (action_of turn) ∷ []
 
 abbrev told_turn : Ghost → ℕ → Turn → Ghost
 told_turn t i turn = wired_then t i (turn_steps i turn) (with_record (text_of turn) (t.wires i))
 
 turned_party : (t : Ghost) (i : ℕ) (turn : Turn) → (told_turn t i turn).system.job i ≡ job_after turn (t.system.job i)
-turned_party t i turn = one_party t i (deed_of turn) (with_record (text_of turn) (t.wires i)) (t.history i) (t.pages i) ∙ party_is turn i (make_for t.system i) (listed_devices t.system) (t.system.job i) (device_for t.system i)
+turned_party t i turn = one_party t i (action_of turn) (with_record (text_of turn) (t.wires i)) (t.history i) (t.pages i) ∙ party_is turn i (make_for t.system i) (listed_devices t.system) (t.system.job i) (device_for t.system i)
 
 turned_stands : (t : Ghost) (w : WorldCore) (i : ℕ) (p : Endpoint) (id : SessionId) (im : Image) (mid : Core) (step : DataStep) (buf : List ℕ) → WorldRefines t w → slice_get w.endpoints i ≡ Some p → i < t.count → p.link ≡ Some id → p.image ≡ Some im → (t.system.job i).served ≡ true → Started (t.system.job i).session.transfer → IsSome (t.wires i).image →
     (s : Streamed i t.system.make w.daemon mid id t.system.device (t.system.job i) step buf) → WorldRefines (told_turn t i s.turn) (record { daemon = mid; endpoints = slice_set w.endpoints i (gained s.turn im p) })
@@ -236,14 +236,14 @@ turned_stands t w i p id im mid step buf h at low link image served started some
     subst (λ (x : AbstractDevice). SessionRefines i t.system.make mid id.number (with_entry t.system.device me.session.job.wants x) (session_by i (with_entry t.system.device me.session.job.wants x) after)) device turned.shows in
     let job_state = turned_party t i turn in
     stands_change t u w i p q mid h at (subst (λ (n : ℕ). i < n) h.is_of.count low) (record {
-      told = one_change t i (deed_of turn) bytes (t.history i) (t.pages i);
+      told = one_change t i (action_of turn) bytes (t.history i) (t.pages i);
       leaves = subst (λ (x : Option SessionId). Leaves i t.system.make x w.daemon mid t.system.device u.system.device) (sym link) leaves;
       sound = sound_after_all t.system (turn_steps i turn) h.sound (turned.may, tt);
       asks = held_after_all t.system (turn_steps i turn) h.sound h.asks (turned.may, tt);
       shown = shown_after t w (turn_steps i turn) h;
       sits = sits_there u mid i q after bytes (t.history i) (t.pages i) job_state (put_there t.wires i bytes) (put_there t.history i (t.history i)) (put_there t.pages i (t.pages i)) (record {
         job_is = s.job_is;
-        talks = talks_turned turn im place (t.jobs i) (t.history i) (t.pages i) me p s.talks;
+        exchanges = exchanges_turned turn im place (t.jobs i) (t.history i) (t.pages i) me p s.exchanges;
         carries =
             subst (λ (x : Option SessionId). WiresMatch bytes (slot_of_link mid x) q) (sym link)
             (carries_turned turn im (t.wires i) w.daemon mid id p image turned.input turned.replies (subst (λ (x : Option SessionId). WiresMatch (t.wires i) (slot_of_link w.daemon x) p) link s.carries));
@@ -259,14 +259,14 @@ turned_stands t w i p id im mid step buf h at low link image served started some
         pends = pends_same p.client.outcome p.client.progress p.client.phase (t.wires i) bytes s.pends.asking refl s.pends;
       });
       link = λ x is. inl is;
-      reseats = turned.reseats p.link;
+      replaces = turned.replaces p.link;
       begun = subst (λ (x : JobState). AreStartedViews t.system.make x) (sym job_state) (h.begun i);
     })
 
 -- ---- there is no memory for the record
 
 abbrev cut_steps : ℕ → Turn → List Transition
-cut_steps i turn = By i (deed_of turn) ∷ By i (actions.LosesImage true) ∷ []
+cut_steps i turn = By i (action_of turn) ∷ By i (actions.LosesImage true) ∷ []
 
 abbrev told_cut : Ghost → ℕ → Turn → Ghost
 told_cut t i turn = wired_then t i (cut_steps i turn) (wires_with_image None (t.wires i))
@@ -357,10 +357,10 @@ the_image (Some im) h = (im, refl)
 -- ---- a source that fails in it
 
 -- a session that reads nothing is left as it is by the loss of its data connection
-lost_stands : (slots : List (Option (SessionSlot DeviceState))) (n : ℕ) (session : DeskSession DeviceState) (o : Option (SessionSlot DeviceState)) → session_slot_of slots n ≡ o → session_in o ≡ Some session → session.transfer ≡ word.Quiet → session_in (session_slot_of (on_session_slot (on_session after_lost) n slots) n) ≡ Some session
+lost_stands : (slots : List (Option (SessionSlot DeviceState))) (n : ℕ) (session : RequestSession DeviceState) (o : Option (SessionSlot DeviceState)) → session_slot_of slots n ≡ o → session_in o ≡ Some session → session.transfer ≡ word.Quiet → session_in (session_slot_of (on_session_slot (on_session after_lost) n slots) n) ≡ Some session
 lost_stands slots n session None e is quiet = absurd (let clash : None ≡ Some session = is in cc)
 lost_stands slots n session (Some slot) e is quiet =
-    ap session_in (own_seat (on_session after_lost) n slots slot (record slot { session = option_map after_lost slot.session }) e refl refl)
+    ap session_in (own_slot (on_session after_lost) n slots slot (record slot { session = option_map after_lost slot.session }) e refl refl)
     ∙ (ap (option_map after_lost) is ∙ ap (λ (c : WordCarriage). Some (lost_from c session)) quiet)
 
 turn_failed : (t : Ghost) (w : WorldCore) (i : ℕ) (p : Endpoint) (id : SessionId) (mid : Core) (fault : FailureCounts) → WorldRefines t w → slice_get w.endpoints i ≡ Some p → p.link ≡ Some id → SessionRefines i t.system.make w.daemon id.number t.system.device (session_by i t.system.device (t.system.job i)) →
@@ -372,7 +372,7 @@ turn_failed t w i p id mid fault h at link shows f =
     by_core core stands =
         let l = f.failed.lease in
         let same : f.old ≡ shows.session = unsome f.old shows.session (sym f.stood ∙ shows.stands) in
-        let held : held_by shows.session.held f.device_word ≡ Some l = subst (λ (x : DeskSession DeviceState). held_by x.held f.device_word ≡ Some l) same f.failed.stood in
+        let held : held_by shows.session.held f.device_word ≡ Some l = subst (λ (x : RequestSession DeviceState). held_by x.held f.device_word ≡ Some l) same f.failed.stood in
         record {
           endpoint = p;
           is_there = at;
@@ -387,7 +387,7 @@ turn_failed t w i p id mid fault h at link shows f =
           left = inl (record { session = f.new; stands = stands; held = f.failed.stands });
         }
 
-turn_fails : (t : Ghost) (w : WorldCore) (i : ℕ) (core : Core) (s : SystemState) (turn : Turn) → ((fault : FailureCounts) → turn ≡ Failed fault → FailedIn w core i (t.jobs i).device) → FailsIn t w core s (By i (deed_of turn))
+turn_fails : (t : Ghost) (w : WorldCore) (i : ℕ) (core : Core) (s : SystemState) (turn : Turn) → ((fault : FailureCounts) → turn ≡ Failed fault → FailedIn w core i (t.jobs i).device) → FailsIn t w core s (By i (action_of turn))
 turn_fails t w i core s (Gives bytes) h = tt
 turn_fails t w i core s Whole h = tt
 turn_fails t w i core s (Named code) h = tt
@@ -409,13 +409,13 @@ turn_leads t w i p id h at low link some flows e q d =
     by_sent t w i p id d.mid turned.turn at low link some has is.started (λ im image. stands im image) turned.may (s.means.image has) (λ fault f. turn_failed t w i p id d.mid fault h at link is.shows (turned.fails fault f)) e q (turned.sends id.number d.mid p e q d.sends)
   where
     by_sent : (t : Ghost) (w : WorldCore) (i : ℕ) (p : Endpoint) (id : SessionId) (mid : Core) (turn : Turn) → slice_get w.endpoints i ≡ Some p → i < t.count → p.link ≡ Some id → IsSome p.image → IsSome (t.wires i).image → Started (t.system.job i).session.transfer →
-        ((im : Image) → p.image ≡ Some im → WorldRefines (told_turn t i turn) (record { daemon = mid; endpoints = slice_set w.endpoints i (gained turn im p) })) → IsActionEnabled i (make_for t.system i) (t.system.job i) (device_for t.system i) (deed_of turn) → (t.system.job i).image ≡ true → ((fault : FailureCounts) → turn ≡ Failed fault → FailedIn w mid i (t.jobs i).device × FailedIn w (world.image_lost id.number mid) i (t.jobs i).device) →
+        ((im : Image) → p.image ≡ Some im → WorldRefines (told_turn t i turn) (record { daemon = mid; endpoints = slice_set w.endpoints i (gained turn im p) })) → IsActionEnabled i (make_for t.system i) (t.system.job i) (device_for t.system i) (action_of turn) → (t.system.job i).image ≡ true → ((fault : FailureCounts) → turn ≡ Failed fault → FailedIn w mid i (t.jobs i).device × FailedIn w (world.image_lost id.number mid) i (t.jobs i).device) →
         (e : Core) (q : Endpoint) → world.SendsRecord id.number (text_of turn) (is_end turn) mid p e q → GhostLeads events.DataTurn (Counting GhostTurns w e) t i (record { daemon = e; endpoints = slice_set w.endpoints i q })
     by_sent t w i p id mid turn at low link some has started stands may dialled fails e q (inl sent) =
         subst (λ (x : Core). GhostLeads events.DataTurn (Counting GhostTurns w x) t i (record { daemon = x; endpoints = slice_set w.endpoints i q })) (sym sent.2)
         (subst (λ (x : Endpoint). GhostLeads events.DataTurn (Counting GhostTurns w mid) t i (record { daemon = mid; endpoints = slice_set w.endpoints i x })) (sym sent.3)
         (done events.DataTurn (Counting GhostTurns w mid) t i _ (turn_steps i turn) (told_turn t i turn) (has, started)
-        (record { action = deed_of turn; text = text_of turn; is = record_of turn; sends = inl (refl, record { legal = (may, tt); then_is = refl }) }, (turn_fails t w i mid t.system turn (λ fault is. (fails fault is).0), tt)) (stands sent.0 sent.1)))
+        (record { action = action_of turn; text = text_of turn; is = record_of turn; sends = inl (refl, record { legal = (may, tt); then_is = refl }) }, (turn_fails t w i mid t.system turn (λ fault is. (fails fault is).0), tt)) (stands sent.0 sent.1)))
     by_sent t w i p id mid turn at low link some has started stands may dialled fails e q (inr lost) =
         let im = the_image p.image some in
         let image : (told_turn t i turn).system.job i ≡ job_after turn (t.system.job i) = turned_party t i turn in
@@ -423,7 +423,7 @@ turn_leads t w i p id h at low link some flows e q d =
         subst (λ (x : Core). GhostLeads events.DataTurn (Counting GhostTurns w x) t i (record { daemon = x; endpoints = slice_set w.endpoints i q })) (sym lost.0)
         (subst (λ (x : Endpoint). GhostLeads events.DataTurn (Counting GhostTurns w (world.image_lost id.number mid)) t i (record { daemon = world.image_lost id.number mid; endpoints = slice_set w.endpoints i x })) (sym lost.1)
         (done events.DataTurn (Counting GhostTurns w (world.image_lost id.number mid)) t i _ (cut_steps i turn) (told_cut t i turn) (has, started)
-        (record { action = deed_of turn; text = text_of turn; is = record_of turn; sends = inr (refl, record { legal = (may, (may_lose, tt)); then_is = refl }) }, (turn_fails t w i (world.image_lost id.number mid) t.system turn (λ fault is. (fails fault is).1), (tt, tt))) (cut_turned t w i p id im.0 mid turn at low link has (stands im.0 im.1))))
+        (record { action = action_of turn; text = text_of turn; is = record_of turn; sends = inr (refl, record { legal = (may, (may_lose, tt)); then_is = refl }) }, (turn_fails t w i (world.image_lost id.number mid) t.system turn (λ fault is. (fails fault is).1), (tt, tt))) (cut_turned t w i p id im.0 mid turn at low link has (stands im.0 im.1))))
 
 pub turn_counts : DecidesIn events.DataTurn (Counting GhostTurns)
 turn_counts t w i p h at low =

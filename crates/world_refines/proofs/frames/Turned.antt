@@ -11,7 +11,7 @@ use Rattle.device_api.specs.State.{DeviceState}
 use Rattle.dispatch.specs.declared.table.place.Lease.{Lease}
 use Rattle.saned_requests.specs.declared.session.DataPhase.{DataPhase as WordCarriage}
 use Rattle.saned_requests.specs.declared.session.DataPhase.TheVariants as word
-use Rattle.saned_requests.specs.declared.session.Session.{Session as DeskSession}
+use Rattle.saned_requests.specs.declared.session.Session.{Session as RequestSession}
 use Rattle.saned_requests.specs.Holding.{held_by}
 use Rattle.saned_core.specs.declared.session_slot.DataStep.{DataStep}
 use Rattle.saned_core.specs.declared.session_slot.DataStep.TheVariants as did
@@ -39,13 +39,13 @@ pub data Turn : Type 0 where
   Failed : (fault : FailureCounts) → Turn
   Off : Turn
 
-abbrev pub deed_of : Turn → Action
-deed_of (Gives bytes) = actions.Turns bytes
-deed_of Whole = actions.TurnsLast
-deed_of (Named code) = actions.TurnsNamed (abstract_status code)
-deed_of Short = actions.TurnsShort
-deed_of (Failed fault) = actions.TurnsFault fault
-deed_of Off = actions.TurnsOff
+abbrev pub action_of : Turn → Action
+action_of (Gives bytes) = actions.Turns bytes
+action_of Whole = actions.TurnsLast
+action_of (Named code) = actions.TurnsNamed (abstract_status code)
+action_of Short = actions.TurnsShort
+action_of (Failed fault) = actions.TurnsFault fault
+action_of Off = actions.TurnsOff
 
 -- the status in its end, and its record
 abbrev pub text_of : Turn → List ℕ
@@ -72,7 +72,7 @@ IsShortRecord Short = Unit {0}
 IsShortRecord (Failed fault) = Unit {0}
 IsShortRecord Off = Unit {0}
 
-pub record_of : (turn : Turn) → IsRecordOf (deed_of turn) (text_of turn)
+pub record_of : (turn : Turn) → IsRecordOf (action_of turn) (text_of turn)
 record_of (Gives bytes) = refl
 record_of Whole = refl
 record_of (Named code) = (code, refl, refl)
@@ -120,7 +120,7 @@ base_after turn b = record b { flight = flight_after turn b.flight; ending = end
 abbrev pub job_after : Turn → JobState → JobState
 job_after turn p = record p { session = base_after turn p.session }
 
-pub party_is : (turn : Turn) (i : ℕ) (k : Make) (listed : List ℕ) (p : JobState) (dev : AbstractDevice) → job_after_action i k listed p dev (deed_of turn) ≡ job_after turn p
+pub party_is : (turn : Turn) (i : ℕ) (k : Make) (listed : List ℕ) (p : JobState) (dev : AbstractDevice) → job_after_action i k listed p dev (action_of turn) ≡ job_after turn p
 party_is (Gives bytes) i k listed p dev = refl
 party_is Whole i k listed p dev = refl
 party_is (Named code) i k listed p dev = refl
@@ -141,7 +141,7 @@ phase_after Off phase = phase
 abbrev pub dev_after : Turn → AbstractDevice → AbstractDevice
 dev_after turn dev = record dev { phase = phase_after turn dev.phase }
 
-pub device_is : (turn : Turn) (i : ℕ) (k : Make) (listed : List ℕ) (p : JobState) (dev : AbstractDevice) → device_after i k listed p dev (deed_of turn) ≡ dev_after turn dev
+pub device_is : (turn : Turn) (i : ℕ) (k : Make) (listed : List ℕ) (p : JobState) (dev : AbstractDevice) → device_after i k listed p dev (action_of turn) ≡ dev_after turn dev
 device_is (Gives bytes) i k listed p dev = refl
 device_is Whole i k listed p dev = refl
 device_is (Named code) i k listed p dev = refl
@@ -154,7 +154,7 @@ device_is Off i k listed p dev = refl
 -- what is sent is the record of that action
 pub record IsTurn (action : Action) (step : DataStep) (buf : List ℕ) : Type 0 where
   pub turn : Turn
-  pub deed_is : action ≡ deed_of turn
+  pub action_is : action ≡ action_of turn
   pub sends : (n : ℕ) (d : Core) (p : Endpoint) (e : Core) (q : Endpoint) → world.SendsStep n step buf d p e q → world.SendsRecord n (text_of turn) (is_end turn) d p e q
 
 gives_step : (bytes : List ℕ) (step : DataStep) (buf : List ℕ) (n : ℕ) (d : Core) (p : Endpoint) (e : Core) (q : Endpoint) → SendsAs step buf (actions.Turns bytes) → world.SendsStep n step buf d p e q → world.SendsRecord n (counted_record bytes) false d p e q
@@ -164,12 +164,12 @@ end_step : (status : Code) (step : DataStep) (buf : List ℕ) (n : ℕ) (d : Cor
 end_step status step buf n d p e q s h = subst (λ (text : List ℕ). world.SendsRecord n text true d p e q) s.1 (subst (λ (x : DataStep). world.SendsStep n x buf d p e q) s.0 h)
 
 pub is_turn : (action : Action) (step : DataStep) (buf : List ℕ) → SendsAs step buf action → IsTurn action step buf
-is_turn (actions.Turns bytes) step buf s = record { turn = Gives bytes; deed_is = refl; sends = λ n d p e q h. gives_step bytes step buf n d p e q s h }
-is_turn actions.TurnsLast step buf s = record { turn = Whole; deed_is = refl; sends = λ n d p e q h. end_step codes.Eof step buf n d p e q s h }
-is_turn (actions.TurnsNamed name) step buf s = record { turn = Named s.0; deed_is = ap (λ (x : Status). actions.TurnsNamed x) s.1; sends = λ n d p e q h. end_step s.0 step buf n d p e q s.2 h }
-is_turn actions.TurnsShort step buf s = record { turn = Short; deed_is = refl; sends = λ n d p e q h. end_step codes.Eof step buf n d p e q s h }
-is_turn (actions.TurnsFault fault) step buf s = record { turn = Failed fault; deed_is = refl; sends = λ n d p e q h. end_step codes.IoError step buf n d p e q s h }
-is_turn actions.TurnsOff step buf s = record { turn = Off; deed_is = refl; sends = λ n d p e q h. end_step codes.Cancelled step buf n d p e q s h }
+is_turn (actions.Turns bytes) step buf s = record { turn = Gives bytes; action_is = refl; sends = λ n d p e q h. gives_step bytes step buf n d p e q s h }
+is_turn actions.TurnsLast step buf s = record { turn = Whole; action_is = refl; sends = λ n d p e q h. end_step codes.Eof step buf n d p e q s h }
+is_turn (actions.TurnsNamed name) step buf s = record { turn = Named s.0; action_is = ap (λ (x : Status). actions.TurnsNamed x) s.1; sends = λ n d p e q h. end_step s.0 step buf n d p e q s.2 h }
+is_turn actions.TurnsShort step buf s = record { turn = Short; action_is = refl; sends = λ n d p e q h. end_step codes.Eof step buf n d p e q s h }
+is_turn (actions.TurnsFault fault) step buf s = record { turn = Failed fault; action_is = refl; sends = λ n d p e q h. end_step codes.IoError step buf n d p e q s h }
+is_turn actions.TurnsOff step buf s = record { turn = Off; action_is = refl; sends = λ n d p e q h. end_step codes.Cancelled step buf n d p e q s h }
 is_turn actions.Connects step buf s = absurd s
 is_turn (actions.Answers challenge fault) step buf s = absurd s
 is_turn (actions.Hears r) step buf s = absurd s
@@ -205,17 +205,17 @@ short_records (Err status) window bytes step buf most r s = absurd (let clash : 
 idle_bytes : (step : DataStep) (n : ℕ) → step ≡ did.Idle → step ≡ did.Bytes n → ⊥
 idle_bytes step n e f = let clash : did.Idle ≡ did.Bytes n = sym e ∙ f in absurd (cc)
 
-short_from : (o : Option (Lease DeviceState)) (w : ℕ) (old new : DeskSession DeviceState) (bytes : List ℕ) (step : DataStep) (buf : List ℕ) → StreamsFrom o w old step new buf → SendsAs step buf (actions.Turns bytes) → length bytes < 4294967295
+short_from : (o : Option (Lease DeviceState)) (w : ℕ) (old new : RequestSession DeviceState) (bytes : List ℕ) (step : DataStep) (buf : List ℕ) → StreamsFrom o w old step new buf → SendsAs step buf (actions.Turns bytes) → length bytes < 4294967295
 short_from None w old new bytes step buf g s = absurd (idle_bytes step _ g.0 s.0)
 short_from (Some lease) w old new bytes step buf g s = short_records g.answer g.window bytes step buf (window_short g.window buf g.whole) g.written s
 
-short_in : (c : WordCarriage) (old new : DeskSession DeviceState) (bytes : List ℕ) (step : DataStep) (buf : List ℕ) → StreamsIn c old step new buf → SendsAs step buf (actions.Turns bytes) → length bytes < 4294967295
+short_in : (c : WordCarriage) (old new : RequestSession DeviceState) (bytes : List ℕ) (step : DataStep) (buf : List ℕ) → StreamsIn c old step new buf → SendsAs step buf (actions.Turns bytes) → length bytes < 4294967295
 short_in word.Quiet old new bytes step buf g s = absurd (idle_bytes step _ g.0 s.0)
 short_in (word.Waiting w) old new bytes step buf g s = absurd (idle_bytes step _ g.0 s.0)
 short_in (word.Streaming w) old new bytes step buf g s = short_from (held_by old.held w) w old new bytes step buf g s
 short_in word.Ending old new bytes step buf g s = absurd (let clash : did.Last 5 ≡ did.Bytes (4 + length bytes) = sym g.0.0 ∙ s.0 in cc)
 
-pub short_turn : (turn : Turn) (c : WordCarriage) (old new : DeskSession DeviceState) (step : DataStep) (buf : List ℕ) → StreamsIn c old step new buf → SendsAs step buf (deed_of turn) → IsShortRecord turn
+pub short_turn : (turn : Turn) (c : WordCarriage) (old new : RequestSession DeviceState) (step : DataStep) (buf : List ℕ) → StreamsIn c old step new buf → SendsAs step buf (action_of turn) → IsShortRecord turn
 short_turn (Gives bytes) c old new step buf g s = short_in c old new bytes step buf g s
 short_turn Whole c old new step buf g s = tt
 short_turn (Named code) c old new step buf g s = tt

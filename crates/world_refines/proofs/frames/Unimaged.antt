@@ -18,7 +18,7 @@ use Rattle.client_replies.specs.declared.progress.Progress.TheVariants as stages
 use Rattle.client_replies.specs.ProtocolStates.{ProtocolState, target_of, is_imaging, is_lost_by, is_running}
 use Rattle.net_client.specs.ClientStates.{ClientState, protocol_of}
 use Rattle.system_model.specs.AbstractMessages.{IoError, Lost, Status}
-use Rattle.system_model.specs.Client as rules
+use Rattle.system_model.specs.Client as model
 use Rattle.system_model.specs.Client.{Idle, ClientView, JobStage}
 use Rattle.system_model.specs.ClientReplies.{client_after_stop, stage_after_stop}
 use Rattle.system_model.specs.Causes.{Cause, LinkLost, IsCauseAmong, LinkOutOfMemory}
@@ -43,9 +43,9 @@ use Rattle.world_refines.specs.GhostEvents.{GhostLeads, LosesImage, wires_with_i
 use Rattle.world_refines.proofs.state.CoreCallsKeep.{input_on, is_lost, on_core, replies_on}
 use Rattle.world_refines.proofs.job_events.Cancelling.{flows_over, other_cause}
 use Rattle.world_refines.proofs.state.Changing.{stands_change}
-use Rattle.world_refines.proofs.job_events.Lost.{IsLost, if_input, if_out, talks_lost}
+use Rattle.world_refines.proofs.job_events.Lost.{IsLost, if_input, if_out, exchanges_lost}
 use Rattle.world_refines.proofs.state.GhostClients.{run_is, stops_idle, stops_over, under_runs}
-use Rattle.world_refines.proofs.state.EndpointSlots.{reseats_on}
+use Rattle.world_refines.proofs.state.EndpointSlots.{replaces_on}
 use Rattle.world_refines.proofs.state.Sees.{Leaves}
 use Rattle.world_refines.specs.Speaks.{Speaks}
 use Rattle.world_refines.proofs.state.Held.{held_after_all}
@@ -60,50 +60,50 @@ use Rattle.world_refines.proofs.state.WorldPending.{pends_if}
 pub none_some : {X : Type 0} (o : Option X) → o ≡ None → IsSome o → ⊥
 none_some o e h = let clash : false ≡ true = subst IsSome e h in absurd (cc)
 
-pub by_imaging : (g : rules.AbstractProgress) (c : TransferState) (progress : Progress) (phase : RecordPhase) (image : Option (List ℕ)) (flight : List ℕ) (ending : Option Status) → FlowsBy g c progress phase image flight ending → IsSome image → IsImaging (rules.Running g)
-by_imaging (rules.Imaging params heard) c progress phase image flight ending h some = (params, heard, refl)
-by_imaging rules.Greeting c progress phase image flight ending h some = absurd (none_some image h.image_is some)
-by_imaging rules.Listing c progress phase image flight ending h some = absurd (none_some image h.image_is some)
-by_imaging rules.Opening c progress phase image flight ending h some = absurd (none_some image h.image_is some)
-by_imaging (rules.Allowing challenge) c progress phase image flight ending h some = absurd (none_some image h.image_is some)
-by_imaging (rules.Describing left) c progress phase image flight ending h some = absurd (none_some image h.image_is some)
-by_imaging (rules.Putting n value requested left) c progress phase image flight ending h some = absurd (none_some image h.image_is some)
-by_imaging (rules.Getting n left) c progress phase image flight ending h some = absurd (none_some image h.image_is some)
-by_imaging rules.Starting c progress phase image flight ending h some = absurd (none_some image h.image_is some)
-by_imaging rules.Shaping c progress phase image flight ending h some = absurd (none_some image h.image_is some)
+pub by_imaging : (g : model.AbstractProgress) (c : TransferState) (progress : Progress) (phase : RecordPhase) (image : Option (List ℕ)) (flight : List ℕ) (ending : Option Status) → FlowsBy g c progress phase image flight ending → IsSome image → IsImaging (model.Running g)
+by_imaging (model.Imaging params heard) c progress phase image flight ending h some = (params, heard, refl)
+by_imaging model.Greeting c progress phase image flight ending h some = absurd (none_some image h.image_is some)
+by_imaging model.Listing c progress phase image flight ending h some = absurd (none_some image h.image_is some)
+by_imaging model.Opening c progress phase image flight ending h some = absurd (none_some image h.image_is some)
+by_imaging (model.Allowing challenge) c progress phase image flight ending h some = absurd (none_some image h.image_is some)
+by_imaging (model.Describing left) c progress phase image flight ending h some = absurd (none_some image h.image_is some)
+by_imaging (model.Putting n value requested left) c progress phase image flight ending h some = absurd (none_some image h.image_is some)
+by_imaging (model.Getting n left) c progress phase image flight ending h some = absurd (none_some image h.image_is some)
+by_imaging model.Starting c progress phase image flight ending h some = absurd (none_some image h.image_is some)
+by_imaging model.Shaping c progress phase image flight ending h some = absurd (none_some image h.image_is some)
 
 pub flows_imaging : (st : JobStage) (c : TransferState) (progress : Progress) (phase : RecordPhase) (image : Option (List ℕ)) (flight : List ℕ) (ending : Option Status) → FlightMatches st c progress phase image flight ending → IsSome image → IsUnderWay st → IsImaging st
 flows_imaging Idle c progress phase image flight ending h some u = absurd (none_some image h.image_is some)
-flows_imaging (rules.Running g) c progress phase image flight ending h some u = by_imaging g c progress phase image flight ending h some
-flows_imaging rules.Done c progress phase image flight ending h some u = absurd u
-flows_imaging (rules.Ended status why) c progress phase image flight ending h some u = absurd u
+flows_imaging (model.Running g) c progress phase image flight ending h some u = by_imaging g c progress phase image flight ending h some
+flows_imaging model.Done c progress phase image flight ending h some u = absurd u
+flows_imaging (model.Ended status why) c progress phase image flight ending h some u = absurd u
 
-other_stage : (st : JobStage) (g : rules.AbstractProgress) → st ≡ rules.Running g → IsImaging st → IsImaging (rules.Running g)
+other_stage : (st : JobStage) (g : model.AbstractProgress) → st ≡ model.Running g → IsImaging st → IsImaging (model.Running g)
 other_stage st g e h = subst IsImaging e h
 
-pub waits_imaging : (job : rules.AbstractJob) (progress : Progress) (notes : Notes) (past : JoinHistory) (m : ClientView) → WaitsAs job progress notes past m → IsImaging m.stage → is_imaging progress ≡ true
+pub waits_imaging : (job : model.AbstractJob) (progress : Progress) (notes : Notes) (past : JoinHistory) (m : ClientView) → WaitsAs job progress notes past m → IsImaging m.stage → is_imaging progress ≡ true
 waits_imaging job (stages.Imaging port made) notes past m w h = refl
-waits_imaging job stages.Greeting notes past m w h = let x = other_stage m.stage _ w.0 h in absurd (let clash : rules.Running rules.Greeting ≡ rules.Running (rules.Imaging x.0 x.1) = x.2 in cc)
-waits_imaging job stages.Listing notes past m w h = let x = other_stage m.stage _ w.0 h in absurd (let clash : rules.Running rules.Listing ≡ rules.Running (rules.Imaging x.0 x.1) = x.2 in cc)
-waits_imaging job stages.Opening notes past m w h = let x = other_stage m.stage _ w.0 h in absurd (let clash : rules.Running rules.Opening ≡ rules.Running (rules.Imaging x.0 x.1) = x.2 in cc)
-waits_imaging job (stages.Allowing resource answer) notes past m w h = let x = other_stage m.stage _ w.0.1.0 h in absurd (let clash : rules.Running (rules.Allowing w.0.0) ≡ rules.Running (rules.Imaging x.0 x.1) = x.2 in cc)
-waits_imaging job stages.Reopening notes past m w h = let x = other_stage m.stage _ w.0.1 h in absurd (let clash : rules.Running (rules.Allowing w.0.0) ≡ rules.Running (rules.Imaging x.0 x.1) = x.2 in cc)
-waits_imaging job stages.Describing notes past m w h = let x = other_stage m.stage _ w.0 h in absurd (let clash : rules.Running (rules.Describing _) ≡ rules.Running (rules.Imaging x.0 x.1) = x.2 in cc)
-waits_imaging job (stages.Putting n kind name asked) notes past m w h = let x = other_stage m.stage _ w.0.1.0 h in absurd (let clash : rules.Running (rules.Putting n asked w.0.0 _) ≡ rules.Running (rules.Imaging x.0 x.1) = x.2 in cc)
-waits_imaging job (stages.Getting n kind size) notes past m w h = let x = other_stage m.stage _ w.0.1.0 h in absurd (let clash : rules.Running (rules.Getting n w.0.0) ≡ rules.Running (rules.Imaging x.0 x.1) = x.2 in cc)
-waits_imaging job (stages.Starting first) notes past m w h = let x = other_stage m.stage _ w.0 h in absurd (let clash : rules.Running rules.Starting ≡ rules.Running (rules.Imaging x.0 x.1) = x.2 in cc)
-waits_imaging job (stages.Shaping port order) notes past m w h = let x = other_stage m.stage _ w.0 h in absurd (let clash : rules.Running rules.Shaping ≡ rules.Running (rules.Imaging x.0 x.1) = x.2 in cc)
-waits_imaging job stages.Turning notes past m w h = let x = other_stage m.stage _ w.0 h in absurd (let clash : rules.Running rules.Starting ≡ rules.Running (rules.Imaging x.0 x.1) = x.2 in cc)
+waits_imaging job stages.Greeting notes past m w h = let x = other_stage m.stage _ w.0 h in absurd (let clash : model.Running model.Greeting ≡ model.Running (model.Imaging x.0 x.1) = x.2 in cc)
+waits_imaging job stages.Listing notes past m w h = let x = other_stage m.stage _ w.0 h in absurd (let clash : model.Running model.Listing ≡ model.Running (model.Imaging x.0 x.1) = x.2 in cc)
+waits_imaging job stages.Opening notes past m w h = let x = other_stage m.stage _ w.0 h in absurd (let clash : model.Running model.Opening ≡ model.Running (model.Imaging x.0 x.1) = x.2 in cc)
+waits_imaging job (stages.Allowing resource answer) notes past m w h = let x = other_stage m.stage _ w.0.1.0 h in absurd (let clash : model.Running (model.Allowing w.0.0) ≡ model.Running (model.Imaging x.0 x.1) = x.2 in cc)
+waits_imaging job stages.Reopening notes past m w h = let x = other_stage m.stage _ w.0.1 h in absurd (let clash : model.Running (model.Allowing w.0.0) ≡ model.Running (model.Imaging x.0 x.1) = x.2 in cc)
+waits_imaging job stages.Describing notes past m w h = let x = other_stage m.stage _ w.0 h in absurd (let clash : model.Running (model.Describing _) ≡ model.Running (model.Imaging x.0 x.1) = x.2 in cc)
+waits_imaging job (stages.Putting n kind name asked) notes past m w h = let x = other_stage m.stage _ w.0.1.0 h in absurd (let clash : model.Running (model.Putting n asked w.0.0 _) ≡ model.Running (model.Imaging x.0 x.1) = x.2 in cc)
+waits_imaging job (stages.Getting n kind size) notes past m w h = let x = other_stage m.stage _ w.0.1.0 h in absurd (let clash : model.Running (model.Getting n w.0.0) ≡ model.Running (model.Imaging x.0 x.1) = x.2 in cc)
+waits_imaging job (stages.Starting first) notes past m w h = let x = other_stage m.stage _ w.0 h in absurd (let clash : model.Running model.Starting ≡ model.Running (model.Imaging x.0 x.1) = x.2 in cc)
+waits_imaging job (stages.Shaping port order) notes past m w h = let x = other_stage m.stage _ w.0 h in absurd (let clash : model.Running model.Shaping ≡ model.Running (model.Imaging x.0 x.1) = x.2 in cc)
+waits_imaging job stages.Turning notes past m w h = let x = other_stage m.stage _ w.0 h in absurd (let clash : model.Running model.Starting ≡ model.Running (model.Imaging x.0 x.1) = x.2 in cc)
 waits_imaging job stages.Over notes past m w h = absurd w
 
 pub imaging_woken : (st : JobStage) (m : ClientView) → m.stage ≡ st → IsImaging st → IsImaging (client_at_greeting st m).stage
-imaging_woken Idle m e h = absurd (let clash : Idle ≡ rules.Running (rules.Imaging h.0 h.1) = h.2 in cc)
-imaging_woken (rules.Running g) m e h = subst IsImaging (sym e) h
-imaging_woken rules.Done m e h = absurd (let clash : rules.Done ≡ rules.Running (rules.Imaging h.0 h.1) = h.2 in cc)
-imaging_woken (rules.Ended status why) m e h = absurd (let clash : rules.Ended status why ≡ rules.Running (rules.Imaging h.0 h.1) = h.2 in cc)
+imaging_woken Idle m e h = absurd (let clash : Idle ≡ model.Running (model.Imaging h.0 h.1) = h.2 in cc)
+imaging_woken (model.Running g) m e h = subst IsImaging (sym e) h
+imaging_woken model.Done m e h = absurd (let clash : model.Done ≡ model.Running (model.Imaging h.0 h.1) = h.2 in cc)
+imaging_woken (model.Ended status why) m e h = absurd (let clash : model.Ended status why ≡ model.Running (model.Imaging h.0 h.1) = h.2 in cc)
 
 -- a client that runs is as it waits
-pub waits_as : (place : DeviceInfo → ℕ) (target : JobTarget) (job : rules.AbstractJob) (pages : List (List Frame)) (protocol : ProtocolState) (m : ClientView) → ClientRefines place target job pages protocol m → is_running protocol.outcome ≡ true → WaitsAs job protocol.progress protocol.notes protocol.history m
+pub waits_as : (place : DeviceInfo → ℕ) (target : JobTarget) (job : model.AbstractJob) (pages : List (List Frame)) (protocol : ProtocolState) (m : ClientView) → ClientRefines place target job pages protocol m → is_running protocol.outcome ≡ true → WaitsAs job protocol.progress protocol.notes protocol.history m
 waits_as place target job pages protocol m r e = let s : OutcomeRefines place target job pages outcomes.Running protocol.progress protocol.notes protocol.history m = subst (λ (o : Outcome). OutcomeRefines place target job pages o protocol.progress protocol.notes protocol.history m) (run_is protocol.outcome e) r.stands in s.1
 
 lost_by : (o : Outcome) (progress : Progress) → is_running o ≡ true → is_imaging progress ≡ true → is_lost_by links.Image o progress ≡ true
@@ -182,7 +182,7 @@ unimaged_stands t w i p id h at low link some =
     let served = subst (λ (x : Option SessionId). IsServed i t.system.make w.daemon x me.served t.system.device (session_by i t.system.device me)) link s.served in
     let both = is_lost i t.system.make w.daemon id me.served t.system.device me after h.slots h.faithful s.means.calm refl refl refl served in
     let idle : b ≡ false → IsUnderWay me.client.stage → ⊥ = λ over under.
-    let counts = image_counts place (t.jobs i) (t.history i) (t.pages i) (t.wires i) me p s.talks s.means some under in
+    let counts = image_counts place (t.jobs i) (t.history i) (t.pages i) (t.wires i) me p s.exchanges s.means some under in
     let clash : true ≡ false = sym counts ∙ over in absurd (cc) in
     let job_state = one_party t i (actions.LosesImage false) bytes (t.history i) (t.pages i) in
     done events.LoseImage LosesImage t i _ steps u (some, linked) (refl, record { legal = (may, tt); then_is = refl })
@@ -194,7 +194,7 @@ unimaged_stands t w i p id h at low link some =
       shown = shown_after t w steps h;
       sits = sits_there u e i q after bytes (t.history i) (t.pages i) job_state (put_there t.wires i bytes) (put_there t.history i (t.history i)) (put_there t.pages i (t.pages i)) (record {
         job_is = s.job_is;
-        talks = talks_lost place (t.jobs i) (t.history i) (t.pages i) me (without_image me.session LinkLost) p q links.Image b refl idle refl (image_lost p) s.talks after refl refl;
+        exchanges = exchanges_lost place (t.jobs i) (t.history i) (t.pages i) me (without_image me.session LinkLost) p q links.Image b refl idle refl (image_lost p) s.exchanges after refl refl;
         carries = subst (λ (x : Option SessionId). WiresMatch bytes (slot_of_link e x) q) (sym link) (carries_dropped (t.wires i) w.daemon id b p q (image_lost p) refl (subst (λ (x : Option SessionId). WiresMatch (t.wires i) (slot_of_link w.daemon x) p) link s.carries));
         means = means_dropped place (t.jobs i) (t.wires i) me LinkLost p q (λ met. s.means.starved (other_cause LinkOutOfMemory LinkLost me.session.met starved_else met)) refl refl refl refl s.means;
         served = subst (λ (x : Option SessionId). IsServed i t.system.make e x me.served u.system.device (session_by i u.system.device after)) (sym link) both.1;
@@ -206,7 +206,7 @@ unimaged_stands t w i p id h at low link some =
         pends = pends_if b p.client (t.wires i) bytes s.pends.asking refl s.pends;
       });
       link = λ x is. inl is;
-      reseats = reseats_on after_lost p.link w.daemon id.number;
+      replaces = replaces_on after_lost p.link w.daemon id.number;
       begun = subst (λ (x : JobState). AreStartedViews t.system.make x) (sym job_state) (h.begun i);
     }))
 

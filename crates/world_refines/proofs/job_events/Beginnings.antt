@@ -39,7 +39,7 @@ use Rattle.scan_world.specs.JobEvents.{is_done}
 use Rattle.scan_world.specs.Worlds.{AreNew, WorldCore}
 use Rattle.world_refines.specs.GhostStates.{name_at, place_of_info, abstract_job}
 use Rattle.world_refines.specs.WorldRefinement.{HaveDifferentNames, SlotsAreOfEndpoints, IsBelow, IsFaithful, IsFaithfulPlace, IsFaithfulSessionSlot, IsFaithfulPage, KeepsFiles, Means, EndpointRefines, EndpointRefinesAt, EndpointClientRefines, info_at, is_laid}
-use Rattle.world_refines.proofs.state.EndpointSlots.{none_seated}
+use Rattle.world_refines.proofs.state.EndpointSlots.{none_in_slot}
 use Rattle.world_refines.specs.NewWorlds.{HaveSourcesAt, info_of_state, initial_ghost, IsNewDaemon, PageSources, make_of, NewWorldsRefine, wires_of}
 use Rattle.world_refines.proofs.state.Faithful.{cancel_true}
 use Rattle.world_refines.proofs.state.Waiting.{waits_first}
@@ -190,8 +190,8 @@ new_post job c = record {
   budget = budget_of job.task;
 }
 
-new_talks : (users : List Entry) (infos : List DeviceInfo) (job : Job) (c : ClientState) → IsNewClient job c → EndpointClientRefines (place_of_info infos) job empty_history [] (initial_job (abstract_job users infos job)) (new_post job c)
-new_talks users infos job c h =
+new_exchanges : (users : List Entry) (infos : List DeviceInfo) (job : Job) (c : ClientState) → IsNewClient job c → EndpointClientRefines (place_of_info infos) job empty_history [] (initial_job (abstract_job users infos job)) (new_post job c)
+new_exchanges users infos job c h =
     let made = made_alike (place_of_info infos) job (abstract_job users infos job) c refl h in
     record {
       task = refl;
@@ -247,7 +247,7 @@ new_sits sources jobs other devices w i p only d n at =
     (subst (λ (o : Option Endpoint). EndpointRefines users infos n.job make device i (initial_job (abstract_job users infos n.job)) (wires_of o) empty_history [] w.daemon p) (sym at)
     (subst (λ (x : Endpoint). EndpointRefines users infos n.job make device i (initial_job (abstract_job users infos n.job)) (wires_of (Some x)) empty_history [] w.daemon x) (sym n.new.rest) (record {
       job_is = refl;
-      talks = new_talks users infos n.job p.client n.new.client;
+      exchanges = new_exchanges users infos n.job p.client n.new.client;
       carries = record { up = refl; asking = refl; down = refl; telling = ap (λ (v : ClientState). v.input.rest) n.new.client.value; image = refl };
       means = new_means users infos n.job p.client n.new.client;
       served = (refl, subst (λ (t : Table). TableRefines i make [] t device) (sym d.registry) (new_table sources i devices only));
@@ -287,7 +287,7 @@ new_worlds_stand sources jobs other devices w new d names limits only fit =
       own = λ i j a b x y at_a at_b is_x is_y same. absurd (unlinked jobs i a x (new_at jobs w.endpoints i a new at_a) is_x);
       links = λ i p id at is. absurd (unlinked jobs i p id (new_at jobs w.endpoints i p new at) is);
       slots = subst (λ (slots : List (Option (SessionSlot DeviceState))). AllByRecursion (IsBelow w.daemon.opened) slots) (sym d.slots) (tt, (tt, (tt, (tt, (tt, (tt, (tt, (tt, tt))))))));
-      slots_are = subst (λ (slots : List (Option (SessionSlot DeviceState))). SlotsAreOfEndpoints slots w.endpoints) (sym d.slots) (none_seated w.endpoints);
+      slots_are = subst (λ (slots : List (Option (SessionSlot DeviceState))). SlotsAreOfEndpoints slots w.endpoints) (sym d.slots) (none_in_slot w.endpoints);
       faithful = record {
         lying = subst (λ (r : Table). AllByRecursion IsFaithfulPlace r) (sym d.registry) (table_true devices all);
         lent = subst (λ (slots : List (Option (SessionSlot DeviceState))). AllByRecursion IsFaithfulSessionSlot slots) (sym d.slots) (tt, (tt, (tt, (tt, (tt, (tt, (tt, (tt, tt))))))));

@@ -19,7 +19,7 @@ use Rattle.net_client.specs.ClientStates.{ClientState, after_client_end, protoco
 use Rattle.wire_format.specs.Writer.{behind}
 use Rattle.system_model.specs.AbstractMessages.{Cancelled, GivenUp, AbstractRequest}
 use Rattle.system_model.specs.Client.{Done, Ended, Idle, ClientView, Running, JobStage, abstract_farewell}
-use Rattle.system_model.specs.Client as rules
+use Rattle.system_model.specs.Client as model
 use Rattle.system_model.specs.ClientReplies.{client_after_stop, stage_after_stop}
 use Rattle.system_model.specs.Causes.{Cause, GaveUp, IsCauseAmong, LinkOutOfMemory}
 use Rattle.system_model.specs.Daemon.{TransferState}
@@ -28,7 +28,7 @@ use Rattle.system_model.specs.Actions.{job_after_action, with_cause}
 use Rattle.system_model.specs.Devices.{Make}
 use Rattle.system_model.specs.SystemStates.{JobState, device_for, wanted_place}
 use Rattle.system_model.specs.AbstractDevices.{AbstractDevice}
-use Rattle.system_model.specs.Invariants.{StageInvariant as SoundTalks}
+use Rattle.system_model.specs.Invariants.{StageInvariant as SoundExchanges}
 use Rattle.system_model.specs.Transitions.{By, IsUnderWay}
 use Rattle.system_model.proofs.JobPromises.{sound_after_all}
 use Rattle.client_refines.specs.ClientRefinement.{ClientRefines}
@@ -50,7 +50,7 @@ use Rattle.world_refines.proofs.state.Held.{held_after_all}
 use Rattle.world_refines.proofs.state.ListedPlaces.{shown_after}
 use Rattle.world_refines.proofs.state.Spoken.{same_as, speaks_more}
 use Rattle.world_refines.proofs.state.GhostClients.{runs_under, stopped_woken, stops_idle, stops_over, under_runs, woken_known}
-use Rattle.world_refines.proofs.state.EndpointSlots.{reseats_same}
+use Rattle.world_refines.proofs.state.EndpointSlots.{replaces_same}
 use Rattle.world_refines.proofs.requests.Spelling.{spell_behind}
 use Rattle.world_refines.proofs.state.Taking.{DecidesAt, done, leaves_core, one_change, one_party, put_self, same_served, sits_there}
 use Rattle.world_refines.proofs.state.Waiting.{waits_over}
@@ -83,13 +83,13 @@ farewell_same (Running g) m e n = ap abstract_farewell e
 farewell_same Done m e n = ap abstract_farewell e
 farewell_same (Ended status why) m e n = ap abstract_farewell e
 
-record Says (place : DeviceInfo → ℕ) (target : JobTarget) (job : rules.AbstractJob) (pages : List (List Frame)) (old : ClientState) (past : JoinHistory) (m : ClientView) (out : List ℕ) : Type 0 where
+record Says (place : DeviceInfo → ℕ) (target : JobTarget) (job : model.AbstractJob) (pages : List (List Frame)) (old : ClientState) (past : JoinHistory) (m : ClientView) (out : List ℕ) : Type 0 where
   pub text : List ℕ
   pub out_is : out ≡ old.out ++ text
   pub spells : SpellsSent target text (asks_of 0 m.known (abstract_farewell (client_at_greeting m.stage m).stage))
   pub reads : ClientRefines place target job pages (protocol_of (after_client_end statuses.Cancelled whys.Cancelled old) past) (client_at_greeting (stage_after_stop GivenUp Cancelled m.stage) (client_after_stop GivenUp Cancelled m))
 
-said : (place : DeviceInfo → ℕ) (target : JobTarget) (job : rules.AbstractJob) (pages : List (List Frame)) (old : ClientState) (past : JoinHistory) (m : ClientView) (out : List ℕ) → old.target ≡ target → old.notes.word ≡ 0 → is_running old.outcome ≡ true →
+said : (place : DeviceInfo → ℕ) (target : JobTarget) (job : model.AbstractJob) (pages : List (List Frame)) (old : ClientState) (past : JoinHistory) (m : ClientView) (out : List ℕ) → old.target ≡ target → old.notes.word ≡ 0 → is_running old.outcome ≡ true →
     behind old.out (requests_text (client.farewell old.notes.word old.progress)) ≡ Some out → ClientRefines place target job pages (protocol_of old past) (client_at_greeting m.stage m) → Says place target job pages old past m out
 said place target job pages old past m out errand_is word runs text r =
     let under : IsUnderWay m.stage = runs_under place target job pages (protocol_of old past) m r runs in
@@ -109,9 +109,9 @@ said place target job pages old past m out errand_is word runs text r =
 
 -- ---- what stands of the job then
 
-talks_stopped : (place : DeviceInfo → ℕ) (job : Job) (past : JoinHistory) (pages : List JoinHistory) (p : JobState) (old : Endpoint) (out : List ℕ) → EndpointClientRefines place job past pages p old → is_running old.client.outcome ≡ true → IsCancelled (after_move old) (given_up out old) →
+exchanges_stopped : (place : DeviceInfo → ℕ) (job : Job) (past : JoinHistory) (pages : List JoinHistory) (p : JobState) (old : Endpoint) (out : List ℕ) → EndpointClientRefines place job past pages p old → is_running old.client.outcome ≡ true → IsCancelled (after_move old) (given_up out old) →
     Says place (target_of job) p.session.job (map (λ (q : JoinHistory). q.ended) pages) old.client past p.client out → EndpointClientRefines place job past pages (stops_by p) (given_up out old)
-talks_stopped place job past pages p old out h runs c s =
+exchanges_stopped place job past pages p old out h runs c s =
     record {
       task = h.task;
       target = h.target;
@@ -167,7 +167,7 @@ means_stopped place job x p old out text h alive s =
     }
 
 -- a session stands for no job that is not connected yet
-idle_unserved : (i : ℕ) (k : Make) (p : JobState) (dev : AbstractDevice) (st : JobStage) → SoundTalks i k p dev st → st ≡ Idle → p.served ≡ true → ⊥
+idle_unserved : (i : ℕ) (k : Make) (p : JobState) (dev : AbstractDevice) (st : JobStage) → SoundExchanges i k p dev st → st ≡ Idle → p.served ≡ true → ⊥
 idle_unserved i k p dev Idle h e served = let clash : false ≡ true = sym h.0 ∙ served in absurd (cc)
 idle_unserved i k p dev (Running g) h e served = absurd (cc)
 idle_unserved i k p dev Done h e served = absurd (cc)
@@ -180,8 +180,8 @@ given_up_stands : (t : Ghost) (w : WorldCore) (i : ℕ) (p : Endpoint) (out : Li
 given_up_stands t w i p out h at low runs c text =
     let s = h.endpoints i p at in
     let me = t.system.job i in
-    let protocol = said (place_of_info t.infos) (target_of (t.jobs i)) me.session.job (map (λ (q : JoinHistory). q.ended) (t.pages i)) p.client (t.history i) me.client out s.talks.target (s.talks.word runs) runs text s.talks.reads in
-    let under : IsUnderWay me.client.stage = runs_under (place_of_info t.infos) (target_of (t.jobs i)) me.session.job (map (λ (q : JoinHistory). q.ended) (t.pages i)) (protocol_of p.client (t.history i)) me.client s.talks.reads runs in
+    let protocol = said (place_of_info t.infos) (target_of (t.jobs i)) me.session.job (map (λ (q : JoinHistory). q.ended) (t.pages i)) p.client (t.history i) me.client out s.exchanges.target (s.exchanges.word runs) runs text s.exchanges.reads in
+    let under : IsUnderWay me.client.stage = runs_under (place_of_info t.infos) (target_of (t.jobs i)) me.session.job (map (λ (q : JoinHistory). q.ended) (t.pages i)) (protocol_of p.client (t.history i)) me.client s.exchanges.reads runs in
     let bytes : Wires = record (t.wires i) { up = (t.wires i).up ++ protocol.text } in
     let steps = By i actions.Stops ∷ [] in
     let u : Ghost = wired_then t i steps bytes in
@@ -196,16 +196,16 @@ given_up_stands t w i p out h at low runs c text =
       shown = shown_after t w steps h;
       sits = sits_there u w.daemon i (given_up out p) (stops_by me) bytes (t.history i) (t.pages i) (one_party t i actions.Stops bytes (t.history i) (t.pages i)) (put_there t.wires i bytes) (put_there t.history i (t.history i)) (put_there t.pages i (t.pages i)) (record {
         job_is = s.job_is;
-        talks = talks_stopped (place_of_info t.infos) (t.jobs i) (t.history i) (t.pages i) me p out s.talks runs c protocol;
+        exchanges = exchanges_stopped (place_of_info t.infos) (t.jobs i) (t.history i) (t.pages i) me p out s.exchanges runs c protocol;
         carries = record { up = protocol.out_is ∙ ap (λ (x : List ℕ). x ++ protocol.text) s.carries.up; asking = s.carries.asking; down = s.carries.down; telling = s.carries.telling; image = s.carries.image };
-        means = means_stopped (place_of_info t.infos) (t.jobs i) (t.wires i) me p out protocol.text s.means (λ served e. idle_unserved i _ me (device_for t.system i) me.client.stage (h.sound.talks i) e served) protocol.spells;
+        means = means_stopped (place_of_info t.infos) (t.jobs i) (t.wires i) me p out protocol.text s.means (λ served e. idle_unserved i _ me (device_for t.system i) me.client.stage (h.sound.exchanges i) e served) protocol.spells;
         served = same_served i t.system.make w.daemon p.link me.served t.system.device u.system.device (stops_by me) same s.served;
         speaks = let session = session_in (slot_of_link w.daemon p.link) in speaks_more (t.jobs i).device me (stops_by me) (abstract_farewell me.client.stage) session session refl refl (same_as session) s.speaks;
         waits = waits_over stages.Over (stops_by me).todo refl;
         pends = pends_off _ _ _ bytes refl s.pends.asking;
       });
       link = λ id e. inl e;
-      reseats = reseats_same p.link w.daemon;
+      replaces = replaces_same p.link w.daemon;
       begun = subst (λ (x : JobState). AreStartedViews t.system.make x) (sym (one_party t i actions.Stops bytes (t.history i) (t.pages i))) (h.begun i);
     }))
 
@@ -218,8 +218,8 @@ cancel_decides t w i p h at low =
     let s = h.endpoints i p at in
     let me = t.system.job i in
     record {
-      can = λ can. under_runs (place_of_info t.infos) (target_of (t.jobs i)) me.session.job (map (λ (q : JoinHistory). q.ended) (t.pages i)) (protocol_of p.client (t.history i)) me.client s.talks.reads can.1;
-      back = λ runs. (low, runs_under (place_of_info t.infos) (target_of (t.jobs i)) me.session.job (map (λ (q : JoinHistory). q.ended) (t.pages i)) (protocol_of p.client (t.history i)) me.client s.talks.reads runs);
+      can = λ can. under_runs (place_of_info t.infos) (target_of (t.jobs i)) me.session.job (map (λ (q : JoinHistory). q.ended) (t.pages i)) (protocol_of p.client (t.history i)) me.client s.exchanges.reads can.1;
+      back = λ runs. (low, runs_under (place_of_info t.infos) (target_of (t.jobs i)) me.session.job (map (λ (q : JoinHistory). q.ended) (t.pages i)) (protocol_of p.client (t.history i)) me.client s.exchanges.reads runs);
       either = runs_or (is_running p.client.outcome);
       does = λ runs e q d. by_parts t w i p h at low runs e q d.0 d.1;
     }

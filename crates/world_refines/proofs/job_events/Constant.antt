@@ -5,7 +5,7 @@ use Rattle.page_picture.specs.declared.sources.kinds.Source.{Source}
 use Rattle.sane_fixed.specs.declared.device_info.DeviceInfo.{DeviceInfo}
 use Rattle.md5_auth.specs.declared.users.Entry.{Entry}
 use Rattle.scan_job.specs.declared.job.Job.{Job}
-use Rattle.system_model.specs.Actions as deeds
+use Rattle.system_model.specs.Actions as model_actions
 use Rattle.system_model.specs.SystemStates.{SystemState}
 use Rattle.system_model.specs.Transitions.{By, Loads, Transition, Unplugs, after_all, after_transition}
 use Rattle.scan_world.specs.declared.event.Event.{Event}
@@ -47,9 +47,9 @@ fixed_connects : (t : Ghost) (i : ℕ) (steps : List Transition) (u : Ghost) →
 fixed_connects t i steps u (inl h) = takes t i steps _ u h.1
 fixed_connects t i steps u (inr h) = takes t i steps _ u h.1
 
-fixed_sends : (t : Ghost) (i : ℕ) (deed : deeds.Action) (text : List ℕ) (steps : List Transition) (u : Ghost) → GhostSends t i deed text steps u → fixed_of u ≡ fixed_of t
-fixed_sends t i deed text steps u (inl h) = takes t i steps _ u h.1
-fixed_sends t i deed text steps u (inr h) = takes t i steps _ u h.1
+fixed_sends : (t : Ghost) (i : ℕ) (this_action : model_actions.Action) (text : List ℕ) (steps : List Transition) (u : Ghost) → GhostSends t i this_action text steps u → fixed_of u ≡ fixed_of t
+fixed_sends t i this_action text steps u (inl h) = takes t i steps _ u h.1
+fixed_sends t i this_action text steps u (inr h) = takes t i steps _ u h.1
 
 fixed_answers : (n : ℕ) (t : Ghost) (i : ℕ) (steps : List Transition) (u : Ghost) → AnswersSome n t i steps u → fixed_of u ≡ fixed_of t
 fixed_answers n t i steps u (GoesOn asked rest said a b c h on) = takes t i steps _ u h

@@ -41,12 +41,12 @@ use Rattle.world_refines.specs.GhostEvents.{GhostConnects, GhostLeads, wires_wit
 use Rattle.world_refines.proofs.state.Changing.{IsChange, stands_change}
 use Rattle.world_refines.proofs.job_events.Fresh.{fresh_served, fresh_there, leaves_opened}
 use Rattle.world_refines.proofs.job_events.Losing.{carries_cut, loses_by, means_cut}
-use Rattle.world_refines.proofs.job_events.Lost.{IsLost, talks_lost}
+use Rattle.world_refines.proofs.job_events.Lost.{IsLost, exchanges_lost}
 use Rattle.world_refines.specs.Speaks.{Speaks}
 use Rattle.world_refines.proofs.state.Held.{held_after_all}
 use Rattle.world_refines.proofs.state.ListedPlaces.{shown_after}
 use Rattle.world_refines.proofs.state.GhostClients.{runs_under, under_runs}
-use Rattle.world_refines.proofs.state.EndpointSlots.{Reseats, reseats_opened, reseats_same}
+use Rattle.world_refines.proofs.state.EndpointSlots.{Replaces, replaces_opened, replaces_same}
 use Rattle.world_refines.proofs.state.Sees.{Leaves}
 use Rattle.world_refines.proofs.state.Taking.{DecidesAt, done, leaves_core, one_change, one_party, put_self, sits_there}
 use Rattle.world_refines.proofs.frames.Unimaged.{both_or}
@@ -69,8 +69,8 @@ pub record IsIdle (i : ℕ) (t : Ghost) (p : Endpoint) : Type 0 where
 is_idle : (t : Ghost) (w : WorldCore) (i : ℕ) (p : Endpoint) → WorldRefines t w → slice_get w.endpoints i ≡ Some p → (t.system.job i).client.stage ≡ Idle → IsIdle i t p
 is_idle t w i p h at e =
     let s = h.endpoints i p at in
-    let k : sound.StageInvariant i (make_for t.system i) (t.system.job i) (device_for t.system i) Idle = subst (λ (x : JobStage). sound.StageInvariant i (make_for t.system i) (t.system.job i) (device_for t.system i) x) e (h.sound.talks i) in
-    let b = s.means.before (s.talks.idle e) in
+    let k : sound.StageInvariant i (make_for t.system i) (t.system.job i) (device_for t.system i) Idle = subst (λ (x : JobStage). sound.StageInvariant i (make_for t.system i) (t.system.job i) (device_for t.system i) x) e (h.sound.exchanges i) in
+    let b = s.means.before (s.exchanges.idle e) in
     record { stage = e; served = k.0; free = k.3.free; quiet = k.3.transfer; awaits = k.3.awaits; link = b.0; over = b.1 }
 
 nothing_held : (t : Ghost) (w : WorldCore) (i : ℕ) (p : Endpoint) → WorldRefines t w → slice_get w.endpoints i ≡ Some p → IsIdle i t p → TableRefines i t.system.make [] w.daemon.registry t.system.device
@@ -81,8 +81,8 @@ woken_idle st m e = ap (λ (x : JobStage). client_at_greeting x m) e
 
 -- ---- a session is opened
 
-talks_linked : (place : DeviceInfo → ℕ) (job : Job) (past : JoinHistory) (pages : List JoinHistory) (p : JobState) (old : Endpoint) (id : SessionId) → p.client.stage ≡ Idle → EndpointClientRefines place job past pages p old → EndpointClientRefines place job past pages (after_connection p) (with_link id (after_move old))
-talks_linked place job past pages p old id e h =
+exchanges_linked : (place : DeviceInfo → ℕ) (job : Job) (past : JoinHistory) (pages : List JoinHistory) (p : JobState) (old : Endpoint) (id : SessionId) → p.client.stage ≡ Idle → EndpointClientRefines place job past pages p old → EndpointClientRefines place job past pages (after_connection p) (with_link id (after_move old))
+exchanges_linked place job past pages p old id e h =
     record {
       task = h.task;
       target = h.target;
@@ -152,8 +152,8 @@ linked_stands t w i p port id h at low idle closed number =
     let asking : bytes.asking ≡ [] = sym s.carries.asking ∙ ap (λ (l : Option SessionId). input_in (slot_of_link w.daemon l)) idle.link in
     let job_state = one_party t i actions.Connects bytes (t.history i) (t.pages i) in
     let shown : List (List Frame) = map (λ (x : JoinHistory). x.ended) (t.pages i) in
-    let runs = under_runs place (target_of (t.jobs i)) me.session.job shown (protocol_of p.client (t.history i)) me.client s.talks.reads (subst IsUnderWay (sym idle.stage) tt) in
-    let waiting = waits_as place (target_of (t.jobs i)) me.session.job shown (protocol_of p.client (t.history i)) (client_at_greeting me.client.stage me.client) s.talks.reads runs in
+    let runs = under_runs place (target_of (t.jobs i)) me.session.job shown (protocol_of p.client (t.history i)) me.client s.exchanges.reads (subst IsUnderWay (sym idle.stage) tt) in
+    let waiting = waits_as place (target_of (t.jobs i)) me.session.job shown (protocol_of p.client (t.history i)) (client_at_greeting me.client.stage me.client) s.exchanges.reads runs in
     done events.Connect GhostConnects t i _ steps u (low, idle.stage) (inl (refl, record { legal = (idle.stage, tt); then_is = refl }))
     (stands_change t u w i p q e h at (subst (λ (n : ℕ). i < n) h.is_of.count low) (record {
       told = one_change t i actions.Connects bytes (t.history i) (t.pages i);
@@ -163,7 +163,7 @@ linked_stands t w i p port id h at low idle closed number =
       shown = shown_after t w steps h;
       sits = sits_there u e i q (after_connection me) bytes (t.history i) (t.pages i) job_state (put_there t.wires i bytes) (put_there t.history i (t.history i)) (put_there t.pages i (t.pages i)) (record {
         job_is = s.job_is;
-        talks = talks_linked place (t.jobs i) (t.history i) (t.pages i) me p id idle.stage s.talks;
+        exchanges = exchanges_linked place (t.jobs i) (t.history i) (t.pages i) me p id idle.stage s.exchanges;
         carries = carries_linked bytes w.daemon port id p idle.link (fresh_there w.daemon port id.number closed h.slots number) s.carries;
         means = means_linked place (t.jobs i) bytes me p id idle.stage asking idle.over s.means;
         served = fresh_served i t.system.make w.daemon port id t.system.device u.system.device (after_connection me) closed h.slots number same idle.free idle.quiet idle.awaits table;
@@ -174,7 +174,7 @@ linked_stands t w i p port id h at low idle closed number =
         pends = pends_same p.client.outcome p.client.progress p.client.phase (t.wires i) bytes s.pends.asking refl s.pends;
       });
       link = λ x is. let same_id : Some id ≡ Some x = is in let number_is : x.number ≡ w.daemon.opened = sym (ap number_of same_id) ∙ number in inr (omega (arith, number_is), omega (arith, number_is));
-      reseats = subst (λ (x : Option SessionId). Reseats x (Some id) w.daemon e) (sym idle.link) (reseats_opened w.daemon port id number);
+      replaces = subst (λ (x : Option SessionId). Replaces x (Some id) w.daemon e) (sym idle.link) (replaces_opened w.daemon port id number);
       begun = subst (λ (x : JobState). AreStartedViews t.system.make x) (sym job_state) (h.begun i);
     }))
 
@@ -235,7 +235,7 @@ shut_stands t w i p h at low idle =
     let table = nothing_held t w i p h at idle in
     let same = two_device t w i bytes table in
     let never : is_running p.client.outcome ≡ false → IsUnderWay me.client.stage → ⊥ = λ over under.
-    let runs = under_runs place (target_of (t.jobs i)) me.session.job (map (λ (x : JoinHistory). x.ended) (t.pages i)) (protocol_of p.client (t.history i)) me.client s.talks.reads under in
+    let runs = under_runs place (target_of (t.jobs i)) me.session.job (map (λ (x : JoinHistory). x.ended) (t.pages i)) (protocol_of p.client (t.history i)) me.client s.exchanges.reads under in
     let clash : true ≡ false = sym runs ∙ over in absurd (cc) in
     let legal = two_legal t i idle.stage in
     done events.Connect GhostConnects t i _ steps u (low, idle.stage) (inr (refl, record { legal = legal; then_is = refl }))
@@ -247,16 +247,16 @@ shut_stands t w i p h at low idle =
       shown = shown_after t w steps h;
       sits = sits_there u w.daemon i q now bytes (t.history i) (t.pages i) (two_party t i bytes) (put_there t.wires i bytes) (put_there t.history i (t.history i)) (put_there t.pages i (t.pages i)) (record {
         job_is = s.job_is;
-        talks = talks_lost place (t.jobs i) (t.history i) (t.pages i) me (session_after_loss me.session LinkOutOfMemory) p q links.Control (is_running p.client.outcome) refl never refl (shut_lost p) s.talks now (shut_mind me.client idle.stage) refl;
+        exchanges = exchanges_lost place (t.jobs i) (t.history i) (t.pages i) me (session_after_loss me.session LinkOutOfMemory) p q links.Control (is_running p.client.outcome) refl never refl (shut_lost p) s.exchanges now (shut_mind me.client idle.stage) refl;
         carries = carries_cut (t.wires i) (slot_of_link w.daemon p.link) (is_running p.client.outcome) p q (shut_lost p) refl s.carries;
         means = means_cut place (t.jobs i) (t.wires i) (after_connection me) LinkOutOfMemory q (λ _. refl) (λ _. idle.over) refl refl;
         served = (refl, same_tables i t.system.make [] w.daemon.registry t.system.device u.system.device same table);
         speaks = tt;
-        waits = waits_lost p.client now.todo s.talks.over;
+        waits = waits_lost p.client now.todo s.exchanges.over;
         pends = pends_if (is_running p.client.outcome) p.client (t.wires i) bytes no_request_none refl s.pends;
       });
       link = λ x none. absurd (let clash : None ≡ Some x = none in cc);
-      reseats = subst (λ (x : Option SessionId). Reseats x None w.daemon w.daemon) (sym idle.link) (reseats_same None w.daemon);
+      replaces = subst (λ (x : Option SessionId). Replaces x None w.daemon w.daemon) (sym idle.link) (replaces_same None w.daemon);
       begun = subst (λ (x : JobState). AreStartedViews t.system.make x) (sym (two_party t i bytes)) (h.begun i);
     }))
 
@@ -266,8 +266,8 @@ not_connected : (t : Ghost) (w : WorldCore) (i : ℕ) (p : Endpoint) → WorldRe
 not_connected t w i p h at can =
     let s = h.endpoints i p at in
     let me = t.system.job i in
-    let under = runs_under (place_of_info t.infos) (target_of (t.jobs i)) me.session.job (map (λ (x : JoinHistory). x.ended) (t.pages i)) (protocol_of p.client (t.history i)) me.client s.talks.reads can.0 in
-    by_begun me.client.stage under (s.talks.begun can.1)
+    let under = runs_under (place_of_info t.infos) (target_of (t.jobs i)) me.session.job (map (λ (x : JoinHistory). x.ended) (t.pages i)) (protocol_of p.client (t.history i)) me.client s.exchanges.reads can.0 in
+    by_begun me.client.stage under (s.exchanges.begun can.1)
   where
     by_begun : (st : JobStage) → IsUnderWay st → (st ≡ Idle) ⊎ (IsUnderWay st → ⊥) → st ≡ Idle
     by_begun st u (inl e) = e
@@ -293,8 +293,8 @@ connect_decides t w i p h at low =
     let me = t.system.job i in
     record {
       can = λ can. (
-        under_runs (place_of_info t.infos) (target_of (t.jobs i)) me.session.job (map (λ (x : JoinHistory). x.ended) (t.pages i)) (protocol_of p.client (t.history i)) me.client s.talks.reads (subst IsUnderWay (sym can.1) tt),
-        s.talks.idle can.1,
+        under_runs (place_of_info t.infos) (target_of (t.jobs i)) me.session.job (map (λ (x : JoinHistory). x.ended) (t.pages i)) (protocol_of p.client (t.history i)) me.client s.exchanges.reads (subst IsUnderWay (sym can.1) tt),
+        s.exchanges.idle can.1,
       );
       back = λ can. (low, not_connected t w i p h at can);
       either = both_or (is_or (is_running p.client.outcome) true) (is_or p.was_connected false);

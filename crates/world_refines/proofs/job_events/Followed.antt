@@ -9,7 +9,7 @@ use Rattle.device_api.specs.Kinds.{Page}
 use Rattle.system_model.specs.Devices.{Make}
 use Rattle.page_picture.specs.declared.sources.kinds.Source.{Source}
 use Rattle.system_model.specs.Actions.{Action as Ruled}
-use Rattle.system_model.specs.Actions as deeds
+use Rattle.system_model.specs.Actions as model_actions
 use Rattle.saned_core.specs.DaemonStates.{Core}
 use Rattle.scan_job.specs.declared.job.Job.{Job}
 use Rattle.scan_job.specs.declared.outcome.Outcome.TheVariants.{Ended}
@@ -183,17 +183,17 @@ one_event source (ToDaemon i n) t w v h page_view fits at =
 one_event source (ToClient i n) t w v h page_view fits at =
     to_job source (ToClient i n) i (actions.ToClient n) (GhostHears n) (record { decides = deliver_decides n; owns = λ t u w v i p q steps h k at there can d. hears_own t w i n p steps u h at can d; legal = λ t. of_hears n t i; comes = λ t steps u x. x }) (λ t. hears_quiet n t i) t w v h at
 one_event source (DataConnect i) t w v h page_view fits at =
-    to_job source (DataConnect i) i actions.DataConnect Dials (record { decides = dial_decides; owns = λ t u w v i p q steps h k at there can d. dials_own t i steps u can d; legal = λ t steps u d. of_takes t i steps _ u d.1; comes = λ t steps u x. x }) (λ t steps u d. quiet_by steps (By i deeds.Dials ∷ []) d.0 (tt, tt)) t w v h at
+    to_job source (DataConnect i) i actions.DataConnect Dials (record { decides = dial_decides; owns = λ t u w v i p q steps h k at there can d. dials_own t i steps u can d; legal = λ t steps u d. of_takes t i steps _ u d.1; comes = λ t steps u x. x }) (λ t steps u d. quiet_by steps (By i model_actions.Dials ∷ []) d.0 (tt, tt)) t w v h at
 one_event source (DataTurn i) t w v h page_view fits at =
     to_source source (DataTurn i) i actions.DataTurn GhostTurns (record { decides = turn_decides; owns = λ t u w v i p q steps h k at there can d. turns_own t w i p steps u h at can d; legal = λ t steps u d. of_sends t i d.action d.text steps u d.sends; comes = λ t steps u x. x }) turn_counts t w v h at
 one_event source (DataToClient i n) t w v h page_view fits at =
     to_job source (DataToClient i n) i (actions.DataToClient n) (GhostSees n) (record { decides = data_decides n; owns = λ t u w v i p q steps h k at there can d. sees_own t w i n p steps u h at can d; legal = λ t. of_sees n t i; comes = λ t steps u x. x }) (λ t. sees_quiet n t i) t w v h at
 one_event source (LoseControl i) t w v h page_view fits at =
-    to_job source (LoseControl i) i actions.LoseControl LosesControl (record { decides = control_decides; owns = λ t u w v i p q steps h k at there can d. loses_own t i steps u d; legal = λ t steps u d. of_takes t i steps _ u d.1; comes = λ t steps u x. x }) (λ t steps u d. quiet_by steps (By i (deeds.Loses false) ∷ []) d.0 (tt, tt)) t w v h at
+    to_job source (LoseControl i) i actions.LoseControl LosesControl (record { decides = control_decides; owns = λ t u w v i p q steps h k at there can d. loses_own t i steps u d; legal = λ t steps u d. of_takes t i steps _ u d.1; comes = λ t steps u x. x }) (λ t steps u d. quiet_by steps (By i (model_actions.Loses false) ∷ []) d.0 (tt, tt)) t w v h at
 one_event source (LoseImage i) t w v h page_view fits at =
-    to_job source (LoseImage i) i actions.LoseImage LosesImage (record { decides = image_decides; owns = λ t u w v i p q steps h k at there can d. image_own t i steps u d; legal = λ t steps u d. of_takes t i steps _ u d.1; comes = λ t steps u x. x }) (λ t steps u d. quiet_by steps (By i (deeds.LosesImage false) ∷ []) d.0 (tt, tt)) t w v h at
+    to_job source (LoseImage i) i actions.LoseImage LosesImage (record { decides = image_decides; owns = λ t u w v i p q steps h k at there can d. image_own t i steps u d; legal = λ t steps u d. of_takes t i steps _ u d.1; comes = λ t steps u x. x }) (λ t steps u d. quiet_by steps (By i (model_actions.LosesImage false) ∷ []) d.0 (tt, tt)) t w v h at
 one_event source (Cancel i) t w v h page_view fits at =
-    to_job source (Cancel i) i actions.Cancel GivesUp (record { decides = cancel_decides; owns = λ t u w v i p q steps h k at there can d. stops_own t i steps u d; legal = λ t steps u d. of_takes t i steps _ u d.takes; comes = λ t steps u x. x }) (λ t steps u d. quiet_by steps (By i deeds.Stops ∷ []) d.steps_are (tt, tt)) t w v h at
+    to_job source (Cancel i) i actions.Cancel GivesUp (record { decides = cancel_decides; owns = λ t u w v i p q steps h k at there can d. stops_own t i steps u d; legal = λ t steps u d. of_takes t i steps _ u d.takes; comes = λ t steps u x. x }) (λ t steps u d. quiet_by steps (By i model_actions.Stops ∷ []) d.steps_are (tt, tt)) t w v h at
 one_event source (Load name page) t w v h page_view fits at =
     let l = subst (λ (x : WorldCore). GhostLeadsTo (CanLoad t name) (LaysIn t name (source page).page) t x) (sym at) (loads_follow t w name (source page) page_view fits h) in
     let endpoints : v.endpoints ≡ w.endpoints = ap (λ (x : WorldCore). x.endpoints) at in

@@ -22,26 +22,26 @@ use Rattle.daemon_refines.proofs.Beginning.{openings_show}
 use Rattle.daemon_refines.proofs.SessionEndings.{same_tables}
 use Rattle.daemon_refines.proofs.OtherSessions.{leaves_all, leaves_same}
 use Rattle.world_refines.specs.WorldRefinement.{AreFaithful, IsBelow, IsFaithfulSessionSlot, session_by}
-use Rattle.world_refines.proofs.state.Faithful.{all_below_more, with_seat_all}
+use Rattle.world_refines.proofs.state.Faithful.{all_below_more, with_slot_all}
 use Rattle.world_refines.proofs.state.Sees.{Leaves}
 use Rattle.world_refines.proofs.state.Taking.{same_session}
 
 -- ---- its slot
 
-other_seat : (slots : List (Option (SessionSlot DeviceState))) (new : SessionSlot DeviceState) (m : ℕ) → is_slot_number m (Some new) ≡ false → session_slot_of (with_session_slot slots new) m ≡ session_slot_of slots m
+other_slot : (slots : List (Option (SessionSlot DeviceState))) (new : SessionSlot DeviceState) (m : ℕ) → is_slot_number m (Some new) ≡ false → session_slot_of (with_session_slot slots new) m ≡ session_slot_of slots m
 unfolding session_slot_of with_session_slot
-other_seat [] new m e = refl
-other_seat (None ∷ slots) new m e = rw e refl
-other_seat (Some s ∷ slots) new m e = ap (λ (x : Option (SessionSlot DeviceState)). if is_slot_number m (Some s) then Some s else x) (other_seat slots new m e)
+other_slot [] new m e = refl
+other_slot (None ∷ slots) new m e = rw e refl
+other_slot (Some s ∷ slots) new m e = ap (λ (x : Option (SessionSlot DeviceState)). if is_slot_number m (Some s) then Some s else x) (other_slot slots new m e)
 
 below_other : (s : SessionSlot DeviceState) (n : ℕ) → s.number < n → is_slot_number n (Some s) ≡ false
 below_other s n low = grind (arith, nat_tests)
 
-own_seat : (slots : List (Option (SessionSlot DeviceState))) (new : SessionSlot DeviceState) (n : ℕ) → all_slots_taken slots ≡ false → AllByRecursion (IsBelow n) slots → is_slot_number n (Some new) ≡ true → session_slot_of (with_session_slot slots new) n ≡ Some new
+own_slot : (slots : List (Option (SessionSlot DeviceState))) (new : SessionSlot DeviceState) (n : ℕ) → all_slots_taken slots ≡ false → AllByRecursion (IsBelow n) slots → is_slot_number n (Some new) ≡ true → session_slot_of (with_session_slot slots new) n ≡ Some new
 unfolding session_slot_of with_session_slot
-own_seat [] new n full below e = absurd (let clash : true ≡ false = full in cc)
-own_seat (None ∷ slots) new n full below e = rw e refl
-own_seat (Some s ∷ slots) new n full below e = ap (λ (b : Bool). if b then Some s else session_slot_of (with_session_slot slots new) n) (below_other s n below.0) ∙ own_seat slots new n full below.1 e
+own_slot [] new n full below e = absurd (let clash : true ≡ false = full in cc)
+own_slot (None ∷ slots) new n full below e = rw e refl
+own_slot (Some s ∷ slots) new n full below e = ap (λ (b : Bool). if b then Some s else session_slot_of (with_session_slot slots new) n) (below_other s n below.0) ∙ own_slot slots new n full below.1 e
 
 not_full : (b c : Bool) → (b || c) ≡ false → c ≡ false
 not_full true c e = absurd (let clash : true ≡ false = e in cc)
@@ -50,7 +50,7 @@ not_full false c e = e
 pub fresh_there : (d : Core) (port n : ℕ) → is_closed d ≡ false → AllByRecursion (IsBelow d.opened) d.slots → n ≡ d.opened → session_slot_of (after_open_session d port).slots n ≡ Some (new_session_slot d.strings d.opened port)
 fresh_there d port n closed below e =
     subst (λ (k : ℕ). session_slot_of (after_open_session d port).slots k ≡ Some (new_session_slot d.strings d.opened port)) (sym e)
-    (own_seat d.slots (new_session_slot d.strings d.opened port) d.opened (not_full (d.opened == 18446744073709551615) (all_slots_taken d.slots) closed) below (let same : (d.opened == d.opened) ≡ true = grind (arith, nat_tests) in same))
+    (own_slot d.slots (new_session_slot d.strings d.opened port) d.opened (not_full (d.opened == 18446744073709551615) (all_slots_taken d.slots) closed) below (let same : (d.opened == d.opened) ≡ true = grind (arith, nat_tests) in same))
 
 -- ---- what it leaves
 
@@ -63,9 +63,9 @@ leaves_opened i make d port table device below faithful same h =
       users = refl;
       infos = refl;
       opened = omega arith;
-      below = with_seat_all (IsBelow (d.opened + 1)) d.slots (new_session_slot d.strings d.opened port) (omega arith) (all_below_more d.opened (d.opened + 1) d.slots (omega arith) below);
-      faithful = record { lying = faithful.lying; lent = with_seat_all IsFaithfulSessionSlot d.slots (new_session_slot d.strings d.opened port) (tt, (tt, (tt, (tt, tt)))) faithful.lent };
-      slots = λ m other low. other_seat d.slots (new_session_slot d.strings d.opened port) m (number_other d port m low);
+      below = with_slot_all (IsBelow (d.opened + 1)) d.slots (new_session_slot d.strings d.opened port) (omega arith) (all_below_more d.opened (d.opened + 1) d.slots (omega arith) below);
+      faithful = record { lying = faithful.lying; lent = with_slot_all IsFaithfulSessionSlot d.slots (new_session_slot d.strings d.opened port) (tt, (tt, (tt, (tt, tt)))) faithful.lent };
+      slots = λ m other low. other_slot d.slots (new_session_slot d.strings d.opened port) m (number_other d port m low);
       held = [];
       shows = same_tables i make [] d.registry table device same h;
       others = leaves_same i d.registry d.registry table table device same (leaves_all i d.registry table);

@@ -8,7 +8,7 @@ use Rattle.device_api.specs.State.{Phase as AnyPhase, is_at_rest}
 use Rattle.dispatch.specs.declared.table.place.Lease.{Lease}
 use Rattle.saned_requests.specs.declared.session.DataPhase.{DataPhase as WordCarriage}
 use Rattle.saned_requests.specs.declared.session.DataPhase.TheVariants as word
-use Rattle.saned_requests.specs.declared.session.Session.{Session as DeskSession}
+use Rattle.saned_requests.specs.declared.session.Session.{Session as RequestSession}
 use Rattle.saned_requests.specs.Holding.{free_word, held_by, on_word, with_device}
 use Rattle.saned_requests.specs.RequestAnswers.{RequestContext}
 use Rattle.saned_core.specs.Loading.{lease_with}
@@ -41,7 +41,7 @@ on_self f [] w l e same = refl
 on_self f (x ∷ held) zero l e same = ap (λ (y : Option (Lease DeviceState)). y ∷ held) (ap f e ∙ (same ∙ sym e))
 on_self f (x ∷ held) (suc w) l e same = ap (λ (h : Held). x ∷ h) (on_self f held w l e same)
 
-pub laid_none : (source : SourceState) (word : ℕ) (s : DeskSession DeviceState) (l : Lease DeviceState) → held_by s.held word ≡ Some l → takes_page l.device ≡ false → laid source word s ≡ s
+pub laid_none : (source : SourceState) (word : ℕ) (s : RequestSession DeviceState) (l : Lease DeviceState) → held_by s.held word ≡ Some l → takes_page l.device ≡ false → laid source word s ≡ s
 laid_none source word s l e nay = ap (λ (h : Held). record s { held = h }) (on_self (lease_with source) s.held word l e (takes_none source l nay))
 
 -- ---- a frame is of another word
@@ -70,15 +70,15 @@ frame_still source word.Ending held w l e takes h = tt
 
 -- ---- the session behind it
 
-abbrev pub laid_desk : SourceState → ℕ → RequestContext → RequestContext
-laid_desk source w d = record d { session = laid source w d.session }
+abbrev pub laid_context : SourceState → ℕ → RequestContext → RequestContext
+laid_context source w d = record d { session = laid source w d.session }
 
 pub laid_shows : (i : ℕ) (make : ℕ → Make) (d : RequestContext) (table : ℕ → AbstractDevice) (s : AbstractSession) (w : ℕ) (l : Lease DeviceState) (source : SourceState) → ContextRefines i make d table s → held_by d.session.held w ≡ Some l → HasSource (make l.place) (held_from source) → takes_page l.device ≡ true →
-    ContextRefines i make (laid_desk source w d) (with_entry table l.place (abstract_device (Some i) (page_loaded l.device source))) s
+    ContextRefines i make (laid_context source w d) (with_entry table l.place (abstract_device (Some i) (page_loaded l.device source))) s
 laid_shows i make d table s w l source old e firm takes =
     let shown = old.devices.leases w l e in
     let f = lease_with source in
-    let new = laid_desk source w d in
+    let new = laid_context source w d in
     let next = page_loaded l.device source in
     let dev = abstract_device (Some i) next in
     let stays : Stays i make d w l new dev = record {

@@ -8,7 +8,7 @@ use Rattle.page_picture.specs.Source.{SourceState}
 use Rattle.device_api.specs.ScannerLimits.{IsHeldPage}
 use Rattle.device_api.specs.State.{DeviceState, HeldPage as Page, after_load as page_loaded, feeds, held_from, pages_with, takes_page}
 use Rattle.dispatch.specs.declared.table.place.Lease.{Lease}
-use Rattle.saned_requests.specs.declared.session.Session.{Session as DeskSession}
+use Rattle.saned_requests.specs.declared.session.Session.{Session as RequestSession}
 use Rattle.saned_requests.specs.Holding.{held_by, on_word}
 use Rattle.saned_core.specs.declared.session_slot.SessionSlot.{SessionSlot}
 use Rattle.saned_core.specs.Loading.{held_with, holds, holds_in, is_lease_named, lease_with, on_first, slot_with_page, session_with}
@@ -16,7 +16,7 @@ use Rattle.saned_core.specs.DaemonStates.{is_slot_number, on_session_slot, on_se
 use Rattle.daemon_refines.proofs.Changes.{Held}
 use Rattle.daemon_refines.proofs.Moved.{own}
 use Rattle.world_refines.specs.WorldRefinement.{IsFaithful, IsFaithfulLease, IsFaithfulPage}
-use Rattle.world_refines.proofs.state.Faithful.{Seats, word_true}
+use Rattle.world_refines.proofs.state.Faithful.{TakesSlot, word_true}
 use Rattle.world_refines.proofs.state.Finding.{same_texts}
 use Rattle.world_refines.proofs.state.EndpointSlots.{Single, later}
 
@@ -40,10 +40,10 @@ lease_true source limits (Some l) h = device_true source limits (takes_page l.de
 
 -- ---- a session, of which the device of one word takes a page
 
-abbrev pub laid : SourceState → ℕ → DeskSession DeviceState → DeskSession DeviceState
+abbrev pub laid : SourceState → ℕ → RequestSession DeviceState → RequestSession DeviceState
 laid source word s = record s { held = on_word (lease_with source) s.held word }
 
-pub laid_true : (source : SourceState) → IsHeldPage (held_from source) → (word : ℕ) (s : DeskSession DeviceState) → AllByRecursion IsFaithfulLease s.held → AllByRecursion IsFaithfulLease (laid source word s).held
+pub laid_true : (source : SourceState) → IsHeldPage (held_from source) → (word : ℕ) (s : RequestSession DeviceState) → AllByRecursion IsFaithfulLease s.held → AllByRecursion IsFaithfulLease (laid source word s).held
 laid_true source limits word s h = word_true (lease_with source) s.held word (lease_true source limits) h
 
 -- ---- the first lease of that name
@@ -82,20 +82,20 @@ found_lease name (x ∷ held) e = lease_by name x held (is_lease_named name x) r
 
 -- ---- the first slot whose session has it
 
-pub record FoundSeat (name : List ℕ) (slots : Seats) : Type 0 where
+pub record FoundSlot (name : List ℕ) (slots : TakesSlot) : Type 0 where
   pub index : ℕ
   pub slot : SessionSlot DeviceState
-  pub session : DeskSession DeviceState
+  pub session : RequestSession DeviceState
   pub at : slice_get slots index ≡ Some (Some slot)
   pub session_is : slot.session ≡ Some session
   pub lease : FoundLease name session.held
   pub found : Single slots → session_slot_of slots slot.number ≡ Some slot
   pub then_is : Single slots → (source : SourceState) → on_first (holds name) (slot_with_page name source) slots ≡ on_session_slot (on_session (laid source lease.word)) slot.number slots
 
-seat_here : (name : List ℕ) (slot : SessionSlot DeviceState) (slots : Seats) (o : Option (DeskSession DeviceState)) → slot.session ≡ o → holds_in name o ≡ true → FoundSeat name (Some slot ∷ slots)
+slot_here : (name : List ℕ) (slot : SessionSlot DeviceState) (slots : TakesSlot) (o : Option (RequestSession DeviceState)) → slot.session ≡ o → holds_in name o ≡ true → FoundSlot name (Some slot ∷ slots)
 unfolding on_first on_session_slot session_slot_of
-seat_here name slot slots None e has = absurd (let clash : false ≡ true = has in cc)
-seat_here name slot slots (Some s) e has =
+slot_here name slot slots None e has = absurd (let clash : false ≡ true = has in cc)
+slot_here name slot slots (Some s) e has =
     let l = found_lease name s.held has in
     let number : is_slot_number slot.number (Some slot) ≡ true = own slot.number in
     record {
@@ -110,22 +110,22 @@ seat_here name slot slots (Some s) e has =
           let g = laid source l.word in
           let left : on_first (holds name) (slot_with_page name source) (Some slot ∷ slots) ≡ Some (record slot { session = Some (g s) }) ∷ slots =
           ap (λ (b : Bool). if b then slot_with_page name source (Some slot) ∷ slots else Some slot ∷ on_first (holds name) (slot_with_page name source) slots) (ap (holds_in name) e ∙ has)
-          ∙ ap (λ (o : Option (DeskSession DeviceState)). Some (record slot { session = o }) ∷ slots) (ap (session_with name source) e ∙ ap (λ (h : Held). Some (record s { held = h })) (l.then_is source)) in
+          ∙ ap (λ (o : Option (RequestSession DeviceState)). Some (record slot { session = o }) ∷ slots) (ap (session_with name source) e ∙ ap (λ (h : Held). Some (record s { held = h })) (l.then_is source)) in
           let right : on_session_slot (on_session g) slot.number (Some slot ∷ slots) ≡ Some (record slot { session = Some (g s) }) ∷ slots =
           ap (λ (b : Bool). if b then option_and_then (on_session g) (Some slot) ∷ slots else Some slot ∷ on_session_slot (on_session g) slot.number slots) number
-          ∙ ap (λ (o : Option (DeskSession DeviceState)). Some (record slot { session = option_map g o }) ∷ slots) e in
+          ∙ ap (λ (o : Option (RequestSession DeviceState)). Some (record slot { session = option_map g o }) ∷ slots) e in
           left ∙ sym right;
     }
 
-head_other : (x : Option (SessionSlot DeviceState)) (slots : Seats) (k : ℕ) (slot : SessionSlot DeviceState) → slice_get slots k ≡ Some (Some slot) → Single (x ∷ slots) → is_slot_number slot.number x ≡ false
+head_other : (x : Option (SessionSlot DeviceState)) (slots : TakesSlot) (k : ℕ) (slot : SessionSlot DeviceState) → slice_get slots k ≡ Some (Some slot) → Single (x ∷ slots) → is_slot_number slot.number x ≡ false
 head_other None slots k slot at single = refl
 head_other (Some r) slots k slot at single = ne_eqb r.number slot.number (λ same. let clash : zero ≡ suc k = single zero (suc k) r slot refl at same in omega (arith, clash))
 
-seat_by : (name : List ℕ) (x : Option (SessionSlot DeviceState)) (slots : Seats) (b : Bool) → holds name x ≡ b → (b || list_any (holds name) slots) ≡ true → (list_any (holds name) slots ≡ true → FoundSeat name slots) → FoundSeat name (x ∷ slots)
+slot_by : (name : List ℕ) (x : Option (SessionSlot DeviceState)) (slots : TakesSlot) (b : Bool) → holds name x ≡ b → (b || list_any (holds name) slots) ≡ true → (list_any (holds name) slots ≡ true → FoundSlot name slots) → FoundSlot name (x ∷ slots)
 unfolding on_first on_session_slot session_slot_of
-seat_by name None slots true is e more = absurd (let clash : false ≡ true = is in cc)
-seat_by name (Some slot) slots true is e more = seat_here name slot slots slot.session refl is
-seat_by name x slots false is e more =
+slot_by name None slots true is e more = absurd (let clash : false ≡ true = is in cc)
+slot_by name (Some slot) slots true is e more = slot_here name slot slots slot.session refl is
+slot_by name x slots false is e more =
     let f = more e in
     record {
       index = suc f.index;
@@ -138,13 +138,13 @@ seat_by name x slots false is e more =
       then_is = λ single source.
           let g = laid source f.lease.word in
           ap (λ (b : Bool). if b then slot_with_page name source x ∷ slots else x ∷ on_first (holds name) (slot_with_page name source) slots) is
-          ∙ (ap (λ (r : Seats). x ∷ r) (f.then_is (later x slots single) source)
+          ∙ (ap (λ (r : TakesSlot). x ∷ r) (f.then_is (later x slots single) source)
           ∙ sym (ap (λ (b : Bool). if b then option_and_then (on_session g) x ∷ slots else x ∷ on_session_slot (on_session g) f.slot.number slots) (head_other x slots f.index f.slot f.at single)));
     }
 
-pub found_seat : (name : List ℕ) (slots : Seats) → list_any (holds name) slots ≡ true → FoundSeat name slots
-found_seat name [] e = absurd (let clash : false ≡ true = e in cc)
-found_seat name (x ∷ slots) e = seat_by name x slots (holds name x) refl e (found_seat name slots)
+pub found_own_slot : (name : List ℕ) (slots : TakesSlot) → list_any (holds name) slots ≡ true → FoundSlot name slots
+found_own_slot name [] e = absurd (let clash : false ≡ true = e in cc)
+found_own_slot name (x ∷ slots) e = slot_by name x slots (holds name x) refl e (found_own_slot name slots)
 
 -- ---- and a lease that a session has is found
 
@@ -158,11 +158,11 @@ any_lease name [] word l e same = absurd (let clash : None ≡ Some l = e in cc)
 any_lease name (x ∷ held) zero l e same = ap (λ (b : Bool). b || list_any (is_lease_named name) held) (ap (is_lease_named name) e ∙ (same_texts l.device.info.name name).1 same)
 any_lease name (x ∷ held) (suc word) l e same = either_true (is_lease_named name x) (list_any (is_lease_named name) held) (any_lease name held word l e same)
 
-any_by : (name : List ℕ) (x y : Option (SessionSlot DeviceState)) (slots : Seats) (b : Bool) → holds name (if b then x else y) ≡ true → (holds name y ≡ true → list_any (holds name) slots ≡ true) → (holds name x || list_any (holds name) slots) ≡ true
+any_by : (name : List ℕ) (x y : Option (SessionSlot DeviceState)) (slots : TakesSlot) (b : Bool) → holds name (if b then x else y) ≡ true → (holds name y ≡ true → list_any (holds name) slots ≡ true) → (holds name x || list_any (holds name) slots) ≡ true
 any_by name x y slots true e more = ap (λ (b : Bool). b || list_any (holds name) slots) e
 any_by name x y slots false e more = either_true (holds name x) (list_any (holds name) slots) (more e)
 
-pub any_seat : (name : List ℕ) (slots : Seats) (n : ℕ) → holds name (session_slot_of slots n) ≡ true → list_any (holds name) slots ≡ true
+pub any_slot : (name : List ℕ) (slots : TakesSlot) (n : ℕ) → holds name (session_slot_of slots n) ≡ true → list_any (holds name) slots ≡ true
 unfolding session_slot_of
-any_seat name [] n e = e
-any_seat name (x ∷ slots) n e = any_by name x (session_slot_of slots n) slots (is_slot_number n x) e (any_seat name slots n)
+any_slot name [] n e = e
+any_slot name (x ∷ slots) n e = any_by name x (session_slot_of slots n) slots (is_slot_number n x) e (any_slot name slots n)

@@ -13,7 +13,7 @@ use Rattle.dispatch.specs.declared.table.place.Slot.{Slot}
 use Rattle.dispatch.specs.declared.table.place.Slot.TheVariants.{In, Out, Gone}
 use Rattle.dispatch.specs.Table.{Table, table_after_load, find_name, load_answer, load_at, load_of, loaded_at, loaded_slot, slot_load, with_loaded, with_slot}
 use Rattle.saned_requests.specs.declared.session.AwaitedAuthorization.{AwaitedAuthorization}
-use Rattle.saned_requests.specs.declared.session.Session.{Session as DeskSession}
+use Rattle.saned_requests.specs.declared.session.Session.{Session as RequestSession}
 use Rattle.saned_requests.specs.Holding.{held_by}
 use Rattle.saned_requests.specs.RequestAnswers.{RequestContext}
 use Rattle.saned_core.specs.declared.session_slot.SessionSlot.{SessionSlot}
@@ -48,14 +48,14 @@ use Rattle.world_refines.specs.GhostEvents.{CanLoad, LaysIn, GhostLeadsTo, Loads
 use Rattle.world_refines.proofs.state.CoreCallsKeep.{found_on, input_on, leaves_on, replies_on, slot_infos}
 use Rattle.world_refines.proofs.state.Sees.{Leaves}
 use Rattle.world_refines.proofs.state.Changing.{stands_change}
-use Rattle.world_refines.proofs.state.Faithful.{Seats, slot_true}
+use Rattle.world_refines.proofs.state.Faithful.{TakesSlot, slot_true}
 use Rattle.world_refines.proofs.state.Finding.{find_there, found_place, names_at}
 use Rattle.world_refines.proofs.state.Held.{held_after_all}
 use Rattle.world_refines.proofs.state.ListedPlaces.{shown_after}
 use Rattle.world_refines.proofs.job_events.Laying.{laid_none, laid_shows}
-use Rattle.world_refines.proofs.job_events.Leasing.{FoundSeat, any_lease, any_seat, found_seat, laid, laid_true, load_true}
+use Rattle.world_refines.proofs.job_events.Leasing.{FoundSlot, any_lease, any_slot, found_own_slot, laid, laid_true, load_true}
 use Rattle.world_refines.proofs.state.ListEntries.{is_same, there, within}
-use Rattle.world_refines.proofs.state.EndpointSlots.{reseats_on}
+use Rattle.world_refines.proofs.state.EndpointSlots.{replaces_on}
 use Rattle.world_refines.proofs.state.Spoken.{same_on, speaks_still}
 use Rattle.device_api.specs.ScannerLimits.{IsHeldPage}
 
@@ -87,7 +87,7 @@ record IsLeased (t : Ghost) (w : WorldCore) (name : List ℕ) : Type 0 where
   name_is : lease.device.info.name ≡ name
   then_is : (source : SourceState) → core_after_load w.daemon name source ≡ record w.daemon { slots = on_session_slot (on_session (laid source word)) id.number w.daemon.slots }
 
-by_served : (t : Ghost) (w : WorldCore) (name : List ℕ) (i : ℕ) (endpoint : Endpoint) (id : SessionId) (f : FoundSeat name w.daemon.slots) (b : Bool) → slice_get w.endpoints i ≡ Some endpoint → endpoint.link ≡ Some id → id.number ≡ f.slot.number → WorldRefines t w → list_any (holds name) w.daemon.slots ≡ true → (t.system.job i).served ≡ b → IsServed i t.system.make w.daemon (Some id) b t.system.device (session_by i t.system.device (t.system.job i)) → IsLeased t w name
+by_served : (t : Ghost) (w : WorldCore) (name : List ℕ) (i : ℕ) (endpoint : Endpoint) (id : SessionId) (f : FoundSlot name w.daemon.slots) (b : Bool) → slice_get w.endpoints i ≡ Some endpoint → endpoint.link ≡ Some id → id.number ≡ f.slot.number → WorldRefines t w → list_any (holds name) w.daemon.slots ≡ true → (t.system.job i).served ≡ b → IsServed i t.system.make w.daemon (Some id) b t.system.device (session_by i t.system.device (t.system.job i)) → IsLeased t w name
 by_served t w name i endpoint id f false at link number h any e served =
     let is : session_in (session_slot_of w.daemon.slots id.number) ≡ Some f.session = ap session_in (ap (session_slot_of w.daemon.slots) number ∙ f.found h.slots_are.apart) ∙ f.session_is in
     absurd (let clash : None ≡ Some f.session = sym served.0 ∙ is in cc)
@@ -104,16 +104,16 @@ by_served t w name i endpoint id f true at link number h any e served =
       served = e;
       word = f.lease.word;
       lease = f.lease.lease;
-      stands = ap (λ (s : DeskSession DeviceState). held_by s.held f.lease.word) same ∙ f.lease.stands;
+      stands = ap (λ (s : RequestSession DeviceState). held_by s.held f.lease.word) same ∙ f.lease.stands;
       name_is = f.lease.name_is;
       then_is = λ source.
           ap (λ (b : Bool). if b then record w.daemon { slots = on_first (holds name) (slot_with_page name source) w.daemon.slots } else record w.daemon { registry = table_after_load w.daemon.registry name source }) any
-          ∙ (ap (λ (s : Seats). record w.daemon { slots = s }) (f.then_is h.slots_are.apart source) ∙ ap (λ (n : ℕ). record w.daemon { slots = on_session_slot (on_session (laid source f.lease.word)) n w.daemon.slots }) (sym number));
+          ∙ (ap (λ (s : TakesSlot). record w.daemon { slots = s }) (f.then_is h.slots_are.apart source) ∙ ap (λ (n : ℕ). record w.daemon { slots = on_session_slot (on_session (laid source f.lease.word)) n w.daemon.slots }) (sym number));
     }
 
 whose : (t : Ghost) (w : WorldCore) (name : List ℕ) → WorldRefines t w → list_any (holds name) w.daemon.slots ≡ true → IsLeased t w name
 whose t w name h any =
-    let f = found_seat name w.daemon.slots any in
+    let f = found_own_slot name w.daemon.slots any in
     let l = h.slots_are.linked f.index f.slot f.at in
     let s = h.endpoints l.place l.endpoint l.at in
     by_served t w name l.place l.endpoint l.id f (t.system.job l.place).served l.at l.link l.number h any refl (subst (λ (o : Option SessionId). IsServed l.place t.system.make w.daemon o (t.system.job l.place).served t.system.device (session_by l.place t.system.device (t.system.job l.place))) l.link s.served)
@@ -156,7 +156,7 @@ lays_leased t w name source limits keep h d takes =
     let there : session_of e d.id.number ≡ Some (g d.shows.session) = on_there g d.id.number w.daemon.slots d.shows.session d.shows.stands in
     let own : SessionRefines i t.system.make e d.id.number device (session_by i device (t.system.job i)) =
     subst (λ (r : AbstractSession). SessionRefines i t.system.make e d.id.number device r) (sym ruled) (record { session = g d.shows.session; stands = there; shows = shows; begun = d.shows.begun }) in
-    let keeps : (x : DeskSession DeviceState) → AllByRecursion IsFaithfulLease x.held → AllByRecursion IsFaithfulLease (g x).held = laid_true source limits d.word in
+    let keeps : (x : RequestSession DeviceState) → AllByRecursion IsFaithfulLease x.held → AllByRecursion IsFaithfulLease (g x).held = laid_true source limits d.word in
     let same = same_on g (λ x. record { greeted = refl; awaited = refl }) d.id.number w.daemon.slots in
     record {
       steps = xs;
@@ -178,7 +178,7 @@ lays_leased t w name source limits keep h d takes =
             shown = shown_after t w xs h;
             sits = record {
               job_is = s.job_is;
-              talks = s.talks;
+              exchanges = s.exchanges;
               carries = subst (λ (o : Option SessionId). WiresMatch (t.wires i) (slot_of_link e o) p) (sym d.link) (carries_on g (t.wires i) w.daemon d.id p (subst (λ (o : Option SessionId). WiresMatch (t.wires i) (slot_of_link w.daemon o) p) d.link s.carries));
               means = s.means;
               served = subst (λ (o : Option SessionId). IsServed i t.system.make e o (t.system.job i).served u.system.device (session_by i u.system.device (t.system.job i))) (sym d.link)
@@ -190,7 +190,7 @@ lays_leased t w name source limits keep h d takes =
               pends = s.pends;
             };
             link = λ x is. inl is;
-            reseats = reseats_on g p.link w.daemon d.id.number;
+            replaces = replaces_on g p.link w.daemon d.id.number;
             begun = h.begun i;
           })));
     }
@@ -199,14 +199,14 @@ lays_leased t w name source limits keep h d takes =
     held_at table k dev k2 i (inl e) same = subst (λ (x : ℕ). is_held_by i (with_entry table k dev x).holder ≡ is_held_by i (table x).holder) (sym e) (ap (λ (x : AbstractDevice). is_held_by i x.holder) (put_there table k dev) ∙ ap (is_held_by i) same)
     held_at table k dev k2 i (inr n) same = ap (λ (x : AbstractDevice). is_held_by i x.holder) (put_elsewhere table k dev k2 n)
 
-    by_seat : (g : DeskSession DeviceState → DeskSession DeviceState) (o : Option (SessionSlot DeviceState)) (session : DeskSession DeviceState) → session_in o ≡ Some session → session_in (option_and_then (on_session g) o) ≡ Some (g session)
-    by_seat g None session e = absurd (let clash : None ≡ Some session = e in cc)
-    by_seat g (Some slot) session e = ap (option_map g) e
+    by_own_slot : (g : RequestSession DeviceState → RequestSession DeviceState) (o : Option (SessionSlot DeviceState)) (session : RequestSession DeviceState) → session_in o ≡ Some session → session_in (option_and_then (on_session g) o) ≡ Some (g session)
+    by_own_slot g None session e = absurd (let clash : None ≡ Some session = e in cc)
+    by_own_slot g (Some slot) session e = ap (option_map g) e
 
-    on_there : (g : DeskSession DeviceState → DeskSession DeviceState) (n : ℕ) (slots : Seats) (session : DeskSession DeviceState) → session_in (session_slot_of slots n) ≡ Some session → session_in (session_slot_of (on_session_slot (on_session g) n slots) n) ≡ Some (g session)
-    on_there g n slots session e = ap session_in (found_on g n slots) ∙ by_seat g (session_slot_of slots n) session e
+    on_there : (g : RequestSession DeviceState → RequestSession DeviceState) (n : ℕ) (slots : TakesSlot) (session : RequestSession DeviceState) → session_in (session_slot_of slots n) ≡ Some session → session_in (session_slot_of (on_session_slot (on_session g) n slots) n) ≡ Some (g session)
+    on_there g n slots session e = ap session_in (found_on g n slots) ∙ by_own_slot g (session_slot_of slots n) session e
 
-    carries_on : (g : DeskSession DeviceState → DeskSession DeviceState) (x : Wires) (core : Core) (id : SessionId) (endpoint : Endpoint) → WiresMatch x (slot_of_link core (Some id)) endpoint → WiresMatch x (session_slot_of (on_session_slot (on_session g) id.number core.slots) id.number) endpoint
+    carries_on : (g : RequestSession DeviceState → RequestSession DeviceState) (x : Wires) (core : Core) (id : SessionId) (endpoint : Endpoint) → WiresMatch x (slot_of_link core (Some id)) endpoint → WiresMatch x (session_slot_of (on_session_slot (on_session g) id.number core.slots) id.number) endpoint
     carries_on g x core id endpoint c = record { up = c.up; asking = input_on g id.number core.slots ∙ c.asking; down = replies_on g id.number core.slots ∙ c.down; telling = c.telling; image = c.image }
 
 -- ---- nothing is laid in
@@ -220,20 +220,20 @@ refused t w name source h same never =
 place_is : (t : Ghost) (w : WorldCore) (name : List ℕ) (j k : ℕ) → WorldRefines t w → name_at t.infos j ≡ Some name → name_at t.infos k ≡ Some name → j ≡ k
 place_is t w name j k h a b = h.is_of.apart j k name a b
 
-seat_self : (f : SessionSlot DeviceState → Option (SessionSlot DeviceState)) (n : ℕ) (slots : Seats) (slot : SessionSlot DeviceState) → session_slot_of slots n ≡ Some slot → f slot ≡ Some slot → on_session_slot f n slots ≡ slots
+slot_itself : (f : SessionSlot DeviceState → Option (SessionSlot DeviceState)) (n : ℕ) (slots : TakesSlot) (slot : SessionSlot DeviceState) → session_slot_of slots n ≡ Some slot → f slot ≡ Some slot → on_session_slot f n slots ≡ slots
 unfolding session_slot_of on_session_slot
-seat_self f n [] slot e same = refl
-seat_self f n (x ∷ slots) slot e same = by_test f n x slots slot (is_slot_number n x) refl e same (λ more. seat_self f n slots slot more same)
+slot_itself f n [] slot e same = refl
+slot_itself f n (x ∷ slots) slot e same = by_test f n x slots slot (is_slot_number n x) refl e same (λ more. slot_itself f n slots slot more same)
   where
-    by_test : (f : SessionSlot DeviceState → Option (SessionSlot DeviceState)) (n : ℕ) (x : Option (SessionSlot DeviceState)) (slots : Seats) (slot : SessionSlot DeviceState) (b : Bool) → is_slot_number n x ≡ b → (if b then x else session_slot_of slots n) ≡ Some slot → f slot ≡ Some slot → (session_slot_of slots n ≡ Some slot → on_session_slot f n slots ≡ slots) →
+    by_test : (f : SessionSlot DeviceState → Option (SessionSlot DeviceState)) (n : ℕ) (x : Option (SessionSlot DeviceState)) (slots : TakesSlot) (slot : SessionSlot DeviceState) (b : Bool) → is_slot_number n x ≡ b → (if b then x else session_slot_of slots n) ≡ Some slot → f slot ≡ Some slot → (session_slot_of slots n ≡ Some slot → on_session_slot f n slots ≡ slots) →
         (if b then option_and_then f x ∷ slots else x ∷ on_session_slot f n slots) ≡ x ∷ slots
     by_test f n x slots slot true is e same more = ap (λ (o : Option (SessionSlot DeviceState)). o ∷ slots) (ap (option_and_then f) e ∙ (same ∙ sym e))
-    by_test f n x slots slot false is e same more = ap (λ (ss : Seats). x ∷ ss) (more e)
+    by_test f n x slots slot false is e same more = ap (λ (ss : TakesSlot). x ∷ ss) (more e)
 
-session_self : (g : DeskSession DeviceState → DeskSession DeviceState) (n : ℕ) (slots : Seats) (session : DeskSession DeviceState) (o : Option (SessionSlot DeviceState)) → session_slot_of slots n ≡ o → session_in o ≡ Some session → g session ≡ session → on_session_slot (on_session g) n slots ≡ slots
+session_self : (g : RequestSession DeviceState → RequestSession DeviceState) (n : ℕ) (slots : TakesSlot) (session : RequestSession DeviceState) (o : Option (SessionSlot DeviceState)) → session_slot_of slots n ≡ o → session_in o ≡ Some session → g session ≡ session → on_session_slot (on_session g) n slots ≡ slots
 session_self g n slots session None is e same = absurd (let clash : None ≡ Some session = e in cc)
 session_self g n slots session (Some slot) is e same =
-    seat_self (on_session g) n slots slot is (ap (λ (o : Option (DeskSession DeviceState)). Some (record slot { session = o })) (ap (option_map g) e ∙ (ap (λ (s : DeskSession DeviceState). Some s) same ∙ sym e)))
+    slot_itself (on_session g) n slots slot is (ap (λ (o : Option (RequestSession DeviceState)). Some (record slot { session = o })) (ap (option_map g) e ∙ (ap (λ (s : RequestSession DeviceState). Some s) same ∙ sym e)))
 
 stays_leased : (t : Ghost) (w : WorldCore) (name : List ℕ) (source : SourceState) → WorldRefines t w → (d : IsLeased t w name) → takes_page d.lease.device ≡ false → Loaded t w name source
 stays_leased t w name source h d nay =
@@ -241,7 +241,7 @@ stays_leased t w name source h d nay =
     let k = l.place in
     let shown = d.shows.shows.devices.leases d.word l d.stands in
     let still = session_self (laid source d.word) d.id.number w.daemon.slots d.shows.session (session_slot_of w.daemon.slots d.id.number) refl d.shows.stands (laid_none source d.word d.shows.session l d.stands nay) in
-    refused t w name source h (d.then_is source ∙ ap (λ (s : Seats). record w.daemon { slots = s }) still) (λ can.
+    refused t w name source h (d.then_is source ∙ ap (λ (s : TakesSlot). record w.daemon { slots = s }) still) (λ can.
     let there : can.place ≡ k = place_is t w name can.place k h can.named (named_there t w name h d) in
     let rest : (abstract_device (Some d.i) l.device).phase ≡ Resting = ap (λ (x : AbstractDevice). x.phase) (sym shown.device) ∙ (ap (λ (j : ℕ). (t.system.device j).phase) (sym there) ∙ can.at_rest) in
     let room : has_room (t.system.make k).model (abstract_device (Some d.i) l.device).tray ≡ true = ap (λ (x : AbstractDevice). has_room (t.system.make k).model x.tray) (sym shown.device) ∙ (ap (λ (j : ℕ). has_room (t.system.make j).model (t.system.device j).tray) (sym there) ∙ can.room) in
@@ -282,9 +282,9 @@ lease_named j make held registry table k p name shows there is h =
     let same : own.place ≡ p = unsome own.place p (sym own.at ∙ (ap (slice_get registry) h.place ∙ there)) in
     own.name ∙ (ap (λ (x : Place DeviceState). x.info.name) same ∙ is)
 
-seat_has : (name : List ℕ) (o : Option (SessionSlot DeviceState)) (session : DeskSession DeviceState) → session_in o ≡ Some session → list_any (is_lease_named name) session.held ≡ true → holds name o ≡ true
-seat_has name None session e has = absurd (let clash : None ≡ Some session = e in cc)
-seat_has name (Some slot) session e has = ap (holds_in name) e ∙ has
+slot_has : (name : List ℕ) (o : Option (SessionSlot DeviceState)) (session : RequestSession DeviceState) → session_in o ≡ Some session → list_any (is_lease_named name) session.held ≡ true → holds name o ≡ true
+slot_has name None session e has = absurd (let clash : None ≡ Some session = e in cc)
+slot_has name (Some slot) session e has = ap (holds_in name) e ∙ has
 
 -- a place of that name whose device is out, for client j
 out_leased : (t : Ghost) (w : WorldCore) (name : List ℕ) (j k : ℕ) (p : Place DeviceState) (link : Option SessionId) (b : Bool) → slice_get w.daemon.registry k ≡ Some p → p.slot ≡ Out → p.info.name ≡ name → (t.system.device k).holder ≡ Some j →
@@ -294,7 +294,7 @@ out_leased t w name j k p (Some id) true there out is holder served =
     let held = served.session.held in
     let own = out_at j t.system.make held w.daemon.registry t.system.device k p served.shows.devices there out holder in
     let named = lease_named j t.system.make held w.daemon.registry t.system.device k p name served.shows.devices there is own in
-    any_seat name w.daemon.slots id.number (seat_has name (session_slot_of w.daemon.slots id.number) served.session served.stands (any_lease name held own.word own.lease own.stands named))
+    any_slot name w.daemon.slots id.number (slot_has name (session_slot_of w.daemon.slots id.number) served.session served.stands (any_lease name held own.word own.lease own.stands named))
 out_leased t w name j k p link false there out is holder served = absurd (none_held k (out_at j t.system.make [] w.daemon.registry t.system.device k p served.1 there out holder))
 
 out_by : (t : Ghost) (w : WorldCore) (name : List ℕ) (j k : ℕ) (p : Place DeviceState) → WorldRefines t w → slice_get w.daemon.registry k ≡ Some p → p.slot ≡ Out → p.info.name ≡ name → (t.system.device k).holder ≡ Some j →
@@ -444,7 +444,7 @@ lays_in t w name source limits keep h free d takes =
             let s = h.endpoints j endpoint at in
             record {
               job_is = s.job_is;
-              talks = s.talks;
+              exchanges = s.exchanges;
               carries = s.carries;
               means = s.means;
               served = served_in j t.system.make w.daemon endpoint.link (t.system.job j).served t.system.device (t.system.job j) name source d takes firm s.served;

@@ -33,11 +33,11 @@ use Rattle.world_refines.specs.GhostEvents.{GhostLeads, LosesControl, wires_with
 use Rattle.world_refines.proofs.state.CoreCallsKeep.{leaves_ended, shows_ended}
 use Rattle.world_refines.proofs.job_events.Cancelling.{flows_over, other_cause}
 use Rattle.world_refines.proofs.state.Changing.{stands_change}
-use Rattle.world_refines.proofs.job_events.Lost.{IsLost, if_input, if_out, talks_lost}
+use Rattle.world_refines.proofs.job_events.Lost.{IsLost, if_input, if_out, exchanges_lost}
 use Rattle.world_refines.proofs.state.Held.{held_after_all}
 use Rattle.world_refines.proofs.state.ListedPlaces.{shown_after}
 use Rattle.world_refines.proofs.state.GhostClients.{stops_idle, stops_over, under_runs}
-use Rattle.world_refines.proofs.state.EndpointSlots.{Reseats, reseats_ended}
+use Rattle.world_refines.proofs.state.EndpointSlots.{Replaces, replaces_ended}
 use Rattle.world_refines.proofs.state.Sees.{Leaves}
 use Rattle.world_refines.proofs.state.Taking.{DecidesAt, done, one_change, one_party, sits_there}
 use Rattle.world_refines.proofs.state.Waiting.{waits_lost}
@@ -100,7 +100,7 @@ unlinked_stands t w i p id h at low link =
     let served = subst (λ (x : Option SessionId). IsServed i t.system.make w.daemon x me.served t.system.device (session_by i t.system.device me)) link s.served in
     let leaves = leaves_ended i t.system.make w.daemon id me.served t.system.device me h.slots h.faithful served in
     let idle : is_running p.client.outcome ≡ false → IsUnderWay me.client.stage → ⊥ = λ over under.
-    let runs = under_runs (place_of_info t.infos) (target_of (t.jobs i)) me.session.job (map (λ (x : JoinHistory). x.ended) (t.pages i)) (protocol_of p.client (t.history i)) me.client s.talks.reads under in
+    let runs = under_runs (place_of_info t.infos) (target_of (t.jobs i)) me.session.job (map (λ (x : JoinHistory). x.ended) (t.pages i)) (protocol_of p.client (t.history i)) me.client s.exchanges.reads under in
     let clash : true ≡ false = sym runs ∙ over in absurd (cc) in
     let job_state = one_party t i (actions.Loses false) bytes (t.history i) (t.pages i) in
     done events.LoseControl LosesControl t i _ steps u linked (refl, record { legal = (linked, tt); then_is = refl })
@@ -112,16 +112,16 @@ unlinked_stands t w i p id h at low link =
       shown = shown_after t w steps h;
       sits = sits_there u e i q after bytes (t.history i) (t.pages i) job_state (put_there t.wires i bytes) (put_there t.history i (t.history i)) (put_there t.pages i (t.pages i)) (record {
         job_is = s.job_is;
-        talks = talks_lost (place_of_info t.infos) (t.jobs i) (t.history i) (t.pages i) me (session_after_loss me.session LinkLost) p q links.Control (is_running p.client.outcome) refl idle refl (control_lost p) s.talks after refl refl;
+        exchanges = exchanges_lost (place_of_info t.infos) (t.jobs i) (t.history i) (t.pages i) me (session_after_loss me.session LinkLost) p q links.Control (is_running p.client.outcome) refl idle refl (control_lost p) s.exchanges after refl refl;
         carries = carries_cut (t.wires i) (slot_of_link w.daemon p.link) (is_running p.client.outcome) p q (control_lost p) refl s.carries;
         means = means_cut (place_of_info t.infos) (t.jobs i) (t.wires i) me LinkLost q (λ met. s.means.starved (not_linked LinkLost starved_else me.session.met met)) (λ e. (s.means.before e).1) refl refl;
         served = (refl, shows_ended i t.system.make w.daemon id me.served t.system.device me served);
         speaks = tt;
-        waits = waits_lost p.client after.todo s.talks.over;
+        waits = waits_lost p.client after.todo s.exchanges.over;
         pends = pends_if (is_running p.client.outcome) p.client (t.wires i) bytes no_request_none refl s.pends;
       });
       link = λ x none. absurd (let clash : None ≡ Some x = none in cc);
-      reseats = subst (λ (x : Option SessionId). Reseats x None w.daemon e) (sym link) (reseats_ended w.daemon id h.slots_are.apart);
+      replaces = subst (λ (x : Option SessionId). Replaces x None w.daemon e) (sym link) (replaces_ended w.daemon id h.slots_are.apart);
       begun = subst (λ (x : JobState). AreStartedViews t.system.make x) (sym job_state) (h.begun i);
     }))
 

@@ -19,7 +19,7 @@ use Rattle.client_replies.specs.ProtocolStates.{HistoryFits, target_of, is_lost_
 use Rattle.client_replies.proofs.Fitting.{may_end}
 use Rattle.net_client.specs.ClientStates.{ClientRepresents, ClientState, after_client_end, protocol_of}
 use Rattle.system_model.specs.AbstractMessages.{IoError, Lost}
-use Rattle.system_model.specs.Client as rules
+use Rattle.system_model.specs.Client as model
 use Rattle.system_model.specs.Client.{ClientView}
 use Rattle.system_model.specs.ClientReplies.{client_after_stop, stage_after_stop}
 use Rattle.system_model.specs.Transitions.{IsUnderWay}
@@ -85,7 +85,7 @@ done_if false c e = e
 
 -- ---- how it reads
 
-pub reads_lost : (place : DeviceInfo → ℕ) (target : JobTarget) (job : rules.AbstractJob) (pages : List (List Frame)) (c : ClientState) (past : JoinHistory) (m : ClientView) (link : Link) (b : Bool) → c.target ≡ target → is_lost_by link c.outcome c.progress ≡ b → (b ≡ false → IsUnderWay m.stage → ⊥) →
+pub reads_lost : (place : DeviceInfo → ℕ) (target : JobTarget) (job : model.AbstractJob) (pages : List (List Frame)) (c : ClientState) (past : JoinHistory) (m : ClientView) (link : Link) (b : Bool) → c.target ≡ target → is_lost_by link c.outcome c.progress ≡ b → (b ≡ false → IsUnderWay m.stage → ⊥) →
     ClientRefines place target job pages (protocol_of c past) (client_at_greeting m.stage m) → ClientRefines place target job pages (protocol_of (ends_if b c) past) (client_at_greeting (stage_after_stop IoError Lost m.stage) (client_after_stop IoError Lost m))
 reads_lost place target job pages c past m link true is e n r =
     let under : IsUnderWay m.stage = runs_under place target job pages (protocol_of c past) m r (lost_runs link c.outcome c.progress e) in
@@ -126,9 +126,9 @@ all_lost : (laid b : Bool) (past : JoinHistory) (pages : List JoinHistory) (old 
 all_lost true b past pages old new l h = files_lost b [] _ old new l h
 all_lost false b past pages old new l h = files_lost b past.given pages old new l h
 
-pub talks_lost : (place : DeviceInfo → ℕ) (job : Job) (past : JoinHistory) (pages : List JoinHistory) (p : JobState) (session_view : SessionView) (old new : Endpoint) (link : Link) (b : Bool) → is_lost_by link old.client.outcome old.client.progress ≡ b → (b ≡ false → IsUnderWay p.client.stage → ⊥) → session_view.job ≡ p.session.job → IsLost b old new →
+pub exchanges_lost : (place : DeviceInfo → ℕ) (job : Job) (past : JoinHistory) (pages : List JoinHistory) (p : JobState) (session_view : SessionView) (old new : Endpoint) (link : Link) (b : Bool) → is_lost_by link old.client.outcome old.client.progress ≡ b → (b ≡ false → IsUnderWay p.client.stage → ⊥) → session_view.job ≡ p.session.job → IsLost b old new →
     EndpointClientRefines place job past pages p old → (q : JobState) → q.client ≡ client_after_stop IoError Lost p.client → q.session ≡ session_view → EndpointClientRefines place job past pages q new
-talks_lost place job past pages p session_view old new link b e n same l h q view base_is =
+exchanges_lost place job past pages p session_view old new link b e n same l h q view base_is =
     let shown : List (List Frame) = map (λ (x : JoinHistory). x.ended) pages in
     let runs : b ≡ true → is_running old.client.outcome ≡ true = λ yes. lost_runs link old.client.outcome old.client.progress (e ∙ yes) in
     let stage : q.client.stage ≡ stage_after_stop IoError Lost p.client.stage = ap (λ (m : ClientView). m.stage) view in
@@ -141,7 +141,7 @@ talks_lost place job past pages p session_view old new link b e n same l h q vie
       reads =
           subst (λ (c : ClientState). ClientRefines place (target_of job) q.session.job shown (protocol_of c past) (client_at_greeting q.client.stage q.client)) (sym l.client)
           (subst (λ (m : ClientView). ClientRefines place (target_of job) q.session.job shown (protocol_of (ends_if b old.client) past) (client_at_greeting m.stage m)) (sym view)
-          (subst (λ (x : rules.AbstractJob). ClientRefines place (target_of job) x shown (protocol_of (ends_if b old.client) past) (client_at_greeting (stage_after_stop IoError Lost p.client.stage) (client_after_stop IoError Lost p.client))) (sym (ap (λ (x : SessionView). x.job) base_is ∙ same))
+          (subst (λ (x : model.AbstractJob). ClientRefines place (target_of job) x shown (protocol_of (ends_if b old.client) past) (client_at_greeting (stage_after_stop IoError Lost p.client.stage) (client_after_stop IoError Lost p.client))) (sym (ap (λ (x : SessionView). x.job) base_is ∙ same))
           (reads_lost place (target_of job) p.session.job shown old.client past p.client link b h.target e n h.reads)));
       idle = λ idle. absurd (stops_idle IoError Lost p.client.stage (sym stage ∙ idle));
       begun = λ _. inr (λ u. stops_over IoError Lost p.client.stage (subst IsUnderWay stage u));

@@ -145,7 +145,7 @@ out_stands t w name h d =
             let s = h.endpoints j endpoint at in
             record {
               job_is = s.job_is;
-              talks = s.talks;
+              exchanges = s.exchanges;
               carries = s.carries;
               means = s.means;
               served = served_out j t.system.make w.daemon endpoint.link (t.system.job j).served t.system.device (t.system.job j) name d apart s.served;

@@ -139,7 +139,7 @@ pub left_runs : (t : Ghost) (w : WorldCore) (i : ℕ) (endpoint : Endpoint) → 
 left_runs t w i endpoint h pays at runs =
     let s = h.endpoints i endpoint at in
     let me = job_state t i in
-    let under = runs_under (place_of_info t.infos) (target_of (t.jobs i)) me.session.job (map (λ (x : JoinHistory). x.ended) (t.pages i)) (protocol_of endpoint.client (t.history i)) me.client s.talks.reads runs in
+    let under = runs_under (place_of_info t.infos) (target_of (t.jobs i)) me.session.job (map (λ (x : JoinHistory). x.ended) (t.pages i)) (protocol_of endpoint.client (t.history i)) me.client s.exchanges.reads runs in
     let few : cost t i ≤ endpoint.budget = pays i endpoint at under in
     let one : 1 ≤ control_variant t.system i = at_least me.client.stage me (device_for t.system i) under in
     let budget : 0 < endpoint.budget = by_sum (control_variant t.system i) _ endpoint.budget few one in

@@ -18,7 +18,7 @@ use Rattle.client_replies.specs.ProtocolStates.{target_of}
 use Rattle.client_refines.specs.RequestRefinement.{AreRequests, asks_of}
 use Rattle.scan_job.specs.declared.job.Job.{Job}
 use Rattle.system_model.specs.AbstractMessages.{AbstractReply, AbstractRequest}
-use Rattle.system_model.specs.Client as rules
+use Rattle.system_model.specs.Client as model
 use Rattle.system_model.specs.Variant.{exchange_cost}
 use Rattle.scan_world.specs.JobEvents.{bytes_not_delivered, delivered_bytes}
 use Rattle.world_refines.specs.Wires.{SpellsAwaitedReply, SpellsAsked, SpellsReplies}
@@ -43,42 +43,42 @@ as_many target known [] (r ∷ asked) are = absurd are
 as_many target known (q ∷ qs) [] are = absurd are
 as_many target known (q ∷ qs) (r ∷ asked) are = ap suc (as_many target known qs asked are.1)
 
-asked_within : (job : Job) (m : rules.ClientView) (asked : List AbstractRequest) (text : List ℕ) → length asked ≤ 2 → SpellsAsked job m asked text → length text ≤ exchange_cost
+asked_within : (job : Job) (m : model.ClientView) (asked : List AbstractRequest) (text : List ℕ) → length asked ≤ 2 → SpellsAsked job m asked text → length text ≤ exchange_cost
 asked_within job m asked text few s =
     let long : length text ≤ 1048576 * length s.requests = texts_within s.requests text s.text in
     let same : length s.requests ≡ length asked = as_many (target_of job) m.known s.requests asked s.same in
     omega (arith, few, long, same)
 
-asked_one : (g : rules.AbstractProgress) → length (rules.request_awaited g) ≤ 2
-asked_one rules.Greeting = omega arith
-asked_one rules.Listing = omega arith
-asked_one rules.Opening = omega arith
-asked_one (rules.Allowing challenge) = omega arith
-asked_one (rules.Describing bytes_not_delivered) = omega arith
-asked_one (rules.Putting n value requested bytes_not_delivered) = omega arith
-asked_one (rules.Getting n bytes_not_delivered) = omega arith
-asked_one rules.Starting = omega arith
-asked_one rules.Shaping = omega arith
-asked_one (rules.Imaging params heard) = omega arith
+asked_one : (g : model.AbstractProgress) → length (model.request_awaited g) ≤ 2
+asked_one model.Greeting = omega arith
+asked_one model.Listing = omega arith
+asked_one model.Opening = omega arith
+asked_one (model.Allowing challenge) = omega arith
+asked_one (model.Describing bytes_not_delivered) = omega arith
+asked_one (model.Putting n value requested bytes_not_delivered) = omega arith
+asked_one (model.Getting n bytes_not_delivered) = omega arith
+asked_one model.Starting = omega arith
+asked_one model.Shaping = omega arith
+asked_one (model.Imaging params heard) = omega arith
 
-bye_two : (task : rules.Task) → length (rules.abstract_goodbye task) ≤ 2
-bye_two rules.List_ = omega arith
-bye_two rules.Show = omega arith
-bye_two rules.SetOnly = omega arith
-bye_two rules.Scan = omega arith
-bye_two (rules.Batch n) = omega arith
+bye_two : (task : model.Task) → length (model.abstract_goodbye task) ≤ 2
+bye_two model.List_ = omega arith
+bye_two model.Show = omega arith
+bye_two model.SetOnly = omega arith
+bye_two model.Scan = omega arith
+bye_two (model.Batch n) = omega arith
 
-sends_two : (task : rules.Task) (st : rules.JobStage) → length (rules.requests_sent task st) ≤ 2
-sends_two task rules.Idle = omega arith
-sends_two task (rules.Running g) = asked_one g
-sends_two task rules.Done = bye_two task
-sends_two task (rules.Ended status why) = omega arith
+sends_two : (task : model.Task) (st : model.JobStage) → length (model.requests_sent task st) ≤ 2
+sends_two task model.Idle = omega arith
+sends_two task (model.Running g) = asked_one g
+sends_two task model.Done = bye_two task
+sends_two task (model.Ended status why) = omega arith
 
 -- what a client asks for as it comes into a stage
-pub sends_within : (job : Job) (m : rules.ClientView) (task : rules.Task) (st : rules.JobStage) (text : List ℕ) → SpellsAsked job m (rules.requests_sent task st) text → length text ≤ exchange_cost
-sends_within job m task st text s = asked_within job m (rules.requests_sent task st) text (sends_two task st) s
+pub sends_within : (job : Job) (m : model.ClientView) (task : model.Task) (st : model.JobStage) (text : List ℕ) → SpellsAsked job m (model.requests_sent task st) text → length text ≤ exchange_cost
+sends_within job m task st text s = asked_within job m (model.requests_sent task st) text (sends_two task st) s
 
-pub first_within : (job : Job) (m : rules.ClientView) (r : AbstractRequest) (text : List ℕ) → SpellsAsked job m (r ∷ []) text → length text ≤ exchange_cost
+pub first_within : (job : Job) (m : model.ClientView) (r : AbstractRequest) (text : List ℕ) → SpellsAsked job m (r ∷ []) text → length text ≤ exchange_cost
 first_within job m r text s = asked_within job m (r ∷ []) text (omega arith) s
 
 -- ---- replies

@@ -3,7 +3,7 @@ use Rattle.std.specs.Prelude.{IsSome, option_map, is_some}
 use Rattle.std.proofs.Common.{◌≡◌, ◌≢◌, ◌⊎◌, inl, inr, ◌∙◌, ℕ, ◌+◌, ◌≤◌, List, [], ◌∷◌, ◌++◌, Bool, true, false, Option, Some, None, refl, sym, ap, subst, length, length-append, slice_get, arith}
 use Rattle.frame_join.specs.FrameHistory.{JoinHistory}
 use Rattle.system_model.specs.AbstractMessages.{Status}
-use Rattle.system_model.specs.Client as rules
+use Rattle.system_model.specs.Client as model
 use Rattle.system_model.specs.Client.{Done, Ended, Idle, ClientView, Running, JobStage}
 use Rattle.system_model.specs.Actions as actions
 use Rattle.system_model.specs.Actions.{Action}
@@ -50,7 +50,7 @@ by_takes t i steps u come bytes is h less = by_steps t i steps u come bytes (t.h
 unlinked : (t : Ghost) (w : WorldCore) (i : ℕ) (p : Endpoint) → WorldRefines t w → slice_get w.endpoints i ≡ Some p → (job_state t i).linked ≡ true → (job_state t i).client.stage ≡ Idle → ⊥
 unlinked t w i p h at on idle =
     let s = h.endpoints i p at in
-    let link = (s.means.before (s.talks.idle idle)).0 in
+    let link = (s.means.before (s.exchanges.idle idle)).0 in
     let clash : false ≡ true = sym (ap is_some link) ∙ (sym s.means.linked ∙ on) in
     absurd (cc)
 
@@ -78,7 +78,7 @@ greeting_within t w i p h at idle =
     let m = (h.endpoints i p at).means in
     let x = wires t i in
     let up : length x.up ≤ exchange_cost = first_within (t.jobs i) (job_state t i).client _ x.up (m.first idle) in
-    let due = no_due i (make_for t.system i) (job_state t i) (device_for t.system i) (job_state t i).client.stage idle (h.sound.talks i) in
+    let due = no_due i (make_for t.system i) (job_state t i) (device_for t.system i) (job_state t i).client.stage idle (h.sound.exchanges i) in
     let none : length (x.telling ++ x.down) ≡ 0 = none_told (place_of_info t.infos) p.client.progress (job_state t i).due (x.telling ++ x.down) due (m.down (subst IsUnderWay (sym idle) tt)) in
     let both : length (x.telling ++ x.down) ≡ length x.telling + length x.down = length-append x.telling x.down in
     let flow = subst (λ (st : JobStage). FlightMatches st (job_state t i).session.transfer p.client.progress p.client.phase x.image (job_state t i).session.flight (job_state t i).session.ending) idle m.flow in
@@ -115,7 +115,7 @@ dials_own t i steps u can c =
     (λ _ _. by_sum (length (wires t i).up) (length (wires t i).down) (on_its_way (wires t i).image) (counted_at (job_state t i).client.stage (wires t i)) (connected t i (not_idle (job_state t i).client.stage can.1)))
   where
     not_idle : (st : JobStage) → IsImaging st → st ≡ Idle → ⊥
-    not_idle st is idle = let clash : Idle ≡ Running (rules.Imaging is.0 is.1) = sym idle ∙ is.2 in absurd (cc)
+    not_idle st is idle = let clash : Idle ≡ Running (model.Imaging is.0 is.1) = sym idle ∙ is.2 in absurd (cc)
 
     by_sum : (a b c d : ℕ) → d ≡ a + (b + c) → (a + (b + 0)) + 1 ≤ d + (1 + 0)
     by_sum a b c d all = omega (arith, all)
@@ -255,11 +255,11 @@ sees_own t w i n p steps u h at can g =
 
 -- ---- ToDaemon
 
-abbrev chance_deeds : List Chance → List Action
-chance_deeds [] = []
-chance_deeds (c ∷ cs) = actions.Answers c.0 c.1 ∷ chance_deeds cs
+abbrev chance_actions : List Chance → List Action
+chance_actions [] = []
+chance_actions (c ∷ cs) = actions.Answers c.0 c.1 ∷ chance_actions cs
 
-answers_are : (i : ℕ) (cs : List Chance) → answers i cs ≡ by_all i (chance_deeds cs)
+answers_are : (i : ℕ) (cs : List Chance) → answers i cs ≡ by_all i (chance_actions cs)
 answers_are i [] = refl
 answers_are i (c ∷ cs) = ap (λ (xs : List Transition). By i (actions.Answers c.0 c.1) ∷ xs) (answers_are i cs)
 
@@ -292,21 +292,21 @@ nothing_due t w i p h at under on some =
     let s = h.endpoints i p at in
     let me = job_state t i in
     let asks = asks_some (t.jobs i) me.client me.todo (wires t i).asking (wires t i).up some (s.means.up on) in
-    no_reply i (make_for t.system i) me (device_for t.system i) me.client.stage asks.0 asks.1 under asks.2 (h.sound.talks i)
+    no_reply i (make_for t.system i) me (device_for t.system i) me.client.stage asks.0 asks.1 under asks.2 (h.sound.exchanges i)
 
 breaks_due : (s : SystemState) (i : ℕ) (memory : Bool) (xs : List Action) → ((after_all s (by_all i (xs ++ actions.Breaks memory ∷ []))).job i).due ≡ []
 breaks_due s i memory [] = ap (λ (p : JobState). p.due) (put_there s.job i _)
 breaks_due s i memory (x ∷ xs) = breaks_due (after_transition s (By i x)) i memory xs
 
-served_before : (t : Ghost) (i : ℕ) (cs : List Chance) → IsHistory t.system (by_all i (chance_deeds cs)) → ((after_all t.system (by_all i (chance_deeds cs))).job i).served ≡ true → (job_state t i).served ≡ true
+served_before : (t : Ghost) (i : ℕ) (cs : List Chance) → IsHistory t.system (by_all i (chance_actions cs)) → ((after_all t.system (by_all i (chance_actions cs))).job i).served ≡ true → (job_state t i).served ≡ true
 served_before t i [] l on = on
 served_before t i (c ∷ cs) l on = l.0.0
 
-served_in : (t u : Ghost) (i : ℕ) (steps : List Transition) (bytes : Wires) (cs : List Chance) → GhostTakes t i steps bytes u → steps ≡ answers i cs → (job_state u i).served ≡ true → ((after_all t.system (by_all i (chance_deeds cs))).job i).served ≡ true
+served_in : (t u : Ghost) (i : ℕ) (steps : List Transition) (bytes : Wires) (cs : List Chance) → GhostTakes t i steps bytes u → steps ≡ answers i cs → (job_state u i).served ≡ true → ((after_all t.system (by_all i (chance_actions cs))).job i).served ≡ true
 served_in t u i steps bytes cs takes is on = subst (λ (xs : List Transition). ((after_all t.system xs).job i).served ≡ true) (is ∙ answers_are i cs) (sym (ap (λ (y : Ghost). (job_state y i).served) takes.then_is) ∙ on)
 
 -- where nothing is answered nothing is due
-answered_paid : (t u : Ghost) (i : ℕ) (cs : List Chance) → (job_state u i).due ≡ ((after_all t.system (by_all i (chance_deeds cs))).job i).due → Waiting u i → (job_state t i).due ≡ [] → length (wires u i).down ≤ prices (chance_deeds cs)
+answered_paid : (t u : Ghost) (i : ℕ) (cs : List Chance) → (job_state u i).due ≡ ((after_all t.system (by_all i (chance_actions cs))).job i).due → Waiting u i → (job_state t i).due ≡ [] → length (wires u i).down ≤ prices (chance_actions cs)
 answered_paid t u i [] same h none = let zero_long : length (wires u i).down ≡ 0 = h.none (same ∙ none) in omega (arith, zero_long)
 answered_paid t u i (c ∷ cs) same h none = let few : length (wires u i).down ≤ exchange_cost = h.few in omega (arith, few)
 
@@ -337,9 +337,9 @@ answers_own t u w v i n p q steps h k at there can a = by_answers a
     down_is : (come : List Action) (bytes : Wires) → u ≡ ghost_after t i (by_all i come) bytes (t.history i) (t.pages i) → (wires u i).down ≡ bytes.down
     down_is come bytes is = ap (λ (y : Ghost). (wires y i).down) is ∙ ap (λ (y : Wires). y.down) (put_there t.wires i bytes)
 
-    answered : (cs : List Chance) (bytes : Wires) → bytes.up ≡ bytes_not_delivered n x.up → bytes.image ≡ x.image → steps ≡ answers i cs → GhostTakes t i steps bytes u → (IsHistory t.system (by_all i (chance_deeds cs)) → (job_state t i).served ≡ true) → Own t i steps u
+    answered : (cs : List Chance) (bytes : Wires) → bytes.up ≡ bytes_not_delivered n x.up → bytes.image ≡ x.image → steps ≡ answers i cs → GhostTakes t i steps bytes u → (IsHistory t.system (by_all i (chance_actions cs)) → (job_state t i).served ≡ true) → Own t i steps u
     answered cs bytes up image is takes served =
-        let come = chance_deeds cs in
+        let come = chance_actions cs in
         let steps_are = is ∙ answers_are i cs in
         let then_is : u ≡ ghost_after t i (by_all i come) bytes (t.history i) (t.pages i) = takes.then_is ∙ ap (λ (xs : List Transition). ghost_after t i xs bytes (t.history i) (t.pages i)) steps_are in
         by_takes t i steps u come bytes steps_are takes
@@ -350,12 +350,12 @@ answers_own t u w v i n p q steps h k at there can a = by_answers a
 
     broken : (cs : List Chance) (memory : Bool) (bytes : Wires) → bytes.up ≡ bytes_not_delivered n x.up → bytes.image ≡ x.image → steps ≡ answers i cs ++ By i (actions.Breaks memory) ∷ [] → GhostTakes t i steps bytes u → Own t i steps u
     broken cs memory bytes up image is takes =
-        let come = chance_deeds cs ++ actions.Breaks memory ∷ [] in
-        let steps_are : steps ≡ by_all i come = is ∙ (ap (λ (xs : List Transition). xs ++ By i (actions.Breaks memory) ∷ []) (answers_are i cs) ∙ sym (all_then i (chance_deeds cs) (actions.Breaks memory ∷ []))) in
+        let come = chance_actions cs ++ actions.Breaks memory ∷ [] in
+        let steps_are : steps ≡ by_all i come = is ∙ (ap (λ (xs : List Transition). xs ++ By i (actions.Breaks memory) ∷ []) (answers_are i cs) ∙ sym (all_then i (chance_actions cs) (actions.Breaks memory ∷ []))) in
         let then_is : u ≡ ghost_after t i (by_all i come) bytes (t.history i) (t.pages i) = takes.then_is ∙ ap (λ (xs : List Transition). ghost_after t i xs bytes (t.history i) (t.pages i)) steps_are in
         by_takes t i steps u come bytes steps_are takes
         (λ legal under.
-        let none : length (wires u i).down ≡ 0 = (waits come bytes then_is under).none (ap (λ (y : Ghost). (job_state y i).due) then_is ∙ breaks_due t.system i memory (chance_deeds cs)) in
+        let none : length (wires u i).down ≡ 0 = (waits come bytes then_is under).none (ap (λ (y : Ghost). (job_state y i).due) then_is ∙ breaks_due t.system i memory (chance_actions cs)) in
         let same : length (wires u i).down ≡ length bytes.down = ap (λ (l : List ℕ). length l) (down_is come bytes then_is) in
         paid come bytes up image (omega (arith, none, same)))
 

@@ -14,7 +14,7 @@ use Rattle.client_replies.specs.ProtocolStates.{target_of, is_running}
 use Rattle.client_refines.specs.RequestRefinement.{AreRequests, asks_of}
 use Rattle.scan_job.specs.declared.job.Job.{Job}
 use Rattle.system_model.specs.AbstractMessages.{Authorize, Describe, Get, GetDevices, Init, Open, Parameters, AbstractReply, AbstractRequest, Set, Start, Status}
-use Rattle.system_model.specs.Client as rules
+use Rattle.system_model.specs.Client as model
 use Rattle.system_model.specs.Client.{Done, Ended, Idle, ClientView, Running, JobStage, request_awaited}
 use Rattle.system_model.specs.Daemon.{TransferState, Quiet, Streaming, Waiting}
 use Rattle.system_model.specs.Invariants as sound
@@ -104,7 +104,7 @@ request_left job m todo asking up r e n s none =
     by_requests [] text same = same
     by_requests (q ∷ qs) text same = let first = sent q qs asking text in n first.front first.back q first.whole (is_limited first.front q first.spelled)
 
-asks_move : (t : Ghost) (w : WorldCore) (i : ℕ) (p : Endpoint) (g : rules.AbstractProgress) (r : AbstractRequest) → WorldRefines t w → slice_get w.endpoints i ≡ Some p → request_awaited g ≡ r ∷ [] → sound.RequestInFlight i (make_for t.system i) (t.system.job i) (device_for t.system i) g → CanMove t i
+asks_move : (t : Ghost) (w : WorldCore) (i : ℕ) (p : Endpoint) (g : model.AbstractProgress) (r : AbstractRequest) → WorldRefines t w → slice_get w.endpoints i ≡ Some p → request_awaited g ≡ r ∷ [] → sound.RequestInFlight i (make_for t.system i) (t.system.job i) (device_for t.system i) g → CanMove t i
 asks_move t w i p g r h at only a =
     let s = h.endpoints i p at in
     inr (inl (a.linked, request_left (t.jobs i) (t.system.job i).client (t.system.job i).todo (t.wires i).asking (t.wires i).up r (a.todo ∙ only) s.pends.asking (s.means.up a.served), omega arith))
@@ -126,13 +126,13 @@ ended_move t w i p status h at low runs quiet over flow =
     let some = carried_some p.client.phase d.text (t.system.job i).session.flight (t.system.job i).session.ending status over (s.pends.reading reader.receiving) d.carried in
     inr (inr (inr (inr (inl (subst (λ (o : Option (List ℕ)). HasSomeBytes o) (sym d.image_is) some, omega arith)))))
 
-flows_move : (t : Ghost) (w : WorldCore) (i : ℕ) (p : Endpoint) (params : _) (heard : List ℕ) → (t.system.job i).client.stage ≡ Running (rules.Imaging params heard) → flow_at t i p (t.system.job i).session.transfer → ((t.system.job i).session.transfer ≡ Waiting) ⊎ ((t.system.job i).session.transfer ≡ Streaming) → CanMove t i
+flows_move : (t : Ghost) (w : WorldCore) (i : ℕ) (p : Endpoint) (params : _) (heard : List ℕ) → (t.system.job i).client.stage ≡ Running (model.Imaging params heard) → flow_at t i p (t.system.job i).session.transfer → ((t.system.job i).session.transfer ≡ Waiting) ⊎ ((t.system.job i).session.transfer ≡ Streaming) → CanMove t i
 flows_move t w i p params heard stage flow (inl waiting) = inr (inr (inr (inl (waiting, (params, heard, stage)))))
 flows_move t w i p params heard stage flow (inr streaming) =
     let d : IsDialled p.client.progress p.client.phase (t.wires i).image (t.system.job i).session.flight (t.system.job i).session.ending = subst (λ (c : TransferState). flow_at t i p c) streaming flow in
     inr (inr (inr (inr (inr (inl (subst IsSome (sym d.image_is) refl, inl streaming))))))
 
-imaging_move : (t : Ghost) (w : WorldCore) (i : ℕ) (p : Endpoint) (params : _) (heard : List ℕ) → WorldRefines t w → slice_get w.endpoints i ≡ Some p → i < t.count → is_running p.client.outcome ≡ true → (t.system.job i).client.stage ≡ Running (rules.Imaging params heard) →
+imaging_move : (t : Ghost) (w : WorldCore) (i : ℕ) (p : Endpoint) (params : _) (heard : List ℕ) → WorldRefines t w → slice_get w.endpoints i ≡ Some p → i < t.count → is_running p.client.outcome ≡ true → (t.system.job i).client.stage ≡ Running (model.Imaging params heard) →
     sync.Images i (make_for t.system i) (t.system.job i).session (t.system.job i).client (device_for t.system i) params heard → CanMove t i
 imaging_move t w i p params heard h at low runs stage images = by_carried images.carries
   where
@@ -146,7 +146,7 @@ imaging_move t w i p params heard h at low runs stage images = by_carried images
     by_carried (inr (inr (inr fails))) = ended_move t w i p fails.status h at low runs fails.transfer fails.ending flow
 
 -- a reply is on the way, and not all of it has come to its client
-told_move : (t : Ghost) (w : WorldCore) (i : ℕ) (p : Endpoint) (g : rules.AbstractProgress) → WorldRefines t w → slice_get w.endpoints i ≡ Some p → is_running p.client.outcome ≡ true → IsUnderWay (t.system.job i).client.stage → sound.ReplyInFlight i (make_for t.system i) (t.system.job i) (device_for t.system i) g → CanMove t i
+told_move : (t : Ghost) (w : WorldCore) (i : ℕ) (p : Endpoint) (g : model.AbstractProgress) → WorldRefines t w → slice_get w.endpoints i ≡ Some p → is_running p.client.outcome ≡ true → IsUnderWay (t.system.job i).client.stage → sound.ReplyInFlight i (make_for t.system i) (t.system.job i) (device_for t.system i) g → CanMove t i
 told_move t w i p g h at runs under told =
     let s = h.endpoints i p at in
     let x = t.wires i in
@@ -155,17 +155,17 @@ told_move t w i p g h at runs under told =
     let some : x.down ≢ [] = λ none. s.pends.telling runs f.front f.back f.answer (sym (ap (λ (l : List ℕ). x.telling ++ l) none ∙ append-nil x.telling) ∙ f.text_is) (record { procedure = f.procedure; awaited_is = f.awaited_is; spelled = f.spelled }) in
     inr (inr (inl (told.linked, some, omega arith)))
 
-asking_move : (t : Ghost) (w : WorldCore) (i : ℕ) (p : Endpoint) (g : rules.AbstractProgress) → WorldRefines t w → slice_get w.endpoints i ≡ Some p → i < t.count → is_running p.client.outcome ≡ true → (t.system.job i).client.stage ≡ Running g → sound.RequestInFlight i (make_for t.system i) (t.system.job i) (device_for t.system i) g → CanMove t i
-asking_move t w i p rules.Greeting h at low runs stage a = asks_move t w i p rules.Greeting Init h at refl a
-asking_move t w i p rules.Listing h at low runs stage a = asks_move t w i p rules.Listing GetDevices h at refl a
-asking_move t w i p rules.Opening h at low runs stage a = asks_move t w i p rules.Opening Open h at refl a
-asking_move t w i p (rules.Allowing challenge) h at low runs stage a = asks_move t w i p (rules.Allowing challenge) (Authorize challenge) h at refl a
-asking_move t w i p (rules.Describing left) h at low runs stage a = asks_move t w i p (rules.Describing left) Describe h at refl a
-asking_move t w i p (rules.Putting n value requested left) h at low runs stage a = asks_move t w i p (rules.Putting n value requested left) (Set n value) h at refl a
-asking_move t w i p (rules.Getting n left) h at low runs stage a = asks_move t w i p (rules.Getting n left) (Get n) h at refl a
-asking_move t w i p rules.Starting h at low runs stage a = asks_move t w i p rules.Starting Start h at refl a
-asking_move t w i p rules.Shaping h at low runs stage a = asks_move t w i p rules.Shaping Parameters h at refl a
-asking_move t w i p (rules.Imaging params heard) h at low runs stage a = imaging_move t w i p params heard h at low runs stage a.in_sync
+asking_move : (t : Ghost) (w : WorldCore) (i : ℕ) (p : Endpoint) (g : model.AbstractProgress) → WorldRefines t w → slice_get w.endpoints i ≡ Some p → i < t.count → is_running p.client.outcome ≡ true → (t.system.job i).client.stage ≡ Running g → sound.RequestInFlight i (make_for t.system i) (t.system.job i) (device_for t.system i) g → CanMove t i
+asking_move t w i p model.Greeting h at low runs stage a = asks_move t w i p model.Greeting Init h at refl a
+asking_move t w i p model.Listing h at low runs stage a = asks_move t w i p model.Listing GetDevices h at refl a
+asking_move t w i p model.Opening h at low runs stage a = asks_move t w i p model.Opening Open h at refl a
+asking_move t w i p (model.Allowing challenge) h at low runs stage a = asks_move t w i p (model.Allowing challenge) (Authorize challenge) h at refl a
+asking_move t w i p (model.Describing left) h at low runs stage a = asks_move t w i p (model.Describing left) Describe h at refl a
+asking_move t w i p (model.Putting n value requested left) h at low runs stage a = asks_move t w i p (model.Putting n value requested left) (Set n value) h at refl a
+asking_move t w i p (model.Getting n left) h at low runs stage a = asks_move t w i p (model.Getting n left) (Get n) h at refl a
+asking_move t w i p model.Starting h at low runs stage a = asks_move t w i p model.Starting Start h at refl a
+asking_move t w i p model.Shaping h at low runs stage a = asks_move t w i p model.Shaping Parameters h at refl a
+asking_move t w i p (model.Imaging params heard) h at low runs stage a = imaging_move t w i p params heard h at low runs stage a.in_sync
 
 by_stage : (t : Ghost) (w : WorldCore) (i : ℕ) (p : Endpoint) (st : JobStage) → WorldRefines t w → slice_get w.endpoints i ≡ Some p → i < t.count → is_running p.client.outcome ≡ true → (t.system.job i).client.stage ≡ st → IsUnderWay st → sound.StageInvariant i (make_for t.system i) (t.system.job i) (device_for t.system i) st → CanMove t i
 by_stage t w i p Idle h at low runs stage u k = inl (low, stage)
@@ -179,8 +179,8 @@ can_move : (t : Ghost) (w : WorldCore) (i : ℕ) (p : Endpoint) → WorldRefines
 can_move t w i p h at low runs =
     let s = h.endpoints i p at in
     let me = t.system.job i in
-    let under = runs_under (place_of_info t.infos) (target_of (t.jobs i)) me.session.job (map (λ (x : JoinHistory). x.ended) (t.pages i)) (protocol_of p.client (t.history i)) me.client s.talks.reads runs in
-    by_stage t w i p me.client.stage h at low runs refl under (h.sound.talks i)
+    let under = runs_under (place_of_info t.infos) (target_of (t.jobs i)) me.session.job (map (λ (x : JoinHistory). x.ended) (t.pages i)) (protocol_of p.client (t.history i)) me.client s.exchanges.reads runs in
+    by_stage t w i p me.client.stage h at low runs refl under (h.sound.exchanges i)
 
 -- ---- in a world
 
@@ -195,13 +195,13 @@ none_comes t w i p h at low none (inr (inr (inr (inr (inr (inl can)))))) = none.
 none_comes t w i p h at low none (inr (inr (inr (inr (inr (inr dead)))))) =
     let s = h.endpoints i p at in none.1.1.1.1.1.1 (s.means.over dead.0 ∙ ap not dead.1) ((control_decides t w i p h at low).can dead.0)
 
-by_deed : (t : Ghost) (w : WorldCore) (i : ℕ) (p : Endpoint) (action : Option JobEvent) (event : Option AnyEvent) → WorldRefines t w → slice_get w.endpoints i ≡ Some p → i < t.count → is_running p.client.outcome ≡ true → event ≡ option_map (world.job_event_of i) action → IsNext w.daemon p in_order action → IsSome event
-by_deed t w i p None event h at low runs is none = absurd (none_comes t w i p h at low none (can_move t w i p h at low runs))
-by_deed t w i p (Some action) event h at low runs is first = subst IsSome (sym is) refl
+by_action : (t : Ghost) (w : WorldCore) (i : ℕ) (p : Endpoint) (action : Option JobEvent) (event : Option AnyEvent) → WorldRefines t w → slice_get w.endpoints i ≡ Some p → i < t.count → is_running p.client.outcome ≡ true → event ≡ option_map (world.job_event_of i) action → IsNext w.daemon p in_order action → IsSome event
+by_action t w i p None event h at low runs is none = absurd (none_comes t w i p h at low none (can_move t w i p h at low runs))
+by_action t w i p (Some action) event h at low runs is first = subst IsSome (sym is) refl
 
 pub nobody_is_stuck : NobodyIsStuck
 nobody_is_stuck t w i p event h at next = (
-  λ runs. by_deed t w i p next.job_event event h at (subst (λ (n : ℕ). i < n) (sym h.is_of.count) (within w.endpoints i p at)) runs next.event_is (next.runs runs),
+  λ runs. by_action t w i p next.job_event event h at (subst (λ (n : ℕ). i < n) (sym h.is_of.count) (within w.endpoints i p at)) runs next.event_is (next.runs runs),
   λ over. next.event_is ∙ ap (option_map (world.job_event_of i)) (next.over over),
 )
 
@@ -256,8 +256,8 @@ explained_first t w i p h at runs (inr first) =
     let s = h.endpoints i p at in
     let me = t.system.job i in
     let low : i < t.count = subst (λ (n : ℕ). i < n) (sym h.is_of.count) (within w.endpoints i p at) in
-    let under = runs_under (place_of_info t.infos) (target_of (t.jobs i)) me.session.job (map (λ (x : JoinHistory). x.ended) (t.pages i)) (protocol_of p.client (t.history i)) me.client s.talks.reads runs in
-    explained_by t w i p me.client.stage h at (λ can. first.0 ((connect_decides t w i p h at low).can can)) low (last_of w.daemon p in_order events.LoseControl no_other (inr first)) refl under (h.sound.talks i)
+    let under = runs_under (place_of_info t.infos) (target_of (t.jobs i)) me.session.job (map (λ (x : JoinHistory). x.ended) (t.pages i)) (protocol_of p.client (t.history i)) me.client s.exchanges.reads runs in
+    explained_by t w i p me.client.stage h at (λ can. first.0 ((connect_decides t w i p h at low).can can)) low (last_of w.daemon p in_order events.LoseControl no_other (inr first)) refl under (h.sound.exchanges i)
 
 is_loss : (i : ℕ) (x : JobEvent) → Some (LoseControl i) ≡ Some (world.job_event_of i x) → x ≡ events.LoseControl
 is_loss i events.LoseControl e = refl

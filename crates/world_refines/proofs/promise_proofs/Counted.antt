@@ -42,8 +42,8 @@ pages_count t w i endpoint h at done batch =
     let s = h.endpoints i endpoint at in
     let me = t.system.job i in
     let past = t.history i in
-    let files = subst (λ (b : Bool). KeepsFiles b past (t.pages i) endpoint) (laid_by (t.jobs i).task endpoint.client.outcome past done batch) s.talks.files in
-    laid_count (is_joined past.ended) past (t.pages i) endpoint refl files ∙ ap (λ (x : List (List Frame)). length x) (sym (sym (woken_pages me.client.stage me.client) ∙ s.talks.reads.files.all))
+    let files = subst (λ (b : Bool). KeepsFiles b past (t.pages i) endpoint) (laid_by (t.jobs i).task endpoint.client.outcome past done batch) s.exchanges.files in
+    laid_count (is_joined past.ended) past (t.pages i) endpoint refl files ∙ ap (λ (x : List (List Frame)). length x) (sym (sym (woken_pages me.client.stage me.client) ∙ s.exchanges.reads.files.all))
 
 some_page : {X : Type 0} (xs : List X) → xs ≢ [] → 0 < length xs
 some_page [] n = absurd (n refl)

@@ -51,24 +51,24 @@ next_spared i k places p dev challenge fault (q ∷ rest) h =
     let x = environment_of p.session places challenge fault in
     joined (served_by i k places p dev challenge fault q).causes p.session.met (answer_spares i k dev p.session.awaited x (served_by i k places p dev challenge fault q).causes (causes_grounded i k dev p.session.transfer p.session.awaited x q)) h
 
-deed_spared : (i : ℕ) (k : Make) (places : List ℕ) (p : JobState) (dev : AbstractDevice) (x : actions.Action) → IsActionEnabled i k p dev x → IsSpared p → IsSpared (job_after_action i k places p dev x)
-deed_spared i k places p dev actions.Connects may h = h
-deed_spared i k places p dev (actions.Answers challenge fault) may h = next_spared i k places p dev challenge fault p.todo h
-deed_spared i k places p dev (actions.Hears reply) may h = h
-deed_spared i k places p dev actions.Dials may h = h
-deed_spared i k places p dev (actions.Turns bytes) may h = h
-deed_spared i k places p dev actions.TurnsLast may h = h
-deed_spared i k places p dev (actions.TurnsNamed status) may h = joined (Names status ∷ []) p.session.met (one (Names status) (λ e. may.6 (let same : Names Good ≡ Names status = e in let is : status ≡ Good = cc in is))) h
-deed_spared i k places p dev actions.TurnsShort may h = joined (NamesEof ∷ []) p.session.met (one NamesEof (λ e. let clash : Names Good ≡ NamesEof = e in cc)) h
-deed_spared i k places p dev (actions.TurnsFault fault) may h = joined (SourceFailed ∷ []) p.session.met (one SourceFailed (λ e. let clash : Names Good ≡ SourceFailed = e in cc)) h
-deed_spared i k places p dev actions.TurnsOff may h = h
-deed_spared i k places p dev (actions.Reads bytes) may h = h
-deed_spared i k places p dev (actions.Finishes status) may h = h
-deed_spared i k places p dev (actions.Loses memory) may h = joined (loss_cause memory ∷ []) p.session.met (loss_spares memory) h
-deed_spared i k places p dev (actions.LosesImage memory) may h = joined (loss_cause memory ∷ []) p.session.met (loss_spares memory) h
-deed_spared i k places p dev (actions.Breaks memory) may h = joined (break_causes memory) p.session.met (breaking_spares memory) h
-deed_spared i k places p dev actions.RunsOutOfMemory may h = joined (ClientOutOfMemory ∷ []) p.session.met (one ClientOutOfMemory (λ e. let clash : Names Good ≡ ClientOutOfMemory = e in cc)) h
-deed_spared i k places p dev actions.Stops may h = joined (GaveUp ∷ []) p.session.met (one GaveUp (λ e. let clash : Names Good ≡ GaveUp = e in cc)) h
+action_spared : (i : ℕ) (k : Make) (places : List ℕ) (p : JobState) (dev : AbstractDevice) (x : actions.Action) → IsActionEnabled i k p dev x → IsSpared p → IsSpared (job_after_action i k places p dev x)
+action_spared i k places p dev actions.Connects may h = h
+action_spared i k places p dev (actions.Answers challenge fault) may h = next_spared i k places p dev challenge fault p.todo h
+action_spared i k places p dev (actions.Hears reply) may h = h
+action_spared i k places p dev actions.Dials may h = h
+action_spared i k places p dev (actions.Turns bytes) may h = h
+action_spared i k places p dev actions.TurnsLast may h = h
+action_spared i k places p dev (actions.TurnsNamed status) may h = joined (Names status ∷ []) p.session.met (one (Names status) (λ e. may.6 (let same : Names Good ≡ Names status = e in let is : status ≡ Good = cc in is))) h
+action_spared i k places p dev actions.TurnsShort may h = joined (NamesEof ∷ []) p.session.met (one NamesEof (λ e. let clash : Names Good ≡ NamesEof = e in cc)) h
+action_spared i k places p dev (actions.TurnsFault fault) may h = joined (SourceFailed ∷ []) p.session.met (one SourceFailed (λ e. let clash : Names Good ≡ SourceFailed = e in cc)) h
+action_spared i k places p dev actions.TurnsOff may h = h
+action_spared i k places p dev (actions.Reads bytes) may h = h
+action_spared i k places p dev (actions.Finishes status) may h = h
+action_spared i k places p dev (actions.Loses memory) may h = joined (loss_cause memory ∷ []) p.session.met (loss_spares memory) h
+action_spared i k places p dev (actions.LosesImage memory) may h = joined (loss_cause memory ∷ []) p.session.met (loss_spares memory) h
+action_spared i k places p dev (actions.Breaks memory) may h = joined (break_causes memory) p.session.met (breaking_spares memory) h
+action_spared i k places p dev actions.RunsOutOfMemory may h = joined (ClientOutOfMemory ∷ []) p.session.met (one ClientOutOfMemory (λ e. let clash : Names Good ≡ ClientOutOfMemory = e in cc)) h
+action_spared i k places p dev actions.Stops may h = joined (GaveUp ∷ []) p.session.met (one GaveUp (λ e. let clash : Names Good ≡ GaveUp = e in cc)) h
 
 -- ---- steps
 
@@ -81,7 +81,7 @@ either_spared false p q a h = h
 
 step_spared : (s : SystemState) (x : Transition) → IsEnabled s x → AllSpared s → AllSpared (after_transition s x)
 step_spared s (By i x) legal h =
-    λ j. either_spared (eqb j i) (job_after_action i (make_for s i) (listed_devices s) (s.job i) (device_for s i) x) (s.job j) (deed_spared i (make_for s i) (listed_devices s) (s.job i) (device_for s i) x legal (h i)) (h j)
+    λ j. either_spared (eqb j i) (job_after_action i (make_for s i) (listed_devices s) (s.job i) (device_for s i) x) (s.job j) (action_spared i (make_for s i) (listed_devices s) (s.job i) (device_for s i) x legal (h i)) (h j)
 step_spared s (Loads d page) legal h = h
 step_spared s (Unplugs d) legal h = h
 

@@ -21,7 +21,7 @@ use Rattle.client_replies.specs.ProtocolStates.{target_of, is_batch, shows}
 use Rattle.net_client.specs.ClientStates.{protocol_of}
 use Rattle.system_model.specs.AbstractMessages as words
 use Rattle.system_model.specs.Devices.{Make, OptionsInForce, descriptors_in_force, abstract_status}
-use Rattle.system_model.specs.Client as rules
+use Rattle.system_model.specs.Client as model
 use Rattle.system_model.specs.Client.{Idle, ClientView, JobStage}
 use Rattle.system_model.specs.AbstractInForce as ruled
 use Rattle.system_model.specs.AbstractDevices.{Begin}
@@ -48,40 +48,40 @@ use Rattle.world_refines.proofs.state.GhostClients.{under_by, woken_under}
 
 -- ---- a client view that is over is the model's own
 
-woken_done : (st : JobStage) (m : ClientView) → m.stage ≡ st → (client_at_greeting st m).stage ≡ rules.Done → st ≡ rules.Done
-woken_done Idle m e h = absurd (let clash : rules.Running rules.Greeting ≡ rules.Done = h in cc)
-woken_done (rules.Running g) m e h = sym e ∙ h
-woken_done rules.Done m e h = refl
-woken_done (rules.Ended status why) m e h = sym e ∙ h
+woken_done : (st : JobStage) (m : ClientView) → m.stage ≡ st → (client_at_greeting st m).stage ≡ model.Done → st ≡ model.Done
+woken_done Idle m e h = absurd (let clash : model.Running model.Greeting ≡ model.Done = h in cc)
+woken_done (model.Running g) m e h = sym e ∙ h
+woken_done model.Done m e h = refl
+woken_done (model.Ended status why) m e h = sym e ∙ h
 
-woken_ended : (st : JobStage) (m : ClientView) (status : words.Status) (why : words.Why) → m.stage ≡ st → (client_at_greeting st m).stage ≡ rules.Ended status why → st ≡ rules.Ended status why
-woken_ended Idle m status why e h = absurd (let clash : rules.Running rules.Greeting ≡ rules.Ended status why = h in cc)
-woken_ended (rules.Running g) m status why e h = sym e ∙ h
-woken_ended rules.Done m status why e h = sym e ∙ h
-woken_ended (rules.Ended s w) m status why e h = sym e ∙ h
+woken_ended : (st : JobStage) (m : ClientView) (status : words.Status) (why : words.Why) → m.stage ≡ st → (client_at_greeting st m).stage ≡ model.Ended status why → st ≡ model.Ended status why
+woken_ended Idle m status why e h = absurd (let clash : model.Running model.Greeting ≡ model.Ended status why = h in cc)
+woken_ended (model.Running g) m status why e h = sym e ∙ h
+woken_ended model.Done m status why e h = sym e ∙ h
+woken_ended (model.Ended s w) m status why e h = sym e ∙ h
 
-woken_over : (st : JobStage) (m : ClientView) → st ≡ rules.Done → client_at_greeting st m ≡ m
+woken_over : (st : JobStage) (m : ClientView) → st ≡ model.Done → client_at_greeting st m ≡ m
 woken_over st m e = ap (λ (x : JobStage). client_at_greeting x m) e
 
 end_alike : (t : Ghost) (w : WorldCore) (i : ℕ) (endpoint : Endpoint) → WorldRefines t w → slice_get w.endpoints i ≡ Some endpoint → EndAlike (place_of_info t.infos) (t.jobs i).task endpoint.client.outcome (client_at_greeting (t.system.job i).client.stage (t.system.job i).client)
 end_alike t w i endpoint h at =
-    outcomes_alike (place_of_info t.infos) (target_of (t.jobs i)) (t.system.job i).session.job (map (λ (q : JoinHistory). q.ended) (t.pages i)) (protocol_of endpoint.client (t.history i)) (client_at_greeting (t.system.job i).client.stage (t.system.job i).client) (h.endpoints i endpoint at).talks.reads
+    outcomes_alike (place_of_info t.infos) (target_of (t.jobs i)) (t.system.job i).session.job (map (λ (q : JoinHistory). q.ended) (t.pages i)) (protocol_of endpoint.client (t.history i)) (client_at_greeting (t.system.job i).client.stage (t.system.job i).client) (h.endpoints i endpoint at).exchanges.reads
 
 pub task_is : (t : Ghost) (w : WorldCore) (i : ℕ) (endpoint : Endpoint) → WorldRefines t w → slice_get w.endpoints i ≡ Some endpoint → (t.system.job i).session.job.task ≡ task_of (t.jobs i).task
-task_is t w i endpoint h at = ap (λ (x : rules.AbstractJob). x.task) (h.endpoints i endpoint at).job_is
+task_is t w i endpoint h at = ap (λ (x : model.AbstractJob). x.task) (h.endpoints i endpoint at).job_is
 
-no_list : (task : Task) → task ≢ tasks.List → task_of task ≢ rules.List_
+no_list : (task : Task) → task ≢ tasks.List → task_of task ≢ model.List_
 no_list tasks.List n = λ e. n refl
-no_list tasks.Show n = λ e. let clash : rules.Show ≡ rules.List_ = e in absurd (cc)
-no_list tasks.SetOnly n = λ e. let clash : rules.SetOnly ≡ rules.List_ = e in absurd (cc)
-no_list tasks.Scan n = λ e. let clash : rules.Scan ≡ rules.List_ = e in absurd (cc)
-no_list (tasks.Batch count) n = λ e. let clash : rules.Batch _ ≡ rules.List_ = e in absurd (cc)
+no_list tasks.Show n = λ e. let clash : model.Show ≡ model.List_ = e in absurd (cc)
+no_list tasks.SetOnly n = λ e. let clash : model.SetOnly ≡ model.List_ = e in absurd (cc)
+no_list tasks.Scan n = λ e. let clash : model.Scan ≡ model.List_ = e in absurd (cc)
+no_list (tasks.Batch count) n = λ e. let clash : model.Batch _ ≡ model.List_ = e in absurd (cc)
 
 -- what is shown is what the model tells
 shows_as : (task : Task) (options : List (Descriptor × Option Value)) (m : ClientView) → task ≡ tasks.Show → ShowRefines (shows task) options m → (m.known ≡ descs options) × (m.values ≡ known_values options) × OnlyReadableHaveValues options
 shows_as task options m e h = subst (λ (x : Task). ShowRefines (shows x) options m) e h
 
-options_shown : (t : Ghost) (i : ℕ) (reports : Reports) → Invariant t.system → (t.system.job i).client.stage ≡ rules.Done → (t.system.job i).session.job.task ≡ rules.Show → (t.jobs i).task ≡ tasks.Show → client_at_greeting (t.system.job i).client.stage (t.system.job i).client ≡ (t.system.job i).client →
+options_shown : (t : Ghost) (i : ℕ) (reports : Reports) → Invariant t.system → (t.system.job i).client.stage ≡ model.Done → (t.system.job i).session.job.task ≡ model.Show → (t.jobs i).task ≡ tasks.Show → client_at_greeting (t.system.job i).client.stage (t.system.job i).client ≡ (t.system.job i).client →
     ShowRefines (shows (t.jobs i).task) reports.options (client_at_greeting (t.system.job i).client.stage (t.system.job i).client) → AreShown t i reports.options
 options_shown t i reports sound stage ruled task same h =
     let m = (t.system.job i).client in
@@ -96,23 +96,23 @@ options_shown t i reports sound stage ruled task same h =
     }
 
 -- the settings of a job that is done are those of the model's fold
-settled_for : (k : Make) (b : SessionView) (m : ClientView) (task : rules.Task) → task ≢ rules.List_ → IsRightlyDone k b m task → (o : OptionsInForce) × AllInForce k b.job b.sent m.reports o
-settled_for k b m rules.List_ n h = absurd (n refl)
-settled_for k b m rules.Show n h = (h.options, h.settled)
-settled_for k b m rules.SetOnly n h = h
-settled_for k b m rules.Scan n h = h.0
-settled_for k b m (rules.Batch l) n h = h.0
+settled_for : (k : Make) (b : SessionView) (m : ClientView) (task : model.Task) → task ≢ model.List_ → IsRightlyDone k b m task → (o : OptionsInForce) × AllInForce k b.job b.sent m.reports o
+settled_for k b m model.List_ n h = absurd (n refl)
+settled_for k b m model.Show n h = (h.options, h.settled)
+settled_for k b m model.SetOnly n h = h
+settled_for k b m model.Scan n h = h.0
+settled_for k b m (model.Batch l) n h = h.0
 
-done_at : (s : SystemState) (i : ℕ) (st : JobStage) → st ≡ rules.Done → StageInvariant i (make_for s i) (s.job i) (device_for s i) st → IsRightlyDone (make_for s i) (s.job i).session (s.job i).client (s.job i).session.job.task
+done_at : (s : SystemState) (i : ℕ) (st : JobStage) → st ≡ model.Done → StageInvariant i (make_for s i) (s.job i) (device_for s i) st → IsRightlyDone (make_for s i) (s.job i).session (s.job i).client (s.job i).session.job.task
 done_at s i st e h = subst (λ (x : JobStage). StageInvariant i (make_for s i) (s.job i) (device_for s i) x) e h
 
-settings_kept : (t : Ghost) (w : WorldCore) (i : ℕ) (endpoint : Endpoint) (reports : Reports) → WorldRefines t w → slice_get w.endpoints i ≡ Some endpoint → (t.system.job i).client.stage ≡ rules.Done → (t.system.job i).session.job.task ≢ rules.List_ → map common_abstract_report (t.system.job i).client.reports ≡ map common_report reports.settings →
+settings_kept : (t : Ghost) (w : WorldCore) (i : ℕ) (endpoint : Endpoint) (reports : Reports) → WorldRefines t w → slice_get w.endpoints i ≡ Some endpoint → (t.system.job i).client.stage ≡ model.Done → (t.system.job i).session.job.task ≢ model.List_ → map common_abstract_report (t.system.job i).client.reports ≡ map common_report reports.settings →
     AreReported t i reports.settings
 settings_kept t w i endpoint reports h at stage no_list are =
     let me = t.system.job i in
     let k = make_for t.system i in
-    let settled = settled_for k me.session me.client me.session.job.task no_list (done_at t.system i me.client.stage stage (h.sound.talks i)) in
-    let requested_settings : me.session.job.settings ≡ map requested_setting (t.jobs i).settings.items = ap (λ (x : rules.AbstractJob). x.settings) (h.endpoints i endpoint at).job_is in
+    let settled = settled_for k me.session me.client me.session.job.task no_list (done_at t.system i me.client.stage stage (h.sound.exchanges i)) in
+    let requested_settings : me.session.job.settings ≡ map requested_setting (t.jobs i).settings.items = ap (λ (x : model.AbstractJob). x.settings) (h.endpoints i endpoint at).job_is in
     record {
       reports = me.client.reports;
       options = settled.0;
@@ -129,7 +129,7 @@ pub kept_promise : (t : Ghost) (w : WorldCore) (i : ℕ) (endpoint : Endpoint) (
 kept_promise t w i endpoint reports h at e =
     let me = t.system.job i in
     let d = (end_alike t w i endpoint h at).done reports e in
-    let stage : me.client.stage ≡ rules.Done = woken_done me.client.stage me.client refl d.stage in
+    let stage : me.client.stage ≡ model.Done = woken_done me.client.stage me.client refl d.stage in
     let same : client_at_greeting me.client.stage me.client ≡ me.client = woken_over me.client.stage me.client stage in
     let task = task_is t w i endpoint h at in
     record {
@@ -182,7 +182,7 @@ meant_by t w i endpoint begin q file h at picture steady page_view finished give
     let me = t.system.job i in
     let k = make_for t.system i in
     let meant = pictures_meant k me.session.job.settings begin q.ended picture steady page_view in
-    let settings : me.session.job.settings ≡ map requested_setting (t.jobs i).settings.items = ap (λ (x : rules.AbstractJob). x.settings) s.job_is in
+    let settings : me.session.job.settings ≡ map requested_setting (t.jobs i).settings.items = ap (λ (x : model.AbstractJob). x.settings) s.job_is in
     let in_force : option_map (λ r. r.0) (devices.in_force k.model k.order (t.jobs i).settings.items) ≡ Some begin.options =
     ap (λ (x : List (List ℕ × List ℕ)). option_map (λ r. r.0) (devices.in_force k.model k.order x)) (sym (ap (map pair_of) settings ∙ same_pairs (t.jobs i).settings.items))
     ∙ (sym (settings_same k me.session.job.settings) ∙ ap (option_map (λ (f : ruled.SettingsResult). f.options)) picture.0.1) in
@@ -204,15 +204,15 @@ scans_are_meant t w i endpoint reports file h at scan done kept =
     let c = scans_right t.system i h.sound promise.stage (task_is t w i endpoint h at ∙ ap task_of scan) in
     let begin = c.0 in
     let frames = c.2 in
-    let none : t.pages i ≡ [] = s.talks.alone (no_batch (t.jobs i).task scan) in
-    let all : frames ∷ [] ≡ wholes past.ended = sym c.4 ∙ (ap (λ (m : ClientView). m.pages) (sym same) ∙ (s.talks.reads.files.all ∙ ap (λ (pages : List JoinHistory). map (λ (q : JoinHistory). q.ended) pages ++ wholes past.ended) none)) in
+    let none : t.pages i ≡ [] = s.exchanges.alone (no_batch (t.jobs i).task scan) in
+    let all : frames ∷ [] ≡ wholes past.ended = sym c.4 ∙ (ap (λ (m : ClientView). m.pages) (sym same) ∙ (s.exchanges.reads.files.all ∙ ap (λ (pages : List JoinHistory). map (λ (q : JoinHistory). q.ended) pages ++ wholes past.ended) none)) in
     let whole = only_whole (is_joined past.ended) past.ended frames refl (sym all) in
     let page_view : k.steady ≡ true → IsPageView begin.page = λ steady. (subst (λ (x : List Begin). AllByRecursion (λ (b : Begin). IsPageView b.page) x) c.3 (h.begun i steady)).0 in
-    let files = subst (λ (b : Bool). KeepsFiles b past (t.pages i) endpoint) (not_laid (t.jobs i).task endpoint.client.outcome past (is_done endpoint.client.outcome) refl (no_batch (t.jobs i).task scan)) s.talks.files in
+    let files = subst (λ (b : Bool). KeepsFiles b past (t.pages i) endpoint) (not_laid (t.jobs i).task endpoint.client.outcome past (is_done endpoint.client.outcome) refl (no_batch (t.jobs i).task scan)) s.exchanges.files in
     let given : file ≡ past.given = subst (λ (x : Option (List ℕ)). KeepsFile endpoint.out_of_memory past.given x) kept files.file in
     record {
       begin = begin;
       later = c.1;
       started = c.3;
-      meant = λ steady. meant_by t w i endpoint begin past file h at (subst (λ (x : List Frame). IsPictureOfStart k me.session.job.settings begin x) (sym whole.1) c.5) steady (page_view steady) (s.talks.done (ap is_done done) whole.0) given;
+      meant = λ steady. meant_by t w i endpoint begin past file h at (subst (λ (x : List Frame). IsPictureOfStart k me.session.job.settings begin x) (sym whole.1) c.5) steady (page_view steady) (s.exchanges.done (ap is_done done) whole.0) given;
     }

@@ -7,7 +7,7 @@ use Rattle.sane_fixed.specs.declared.device_info.DeviceInfo.{DeviceInfo}
 use Rattle.device_api.specs.State.{DeviceState}
 use Rattle.data_records.specs.declared.records.RecordPhase.{RecordPhase}
 use Rattle.frame_join.specs.FrameHistory.{JoinHistory}
-use Rattle.saned_requests.specs.declared.session.Session.{Session as DeskSession}
+use Rattle.saned_requests.specs.declared.session.Session.{Session as RequestSession}
 use Rattle.saned_core.specs.declared.session_slot.SessionId.{SessionId}
 use Rattle.saned_core.specs.DaemonStates.{replies_of, session_slot_of, session_in}
 use Rattle.saned_core.specs.Feeding.{input_in}
@@ -15,7 +15,7 @@ use Rattle.client_replies.specs.declared.progress.Progress.{Progress}
 use Rattle.client_replies.specs.ProtocolStates.{ProtocolState, target_of, is_batch, is_imaging, is_running}
 use Rattle.client_replies.specs.ProtocolStates as client
 use Rattle.system_model.specs.AbstractMessages.{AbstractReply, AbstractRequest, Status}
-use Rattle.system_model.specs.Client as rules
+use Rattle.system_model.specs.Client as model
 use Rattle.system_model.specs.Client.{Done, Ended, Idle, ClientView, Running, JobStage, request_awaited, requests_sent}
 use Rattle.system_model.specs.ClientReplies.{hear_in}
 use Rattle.system_model.specs.Daemon.{TransferState, Waiting, Streaming}
@@ -40,12 +40,12 @@ use Rattle.world_refines.proofs.state.Changing.{stands_change}
 use Rattle.world_refines.proofs.state.Held.{held_after_all}
 use Rattle.world_refines.proofs.state.ListedPlaces.{shown_after}
 use Rattle.world_refines.proofs.replies.Heeded.{nothing_said}
-use Rattle.world_refines.proofs.state.EndpointSlots.{Reseats}
+use Rattle.world_refines.proofs.state.EndpointSlots.{Replaces}
 use Rattle.world_refines.proofs.state.Sees.{Leaves}
 use Rattle.world_refines.proofs.state.Spoken.{AreSame, same_as, speaks_more}
 use Rattle.world_refines.proofs.state.Stepping.{StepsTo}
 use Rattle.world_refines.proofs.state.Taking.{sits_there}
-use Rattle.world_refines.proofs.replies.TakenOff.{leaves_taken, reseats_taken, served_some, served_taken, taken_input, taken_replies, taken_session}
+use Rattle.world_refines.proofs.replies.TakenOff.{leaves_taken, replaces_taken, served_some, served_taken, taken_input, taken_replies, taken_session}
 use Rattle.world_refines.specs.Speaks.{WaitsQuietly}
 use Rattle.world_refines.specs.WorldPending.{Pends}
 use Rattle.world_refines.proofs.state.ListEntries.{nil_both}
@@ -66,7 +66,7 @@ pub record Keeps (p q : JobState) : Type 0 where
 pub delivered_stands : (t : Ghost) (w : WorldCore) (i n : ℕ) (p q : Endpoint) (id : SessionId) (steps : List Transition) (x : Wires) (past : JoinHistory) (after : JobState) → WorldRefines t w → slice_get w.endpoints i ≡ Some p → i < t.count → p.link ≡ Some id → q.link ≡ p.link →
     StepsTo t i steps x past (t.pages i) after → Keeps (t.system.job i) after → EndpointClientRefines (place_of_info t.infos) (t.jobs i) past (t.pages i) after q → WiresMatch x (slot_of_link (world.without_taken id.number n w.daemon) (Some id)) q → Means (place_of_info t.infos) (t.jobs i) x after q → WaitsQuietly q.client.progress after.todo → Pends q.client.outcome q.client.progress q.client.phase x →
     WorldRefines (ghost_after t i steps x past (t.pages i)) (record { daemon = world.without_taken id.number n w.daemon; endpoints = slice_set w.endpoints i q })
-delivered_stands t w i n p q id steps x past after h at low link stays to keeps talks carries means waits pends =
+delivered_stands t w i n p q id steps x past after h at low link stays to keeps exchanges carries means waits pends =
     let s = h.endpoints i p at in
     let me = t.system.job i in
     let u : Ghost = ghost_after t i steps x past (t.pages i) in
@@ -88,18 +88,18 @@ delivered_stands t w i n p q id steps x past after h at low link stays to keeps 
       shown = shown_after t w steps h;
       sits = sits_there u e i q after x past (t.pages i) to.job (put_there t.wires i x) (put_there t.history i past) (put_there t.pages i (t.pages i)) (record {
         job_is = keeps.job ∙ s.job_is;
-        talks = talks;
+        exchanges = exchanges;
         carries = here q.link (stays ∙ link);
         means = means;
         served = subst (λ (make : ℕ → Make). IsServed i make e q.link after.served u.system.device (session_by i u.system.device after)) (sym to.change.make) same;
         speaks =
             speaks_more (t.jobs i).device me after keeps.more (session_in (slot_of_link w.daemon p.link)) (session_in (slot_of_link e q.link)) keeps.todo keeps.awaited
-            (subst (λ (o : Option (DeskSession DeviceState)). AreSame (session_in (slot_of_link w.daemon p.link)) o) (sym session) (same_as (session_in (slot_of_link w.daemon p.link)))) s.speaks;
+            (subst (λ (o : Option (RequestSession DeviceState)). AreSame (session_in (slot_of_link w.daemon p.link)) o) (sym session) (same_as (session_in (slot_of_link w.daemon p.link)))) s.speaks;
         waits = waits;
         pends = pends;
       });
       link = λ y is. inl (sym stays ∙ is);
-      reseats = subst (λ (l : Option SessionId). Reseats p.link l w.daemon e) (sym stays) (reseats_taken n p.link w.daemon id.number);
+      replaces = subst (λ (l : Option SessionId). Replaces p.link l w.daemon e) (sym stays) (replaces_taken n p.link w.daemon id.number);
       begun = subst (λ (y : JobState). AreStartedViews t.system.make y) (sym to.job)
           (λ steady. subst (AllByRecursion (λ (b : Begin). IsPageView b.page)) (sym keeps.started) (h.begun i (ap (λ (j : _). (t.system.make j.wants).steady) (sym keeps.job) ∙ steady)));
     })
@@ -149,7 +149,7 @@ running_by Done u n = absurd u
 running_by (Ended status why) u n = absurd u
 
 -- a reply that is due is told
-told_by : (i : ℕ) (k : Make) (p : JobState) (dev : AbstractDevice) (g : rules.AbstractProgress) (r : AbstractReply) → p.due ≡ r ∷ [] → sound.StageInvariant i k p dev (Running g) → sound.ReplyInFlight i k p dev g
+told_by : (i : ℕ) (k : Make) (p : JobState) (dev : AbstractDevice) (g : model.AbstractProgress) (r : AbstractReply) → p.due ≡ r ∷ [] → sound.StageInvariant i k p dev (Running g) → sound.ReplyInFlight i k p dev g
 told_by i k p dev g r due (inl asks) = absurd (let clash : r ∷ [] ≡ [] = sym due ∙ asks.due in cc)
 told_by i k p dev g r due (inr (inl told)) = told
 told_by i k p dev g r due (inr (inr dead)) = absurd (let clash : r ∷ [] ≡ [] = sym due ∙ dead.due in cc)
@@ -157,21 +157,21 @@ told_by i k p dev g r due (inr (inr dead)) = absurd (let clash : r ∷ [] ≡ []
 first_of_one : (r s : AbstractReply) → r ∷ [] ≡ s ∷ [] → r ≡ s
 first_of_one r s e = cc
 
-still_by : (g : rules.AbstractProgress) (c : TransferState) (progress : Progress) (phase : RecordPhase) (image : Option (List ℕ)) (flight : List ℕ) (ending : Option Status) → request_awaited g ≢ [] → FlowsBy g c progress phase image flight ending → NothingFlows image flight ending
-still_by (rules.Imaging params heard) c progress phase image flight ending n h = absurd (n refl)
-still_by rules.Greeting c progress phase image flight ending n h = h
-still_by rules.Listing c progress phase image flight ending n h = h
-still_by rules.Opening c progress phase image flight ending n h = h
-still_by (rules.Allowing challenge) c progress phase image flight ending n h = h
-still_by (rules.Describing more) c progress phase image flight ending n h = h
-still_by (rules.Putting k value requested more) c progress phase image flight ending n h = h
-still_by (rules.Getting k more) c progress phase image flight ending n h = h
-still_by rules.Starting c progress phase image flight ending n h = h
-still_by rules.Shaping c progress phase image flight ending n h = h
+still_by : (g : model.AbstractProgress) (c : TransferState) (progress : Progress) (phase : RecordPhase) (image : Option (List ℕ)) (flight : List ℕ) (ending : Option Status) → request_awaited g ≢ [] → FlowsBy g c progress phase image flight ending → NothingFlows image flight ending
+still_by (model.Imaging params heard) c progress phase image flight ending n h = absurd (n refl)
+still_by model.Greeting c progress phase image flight ending n h = h
+still_by model.Listing c progress phase image flight ending n h = h
+still_by model.Opening c progress phase image flight ending n h = h
+still_by (model.Allowing challenge) c progress phase image flight ending n h = h
+still_by (model.Describing more) c progress phase image flight ending n h = h
+still_by (model.Putting k value requested more) c progress phase image flight ending n h = h
+still_by (model.Getting k more) c progress phase image flight ending n h = h
+still_by model.Starting c progress phase image flight ending n h = h
+still_by model.Shaping c progress phase image flight ending n h = h
 
 -- it is due to a client that waits for it, and nothing else is on the way
 pub record IsDueTo (t : Ghost) (i : ℕ) (p : Endpoint) : Type 0 where
-  pub progress : rules.AbstractProgress
+  pub progress : model.AbstractProgress
   pub stage : (t.system.job i).client.stage ≡ Running progress
   pub reply : AbstractReply
   pub due : (t.system.job i).due ≡ reply ∷ []
@@ -185,7 +185,7 @@ pub record IsDueTo (t : Ghost) (i : ℕ) (p : Endpoint) : Type 0 where
   pub up : (t.wires i).up ≡ []
   pub still : NothingFlows (t.wires i).image (t.system.job i).session.flight (t.system.job i).session.ending
 
-right_heard : (i : ℕ) (k : Make) (b : SessionView) (dev : AbstractDevice) (st : JobStage) (g : rules.AbstractProgress) (job : rules.AbstractJob) (m : ClientView) (r s : AbstractReply) → st ≡ Running g → r ≡ s → sound.IsRight i k b (hear_in (Running g) job m r) dev (hear_in (Running g) job m r).stage → sound.IsRight i k b (hear_in st job m s) dev (hear_in st job m s).stage
+right_heard : (i : ℕ) (k : Make) (b : SessionView) (dev : AbstractDevice) (st : JobStage) (g : model.AbstractProgress) (job : model.AbstractJob) (m : ClientView) (r s : AbstractReply) → st ≡ Running g → r ≡ s → sound.IsRight i k b (hear_in (Running g) job m r) dev (hear_in (Running g) job m r).stage → sound.IsRight i k b (hear_in st job m s) dev (hear_in st job m s).stage
 right_heard i k b dev st g job m r s e f h =
     subst (λ (x : JobStage). sound.IsRight i k b (hear_in x job m s) dev (hear_in x job m s).stage) (sym e)
     (subst (λ (x : AbstractReply). sound.IsRight i k b (hear_in (Running g) job m x) dev (hear_in (Running g) job m x).stage) f h)
@@ -196,8 +196,8 @@ due_to t w i p id h at link under some =
     let me = t.system.job i in
     let x = t.wires i in
     let one = due_one (place_of_info t.infos) p.client.progress me.due x.telling x.down (s.means.down under) some in
-    let run = running_by me.client.stage under (λ idle. let clash : None ≡ Some id = sym (s.means.before (s.talks.idle idle)).0 ∙ link in absurd (cc)) in
-    let told = told_by i (make_for t.system i) me (device_for t.system i) run.0 one.reply one.due_is (subst (λ (st : JobStage). sound.StageInvariant i (make_for t.system i) me (device_for t.system i) st) run.1 (h.sound.talks i)) in
+    let run = running_by me.client.stage under (λ idle. let clash : None ≡ Some id = sym (s.means.before (s.exchanges.idle idle)).0 ∙ link in absurd (cc)) in
+    let told = told_by i (make_for t.system i) me (device_for t.system i) run.0 one.reply one.due_is (subst (λ (st : JobStage). sound.StageInvariant i (make_for t.system i) me (device_for t.system i) st) run.1 (h.sound.exchanges i)) in
     let same : told.reply ≡ one.reply = first_of_one told.reply one.reply (sym told.due ∙ one.due_is) in
     let quiet : x.asking ++ x.up ≡ [] = nothing_said (target_of (t.jobs i)) (x.asking ++ x.up) (subst (λ (todo : List AbstractRequest). SpellsAsked (t.jobs i) me.client todo (x.asking ++ x.up)) told.todo (s.means.up told.served)) in
     let none = nil_both x.asking x.up quiet in
@@ -219,8 +219,8 @@ due_to t w i p id h at link under some =
 
 -- ---- what flows then
 
-by_still : (g : rules.AbstractProgress) (c : TransferState) (progress : Progress) (phase : RecordPhase) (image : Option (List ℕ)) (flight : List ℕ) (ending : Option Status) → NothingFlows image flight ending → (IsImaging (Running g) → FlowsBy g c progress phase image flight ending) → FlowsBy g c progress phase image flight ending
-by_still (rules.Imaging params heard) c progress phase image flight ending h flows = flows (params, heard, refl)
+by_still : (g : model.AbstractProgress) (c : TransferState) (progress : Progress) (phase : RecordPhase) (image : Option (List ℕ)) (flight : List ℕ) (ending : Option Status) → NothingFlows image flight ending → (IsImaging (Running g) → FlowsBy g c progress phase image flight ending) → FlowsBy g c progress phase image flight ending
+by_still (model.Imaging params heard) c progress phase image flight ending h flows = flows (params, heard, refl)
 by_still g c progress phase image flight ending h flows = h
 
 pub flows_still : (st : JobStage) (c : TransferState) (progress : Progress) (phase : RecordPhase) (image : Option (List ℕ)) (flight : List ℕ) (ending : Option Status) → NothingFlows image flight ending → (IsImaging st → FlightMatches st c progress phase image flight ending) → FlightMatches st c progress phase image flight ending
@@ -249,4 +249,4 @@ waits_for i k b m dev st right imaging none calm = let images : sync.Images i k 
 pub flows_begun : (st : JobStage) (c : TransferState) (progress : Progress) (phase : RecordPhase) (image : Option (List ℕ)) (flight : List ℕ) (ending : Option Status) → IsImaging st → c ≡ Waiting → IsSome (client.wanted_port progress) → NothingFlows image flight ending → FlightMatches st c progress phase image flight ending
 flows_begun st c progress phase image flight ending imaging waits wants h =
     subst (λ (x : JobStage). FlightMatches x c progress phase image flight ending) (sym imaging.2)
-    (subst (λ (y : TransferState). FlightMatches (Running (rules.Imaging imaging.0 imaging.1)) y progress phase image flight ending) (sym waits) (record { wants = wants; image_is = h.image_is; flight_is = h.flight_is; ending_is = h.ending_is }))
+    (subst (λ (y : TransferState). FlightMatches (Running (model.Imaging imaging.0 imaging.1)) y progress phase image flight ending) (sym waits) (record { wants = wants; image_is = h.image_is; flight_is = h.flight_is; ending_is = h.ending_is }))

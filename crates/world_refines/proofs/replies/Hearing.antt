@@ -19,7 +19,7 @@ use Rattle.client_replies.specs.ProtocolStates.{ProtocolState, target_of, is_bat
 use Rattle.client_replies.specs.ProtocolStates as client
 use Rattle.net_client.specs.ClientStates.{ClientState, protocol_of}
 use Rattle.system_model.specs.AbstractMessages.{Memory, NoMem, AbstractReply, AbstractRequest}
-use Rattle.system_model.specs.Client as rules
+use Rattle.system_model.specs.Client as model
 use Rattle.system_model.specs.Client.{Done, Ended, Idle, ClientView, Running, JobStage, request_awaited, requests_sent}
 use Rattle.system_model.specs.ClientReplies.{client_after_stop}
 use Rattle.system_model.specs.Causes.{Cause, ClientOutOfMemory, IsCauseAmong, LinkOutOfMemory}
@@ -53,7 +53,7 @@ use Rattle.scan_world.specs.FileDraining.{Drains}
 use Rattle.world_refines.specs.GhostEvents.{GhostCan, GhostLeads}
 use Rattle.world_refines.specs.ClientDeliveries.{HistoryExtends, GhostHears, IsBefore}
 use Rattle.world_refines.proofs.replies.Delivering.{IsDueTo, carries_taken, delivered_stands, due_to, flows_begun, flows_still, waits_for}
-use Rattle.world_refines.proofs.frames.Dried.{Dried, dried_by, reads_awake, talks_dried, with_client}
+use Rattle.world_refines.proofs.frames.Dried.{Dried, dried_by, reads_awake, exchanges_dried, with_client}
 use Rattle.world_refines.proofs.state.Taking.{DecidesAt, done}
 use Rattle.world_refines.proofs.frames.Unimaged.{both_or}
 use Rattle.world_refines.proofs.replies.Heeded.{ChokesAt, ChokesBehind, Comes4, HearsIt, IsWordAt, Reaches, WaitsOn, comes_front, heeded, mind_then}
@@ -158,7 +158,7 @@ reached_stands t w i n p q id c steps m todo more due met telling text more_is g
     let progress : q.client.progress ≡ c.progress = ap (λ (v : ClientState). v.progress) d.client in
     delivered_stands t w i n p q id steps (wires_after_delivery me.served n telling text (t.wires i)) (record r.history_then { given = r.history_then.given ++ d.more }) (moved_on me m todo due met) g.stands g.at g.low g.link (ap (λ (x : Endpoint). x.link) d.rest) to
     (record { served = refl; job = refl; started = refl; session = λ j device. refl; more = more; todo = more_is; awaited = refl })
-    (talks_dried place (t.jobs i) (t.history i) (t.pages i) me (moved_on me m todo due met) m text p q c s.talks g.part (ready_connected t w i n p id g) refl refl (woken_awake m.stage m awake) r d)
+    (exchanges_dried place (t.jobs i) (t.history i) (t.pages i) me (moved_on me m todo due met) m text p q c s.exchanges g.part (ready_connected t w i n p id g) refl refl (woken_awake m.stage m awake) r d)
     (carries_taken t w i n p q id telling text g.stands g.at g.link (ap (λ (v : ClientState). v.out) d.client ∙ r.out) (ap (λ (v : ClientState). v.input.rest) d.client ∙ rest) (ap (λ (x : Endpoint). x.image) d.rest))
     (means_then place (t.jobs i) (t.wires i) n telling text me m todo due met p q s.means (ap (λ (x : Endpoint). x.link) d.rest) (ap (λ (x : Endpoint). x.was_connected) d.rest) (ap (λ (x : Endpoint). x.is_over) d.rest) (ap (λ (x : Endpoint). x.image) d.rest) awake (λ _. up)
     (λ under. subst (λ (y : Progress). SpellsReplies place y due (telling ++ bytes_not_delivered n (t.wires i).down)) (sym progress) (down under))
@@ -168,13 +168,13 @@ reached_stands t w i n p q id c steps m todo more due met telling text more_is g
 
 -- ---- it waits for the rest
 
-asked_imaging : (g : rules.AbstractProgress) → request_awaited g ≢ [] → IsImaging (Running g) → ⊥
-asked_imaging g n h = n (ap request_awaited (let same : Running g ≡ Running (rules.Imaging h.0 h.1) = h.2 in let is : g ≡ rules.Imaging h.0 h.1 = cc in is))
+asked_imaging : (g : model.AbstractProgress) → request_awaited g ≢ [] → IsImaging (Running g) → ⊥
+asked_imaging g n h = n (ap request_awaited (let same : Running g ≡ Running (model.Imaging h.0 h.1) = h.2 in let is : g ≡ model.Imaging h.0 h.1 = cc in is))
 
-not_imaging : (st : JobStage) (g : rules.AbstractProgress) → st ≡ Running g → request_awaited g ≢ [] → IsImaging st → ⊥
+not_imaging : (st : JobStage) (g : model.AbstractProgress) → st ≡ Running g → request_awaited g ≢ [] → IsImaging st → ⊥
 not_imaging st g e n h = asked_imaging g n (subst IsImaging e h)
 
-before_by : (job : rules.AbstractJob) (progress : Progress) (notes : Notes) (past : JoinHistory) (m : ClientView) (front : List ℕ) → WaitsAs job progress notes past m → (front ≡ []) ⊎ IsWordAt progress front → IsBefore m.stage front
+before_by : (job : model.AbstractJob) (progress : Progress) (notes : Notes) (past : JoinHistory) (m : ClientView) (front : List ℕ) → WaitsAs job progress notes past m → (front ≡ []) ⊎ IsWordAt progress front → IsBefore m.stage front
 before_by job progress notes past m front w (inl e) = inl e
 before_by job (stages.Allowing resource answer) notes past m front w (inr word) = inr (w.0.0, w.0.1.0, word)
 before_by job progress notes past m front w (inr word) = absurd word
@@ -189,7 +189,7 @@ dried_of : (t : Ghost) (w : WorldCore) (i n : ℕ) (p q : Endpoint) (id : Sessio
 dried_of t w i n p q id c m text g drains r =
     let s = g.stands.endpoints i p g.at in
     let still = unturned c.target.task c.outcome c.progress r.history_then (ap is_joined r.ended ∙ g.part) r.serves.fits in
-    dried_by (place_of_info t.infos) (t.jobs i) (t.history i) (t.pages i) (t.system.job i) m text p q c s.talks g.part r still drains
+    dried_by (place_of_info t.infos) (t.jobs i) (t.history i) (t.pages i) (t.system.job i) m text p q c s.exchanges g.part r still drains
 
 waits_led : (t : Ghost) (w : WorldCore) (i n : ℕ) (p q : Endpoint) (id : SessionId) (c : ClientState) → (g : Ready t w i n p id) → GhostCan t i (events.ToClient n) → WaitsAs (t.system.job i).session.job p.client.progress p.client.notes (t.history i) (t.system.job i).client → Drains (with_client c p) q →
     WaitsOn (place_of_info t.infos) (t.system.job i).session.job (pages_shown t i) (t.system.job i).client p.client (t.history i) (delivered_bytes n (t.wires i).down) (bytes_not_delivered n (t.wires i).down) g.due.reply c → Led t i n (then_scene w i n id q)
@@ -238,9 +238,9 @@ due_none : (due : List AbstractReply) (r : AbstractReply) → due ≡ r ∷ [] �
 due_none due r e = ap without_first e
 
 -- a frame that it begins is wanted
-imaging_wants : (place : DeviceInfo → ℕ) (target : JobTarget) (job : rules.AbstractJob) (pages : List (List Frame)) (c : ClientState) (past : JoinHistory) (m : ClientView) → ClientRefines place target job pages (protocol_of c past) m → (is_imaging c.progress ≡ true → IsSome (client.wanted_port c.progress)) → IsImaging m.stage → IsSome (client.wanted_port c.progress)
+imaging_wants : (place : DeviceInfo → ℕ) (target : JobTarget) (job : model.AbstractJob) (pages : List (List Frame)) (c : ClientState) (past : JoinHistory) (m : ClientView) → ClientRefines place target job pages (protocol_of c past) m → (is_imaging c.progress ≡ true → IsSome (client.wanted_port c.progress)) → IsImaging m.stage → IsSome (client.wanted_port c.progress)
 imaging_wants place target job pages c past m r wants imaging =
-    let runs : is_running c.outcome ≡ true = ap is_running ((outcomes_alike place target job pages (protocol_of c past) m r).runs_by (rules.Imaging imaging.0 imaging.1) imaging.2) in
+    let runs : is_running c.outcome ≡ true = ap is_running ((outcomes_alike place target job pages (protocol_of c past) m r).runs_by (model.Imaging imaging.0 imaging.1) imaging.2) in
     wants (waits_imaging job c.progress c.notes past m (waits_as place target job pages (protocol_of c past) m r runs) imaging)
 
 hears_led : (t : Ghost) (w : WorldCore) (i n : ℕ) (p q : Endpoint) (id : SessionId) (c : ClientState) → (g : Ready t w i n p id) → GhostCan t i (events.ToClient n) → Drains (with_client c p) q →
@@ -257,7 +257,7 @@ hears_led t w i n p q id c g can drains h =
     let past : JoinHistory = record r.history_then { given = r.history_then.given ++ d.more } in
     let bytes : Wires = wires_after_delivery me.served n [] h.text x in
     let awake : m.stage ≡ Idle → ⊥ = reads_awake place p.client.target me.session.job (pages_shown t i) (protocol_of c r.history_then) m r.reads in
-    let spells = spells_job t i p.client.target m h.text (requests_sent me.session.job.task m.stage) s.talks.target h.spells in
+    let spells = spells_job t i p.client.target m h.text (requests_sent me.session.job.task m.stage) s.exchanges.target h.spells in
     let still = g.due.still in
     let steps = By i (actions.Hears reply) ∷ [] in
     done (events.ToClient n) (GhostHears n) t i _ steps (ghost_after t i steps bytes past (t.pages i)) can
@@ -320,7 +320,7 @@ both_led t w i n p q id c g can drains h =
     let d = dried_of t w i n p q id c m h.text g drains r in
     let past : JoinHistory = record r.history_then { given = r.history_then.given ++ d.more } in
     let bytes : Wires = wires_after_delivery me.served n c.input.rest h.text x in
-    let spells = spells_job t i p.client.target then_ h.text (requests_sent me.session.job.task then_.stage) s.talks.target h.spells in
+    let spells = spells_job t i p.client.target then_ h.text (requests_sent me.session.job.task then_.stage) s.exchanges.target h.spells in
     let steps = By i (actions.Hears reply) ∷ By i actions.RunsOutOfMemory ∷ [] in
     let to = by_both t i reply bytes past (t.pages i) (g.due.progress, g.due.stage) g.due.due h.running in
     done (events.ToClient n) (GhostHears n) t i _ steps (ghost_after t i steps bytes past (t.pages i)) can
@@ -342,8 +342,8 @@ both_led t w i n p q id c g can drains h =
 
 -- ---- a job that is over
 
-talks_spent : (place : DeviceInfo → ℕ) (job : Job) (past : JoinHistory) (pages : List JoinHistory) (me : JobState) (p : Endpoint) → EndpointClientRefines place job past pages me p → EndpointClientRefines place job past pages me (after_move p)
-talks_spent place job past pages me p h =
+exchanges_spent : (place : DeviceInfo → ℕ) (job : Job) (past : JoinHistory) (pages : List JoinHistory) (me : JobState) (p : Endpoint) → EndpointClientRefines place job past pages me p → EndpointClientRefines place job past pages me (after_move p)
+exchanges_spent place job past pages me p h =
     record {
       task = h.task;
       target = h.target;
@@ -370,7 +370,7 @@ ignored_led t w i n p id h at low link can over =
     let x = t.wires i in
     let bytes : Wires = wires_after_delivery me.served n x.telling [] x in
     done (events.ToClient n) (GhostHears n) t i _ [] (ghost_after t i [] bytes (t.history i) (t.pages i)) can (inl (record { over = over; steps_are = refl; takes = record { legal = tt; then_is = refl } }))
-    (delivered_stands t w i n p (after_move p) id [] bytes (t.history i) me h at low link refl (by_none t i bytes (t.history i) (t.pages i)) (record { served = refl; job = refl; started = refl; session = λ j device. refl; more = []; todo = sym (append-nil me.todo); awaited = refl }) (talks_spent (place_of_info t.infos) (t.jobs i) (t.history i) (t.pages i) me p s.talks)
+    (delivered_stands t w i n p (after_move p) id [] bytes (t.history i) me h at low link refl (by_none t i bytes (t.history i) (t.pages i)) (record { served = refl; job = refl; started = refl; session = λ j device. refl; more = []; todo = sym (append-nil me.todo); awaited = refl }) (exchanges_spent (place_of_info t.infos) (t.jobs i) (t.history i) (t.pages i) me p s.exchanges)
     (carries_taken t w i n p (after_move p) id x.telling [] h at link (sym (append-nil p.client.out)) s.carries.telling refl)
     (means_then (place_of_info t.infos) (t.jobs i) x n x.telling [] me me.client me.todo me.due me.session.met p (after_move p) s.means refl refl refl refl (λ idle. over (subst IsUnderWay (sym idle) tt)) (λ served. asked_still (t.jobs i) x n me me.client served (s.means.up served) refl) (λ u. absurd (over u)) s.means.flow s.means.starved) s.waits
     (pends_same p.client.outcome p.client.progress p.client.phase x bytes (no_request_left me.served (bytes_not_delivered n x.down) x.asking s.pends.asking) refl s.pends))
@@ -385,7 +385,7 @@ ready t w i n p id h at low link runs under some =
     let s = h.endpoints i p at in
     let due = due_to t w i p id h at link under some in
     let f = comes_front (place_of_info t.infos) p.client.progress due.reply ((t.wires i).telling ++ (t.wires i).down) due.comes in
-    let between = between_at p.client.progress f.procedure (t.history i) f.awaited_is (fits_running p.client.target.task p.client.outcome p.client.progress (t.history i) runs s.talks.serves.fits) in
+    let between = between_at p.client.progress f.procedure (t.history i) f.awaited_is (fits_running p.client.target.task p.client.outcome p.client.progress (t.history i) runs s.exchanges.serves.fits) in
     (record { stands = h; at = at; low = low; link = link; due = due; part = between.2 }, between)
 
 by_four : (t : Ghost) (w : WorldCore) (i n : ℕ) (p q : Endpoint) (id : SessionId) (c : ClientState) → (g : Ready t w i n p id) → GhostCan t i (events.ToClient n) → WaitsAs (t.system.job i).session.job p.client.progress p.client.notes (t.history i) (t.system.job i).client → Drains (with_client c p) q →
@@ -401,16 +401,16 @@ heard_led t w i n p q id h at low link can runs d =
     let me = t.system.job i in
     let x = t.wires i in
     let place = place_of_info t.infos in
-    let under : IsUnderWay me.client.stage = runs_under place (target_of (t.jobs i)) me.session.job (pages_shown t i) (protocol_of p.client (t.history i)) me.client s.talks.reads runs in
+    let under : IsUnderWay me.client.stage = runs_under place (target_of (t.jobs i)) me.session.job (pages_shown t i) (protocol_of p.client (t.history i)) me.client s.exchanges.reads runs in
     let both = ready t w i n p id h at low link runs under can.1 in
     let g = both.0 in
     let awake : client_at_greeting me.client.stage me.client ≡ me.client = woken_awake me.client.stage me.client (λ idle. let clash : Running g.due.progress ≡ Idle = sym g.due.stage ∙ idle in absurd (cc)) in
-    let reads : ClientRefines place (target_of (t.jobs i)) me.session.job (pages_shown t i) (protocol_of p.client (t.history i)) me.client = subst (λ (m : ClientView). ClientRefines place (target_of (t.jobs i)) me.session.job (pages_shown t i) (protocol_of p.client (t.history i)) m) awake s.talks.reads in
+    let reads : ClientRefines place (target_of (t.jobs i)) me.session.job (pages_shown t i) (protocol_of p.client (t.history i)) me.client = subst (λ (m : ClientView). ClientRefines place (target_of (t.jobs i)) me.session.job (pages_shown t i) (protocol_of p.client (t.history i)) m) awake s.exchanges.reads in
     let waiting = waits_as place (target_of (t.jobs i)) me.session.job (pages_shown t i) (protocol_of p.client (t.history i)) me.client reads runs in
-    let task : me.session.job.task ≡ task_of p.client.target.task = ap (λ (job : rules.AbstractJob). job.task) s.job_is ∙ ap (λ (e : JobTarget). task_of e.task) (sym s.talks.target) in
+    let task : me.session.job.task ≡ task_of p.client.target.task = ap (λ (job : model.AbstractJob). job.task) s.job_is ∙ ap (λ (e : JobTarget). task_of e.task) (sym s.exchanges.target) in
     let all : x.telling ++ x.down ≡ p.client.input.rest ++ (delivered_bytes n x.down ++ bytes_not_delivered n x.down) = ap (λ (l : List ℕ). l ++ x.down) (sym s.carries.telling) ∙ ap (λ (l : List ℕ). p.client.input.rest ++ l) (sym (take-append-drop (min n 4096) x.down)) in
-    let four = heeded place me.session.job (pages_shown t i) me.client p.client (t.history i) (delivered_bytes n x.down) (bytes_not_delivered n x.down) g.due.reply d.mid task runs (s.talks.word runs) both.1 s.talks.serves
-    (subst (λ (e : JobTarget). ClientRefines place e me.session.job (pages_shown t i) (protocol_of p.client (t.history i)) me.client) (sym s.talks.target) reads) (subst (SpellsAwaitedReply place p.client.progress g.due.reply) all g.due.comes) (d.heeds runs (t.history i) s.talks.serves) in
+    let four = heeded place me.session.job (pages_shown t i) me.client p.client (t.history i) (delivered_bytes n x.down) (bytes_not_delivered n x.down) g.due.reply d.mid task runs (s.exchanges.word runs) both.1 s.exchanges.serves
+    (subst (λ (e : JobTarget). ClientRefines place e me.session.job (pages_shown t i) (protocol_of p.client (t.history i)) me.client) (sym s.exchanges.target) reads) (subst (SpellsAwaitedReply place p.client.progress g.due.reply) all g.due.comes) (d.heeds runs (t.history i) s.exchanges.serves) in
     by_four t w i n p q id d.mid g can waiting (d.drains runs) four
 
 -- it can happen just where bytes wait for it
@@ -441,7 +441,7 @@ deliver_leads t w i n p q id h at low link can d (inl runs) = heard_led t w i n 
 deliver_leads t w i n p q id h at low link can d (inr over) =
     let s = h.endpoints i p at in
     let me = t.system.job i in
-    let never : IsUnderWay me.client.stage → ⊥ = λ u. let clash : true ≡ false = sym (under_runs (place_of_info t.infos) (target_of (t.jobs i)) me.session.job (pages_shown t i) (protocol_of p.client (t.history i)) me.client s.talks.reads u) ∙ over in absurd (cc) in
+    let never : IsUnderWay me.client.stage → ⊥ = λ u. let clash : true ≡ false = sym (under_runs (place_of_info t.infos) (target_of (t.jobs i)) me.session.job (pages_shown t i) (protocol_of p.client (t.history i)) me.client s.exchanges.reads u) ∙ over in absurd (cc) in
     subst (λ (x : Endpoint). Led t i n (then_scene w i n id x)) (sym (d.over over)) (ignored_led t w i n p id h at low link can never)
 
 pub deliver_decides : (n : ℕ) → DecidesAt (events.ToClient n) (GhostHears n)

@@ -25,7 +25,7 @@ use Rattle.net_client.specs.ClientStates.{ClientRepresents, ClientState, protoco
 use Rattle.net_client.specs.ReplyPieces.{OutOfMemoryAtOnce, Garbled, HasHeard, HearsReplies, Heeds, EndsOutOfMemoryHere, IsGarbled, OutOfMemoryBehind, WantsReply, Whole, awaited_procedure}
 use Rattle.net_client.proofs.Hearings.{hears_ends, hears_gives}
 use Rattle.system_model.specs.AbstractMessages.{Memory, NoMem, AbstractReply}
-use Rattle.system_model.specs.Client as rules
+use Rattle.system_model.specs.Client as model
 use Rattle.system_model.specs.Client.{ClientView, requests_sent}
 use Rattle.system_model.specs.ClientReplies.{hear_in, client_after_stop}
 use Rattle.client_refines.specs.DecodedReplies.{Says, DecodedReply, decoded_reply_at}
@@ -54,7 +54,7 @@ IsWordAt (stages.Allowing resource answer) text = Spells procedures.Authorize te
 IsWordAt progress text = ⊥
 
 -- no more than that word was told, and the rest of it is a part of the reply
-pub record IsDue (place : DeviceInfo → ℕ) (target : JobTarget) (job : rules.AbstractJob) (t u : ProtocolState) (told : List Answer) (text rest left : List ℕ) (r : AbstractReply) (Holds : ListeningClient → Type 0) : Type 0 where
+pub record IsDue (place : DeviceInfo → ℕ) (target : JobTarget) (job : model.AbstractJob) (t u : ProtocolState) (told : List Answer) (text rest left : List ℕ) (r : AbstractReply) (Holds : ListeningClient → Type 0) : Type 0 where
   pub comes : SpellsAwaitedReply place u.progress r (rest ++ left)
   pub before : (text ≡ []) ⊎ IsWordAt t.progress text
   pub runs : is_running t.outcome ≡ true → is_running u.outcome ≡ true
@@ -63,7 +63,7 @@ pub record IsDue (place : DeviceInfo → ℕ) (target : JobTarget) (job : rules.
   pub holds : (h : ListeningClient) → HearingAll place target job t told Holds h → Holds h
 
 -- it was told, and that was all
-pub record IsTaken (place : DeviceInfo → ℕ) (target : JobTarget) (job : rules.AbstractJob) (t u : ProtocolState) (told : List Answer) (rest left : List ℕ) (r : AbstractReply) (Holds : ListeningClient → Type 0) : Type 0 where
+pub record IsTaken (place : DeviceInfo → ℕ) (target : JobTarget) (job : model.AbstractJob) (t u : ProtocolState) (told : List Answer) (rest left : List ℕ) (r : AbstractReply) (Holds : ListeningClient → Type 0) : Type 0 where
   pub rest_is : rest ≡ []
   pub left_is : left ≡ []
   pub last : ProtocolState
@@ -74,7 +74,7 @@ pub record IsTaken (place : DeviceInfo → ℕ) (target : JobTarget) (job : rule
   pub word : t.notes.word ≡ 0 → u.notes.word ≡ 0
   pub holds : (h : ListeningClient) → t.notes.word ≡ 0 → HearingAll place target job t told Holds h → Holds (learned job 0 h (hear_in h.client.stage job h.client r))
 
-none_yet : (Holds : ListeningClient → Type 0) (place : DeviceInfo → ℕ) (target : JobTarget) (job : rules.AbstractJob) (t u : ProtocolState) (text sent rest left all : List ℕ) (r : AbstractReply) → SpellsAwaitedReply place t.progress r all → (text ++ rest) ++ left ≡ all → HearsReplies target t [] text sent u → IsDue place target job t u [] text rest left r Holds
+none_yet : (Holds : ListeningClient → Type 0) (place : DeviceInfo → ℕ) (target : JobTarget) (job : model.AbstractJob) (t u : ProtocolState) (text sent rest left all : List ℕ) (r : AbstractReply) → SpellsAwaitedReply place t.progress r all → (text ++ rest) ++ left ≡ all → HearsReplies target t [] text sent u → IsDue place target job t u [] text rest left r Holds
 none_yet Holds place target job t u text sent rest left all r c e h =
     let whole : all ≡ rest ++ left = sym e ∙ ap (λ (l : List ℕ). (l ++ rest) ++ left) h.0 in
     record {
@@ -92,7 +92,7 @@ behind text front back rest left all is e = sym (append_assoc front back (rest +
 
 -- ---- the reply itself
 
-taken_by : (Holds : ListeningClient → Type 0) (place : DeviceInfo → ℕ) (target : JobTarget) (job : rules.AbstractJob) (t u : ProtocolState) (a : Answer) (rs : List Answer) (text sent rest left : List ℕ) (r : AbstractReply) → decoded_reply_at place t.progress a ≡ Says r → HasFirstWord a → text ++ (rest ++ left) ≡ [] →
+taken_by : (Holds : ListeningClient → Type 0) (place : DeviceInfo → ℕ) (target : JobTarget) (job : model.AbstractJob) (t u : ProtocolState) (a : Answer) (rs : List Answer) (text sent rest left : List ℕ) (r : AbstractReply) → decoded_reply_at place t.progress a ≡ Says r → HasFirstWord a → text ++ (rest ++ left) ≡ [] →
     HearsReplies target (after_reply target t a) rs text sent u → IsTaken place target job t u (a ∷ rs) rest left r Holds
 taken_by Holds place target job t u a [] text sent rest left r says first nil h =
     let none = nil_both rest left (nil_both text (rest ++ left) nil).1 in
@@ -111,7 +111,7 @@ taken_by Holds place target job t u a [] text sent rest left r says first nil h 
     }
 taken_by Holds place target job t u a (b ∷ rs) text sent rest left r says first nil h = absurd (reply_some (after_reply target t a).progress h.1 h.0 b (sym h.4 ∙ (nil_both text (rest ++ left) nil).0) h.6)
 
-tells_taken : (Holds : ListeningClient → Type 0) (place : DeviceInfo → ℕ) (target : JobTarget) (job : rules.AbstractJob) (t u : ProtocolState) (a : Answer) (rs : List Answer) (text sent rest left all : List ℕ) (r : AbstractReply) → SpellsReply place t.progress r all → (text ++ rest) ++ left ≡ all →
+tells_taken : (Holds : ListeningClient → Type 0) (place : DeviceInfo → ℕ) (target : JobTarget) (job : model.AbstractJob) (t u : ProtocolState) (a : Answer) (rs : List Answer) (text sent rest left all : List ℕ) (r : AbstractReply) → SpellsReply place t.progress r all → (text ++ rest) ++ left ≡ all →
     HearsReplies target t (a ∷ rs) text sent u → IsTaken place target job t u (a ∷ rs) rest left r Holds
 tells_taken Holds place target job t u a rs text sent rest left all r c e h =
     let whole : h.0 ++ (h.1 ++ (rest ++ left)) ≡ all ++ [] = behind text h.0 h.1 rest left all h.4 e ∙ sym (append-nil all) in
@@ -126,7 +126,7 @@ allowing outcome resource answer notes past = record { outcome = outcome; progre
 abbrev reopening : Notes → JoinHistory → ProtocolState
 reopening notes past = record { outcome = Running; progress = stages.Reopening; notes = notes; history = past }
 
-behind_word : (Holds : ListeningClient → Type 0) (place : DeviceInfo → ℕ) (target : JobTarget) (job : rules.AbstractJob) (outcome : Outcome) (resource answer : List ℕ) (notes : Notes) (past : JoinHistory) (u : ProtocolState) (rs : List Answer) (text front back sent rest left all : List ℕ) (r : AbstractReply) → text ≡ front ++ back →
+behind_word : (Holds : ListeningClient → Type 0) (place : DeviceInfo → ℕ) (target : JobTarget) (job : model.AbstractJob) (outcome : Outcome) (resource answer : List ℕ) (notes : Notes) (past : JoinHistory) (u : ProtocolState) (rs : List Answer) (text front back sent rest left all : List ℕ) (r : AbstractReply) → text ≡ front ++ back →
     Spells procedures.Authorize front replies.Authorize → back ++ (rest ++ left) ≡ all → SpellsReply place stages.Reopening r all → HearsReplies target (reopening notes past) rs back sent u →
     IsDue place target job (allowing outcome resource answer notes past) u (replies.Authorize ∷ rs) text rest left r Holds ⊎ IsTaken place target job (allowing outcome resource answer notes past) u (replies.Authorize ∷ rs) rest left r Holds
 behind_word Holds place target job outcome resource answer notes past u [] text front back sent rest left all r is word e c h =
@@ -144,14 +144,14 @@ behind_word Holds place target job outcome resource answer notes past u (b ∷ r
     let k = tells_taken Holds place target job (reopening notes past) u b rs back sent rest left all r c (append_assoc back rest left ∙ e) h in
     inr (record { rest_is = k.rest_is; left_is = k.left_is; last = k.last; answer = k.answer; then_is = k.then_is; says = k.says; history = k.history; word = k.word; holds = k.holds })
 
-by_word : (Holds : ListeningClient → Type 0) (place : DeviceInfo → ℕ) (target : JobTarget) (job : rules.AbstractJob) (outcome : Outcome) (resource answer : List ℕ) (notes : Notes) (past : JoinHistory) (u : ProtocolState) (a : Answer) (rs : List Answer) (text sent rest left all : List ℕ) (r : AbstractReply) → a ≡ replies.Authorize →
+by_word : (Holds : ListeningClient → Type 0) (place : DeviceInfo → ℕ) (target : JobTarget) (job : model.AbstractJob) (outcome : Outcome) (resource answer : List ℕ) (notes : Notes) (past : JoinHistory) (u : ProtocolState) (a : Answer) (rs : List Answer) (text sent rest left all : List ℕ) (r : AbstractReply) → a ≡ replies.Authorize →
     (h : HearsReplies target (allowing outcome resource answer notes past) (a ∷ rs) text sent u) → h.1 ++ (rest ++ left) ≡ all → SpellsReply place stages.Reopening r all →
     IsDue place target job (allowing outcome resource answer notes past) u (a ∷ rs) text rest left r Holds ⊎ IsTaken place target job (allowing outcome resource answer notes past) u (a ∷ rs) rest left r Holds
 by_word Holds place target job outcome resource answer notes past u replies.Authorize rs text sent rest left all r is h e c =
     behind_word Holds place target job outcome resource answer notes past u rs text h.0 h.1 h.3 rest left all r h.4 (reply_of (stages.Allowing resource answer) procedures.Authorize h.0 replies.Authorize refl h.6) e c h.8
 by_word Holds place target job outcome resource answer notes past u a rs text sent rest left all r is h e c = absurd (let clash : a ≡ replies.Authorize = is in cc)
 
-word_first : (Holds : ListeningClient → Type 0) (place : DeviceInfo → ℕ) (target : JobTarget) (job : rules.AbstractJob) (outcome : Outcome) (resource answer : List ℕ) (notes : Notes) (past : JoinHistory) (u : ProtocolState) (a : Answer) (rs : List Answer) (text sent rest left all : List ℕ) (r : AbstractReply) →
+word_first : (Holds : ListeningClient → Type 0) (place : DeviceInfo → ℕ) (target : JobTarget) (job : model.AbstractJob) (outcome : Outcome) (resource answer : List ℕ) (notes : Notes) (past : JoinHistory) (u : ProtocolState) (a : Answer) (rs : List Answer) (text sent rest left all : List ℕ) (r : AbstractReply) →
     SpellsReplyBehind place (stages.Allowing resource answer) r all → (text ++ rest) ++ left ≡ all → HearsReplies target (allowing outcome resource answer notes past) (a ∷ rs) text sent u →
     IsDue place target job (allowing outcome resource answer notes past) u (a ∷ rs) text rest left r Holds ⊎ IsTaken place target job (allowing outcome resource answer notes past) u (a ∷ rs) rest left r Holds
 word_first Holds place target job outcome resource answer notes past u a rs text sent rest left all r c e h =
@@ -161,7 +161,7 @@ word_first Holds place target job outcome resource answer notes past u a rs text
 
 -- ---- any of it
 
-pub so_far : (Holds : ListeningClient → Type 0) (place : DeviceInfo → ℕ) (target : JobTarget) (job : rules.AbstractJob) (outcome : Outcome) (progress : Progress) (notes : Notes) (past : JoinHistory) (u : ProtocolState) (told : List Answer) (text sent rest left all : List ℕ) (r : AbstractReply) → SpellsAwaitedReply place progress r all → (text ++ rest) ++ left ≡ all →
+pub so_far : (Holds : ListeningClient → Type 0) (place : DeviceInfo → ℕ) (target : JobTarget) (job : model.AbstractJob) (outcome : Outcome) (progress : Progress) (notes : Notes) (past : JoinHistory) (u : ProtocolState) (told : List Answer) (text sent rest left all : List ℕ) (r : AbstractReply) → SpellsAwaitedReply place progress r all → (text ++ rest) ++ left ≡ all →
     HearsReplies target (record { outcome = outcome; progress = progress; notes = notes; history = past }) told text sent u →
     IsDue place target job (record { outcome = outcome; progress = progress; notes = notes; history = past }) u told text rest left r Holds ⊎ IsTaken place target job (record { outcome = outcome; progress = progress; notes = notes; history = past }) u told rest left r Holds
 so_far Holds place target job outcome progress notes past u [] text sent rest left all r c e h = inl (none_yet Holds place target job (record { outcome = outcome; progress = progress; notes = notes; history = past }) u text sent rest left all r c e h)
@@ -188,7 +188,7 @@ comes_front place progress r text c = tells_front place progress r text c
 -- ---- what became of the client
 
 -- it reads as that client view, has sent that, and stands for the same frames
-pub record Reaches (place : DeviceInfo → ℕ) (job : rules.AbstractJob) (pages : List (List Frame)) (old : ClientState) (past : JoinHistory) (m : ClientView) (text : List ℕ) (new : ClientState) : Type 0 where
+pub record Reaches (place : DeviceInfo → ℕ) (job : model.AbstractJob) (pages : List (List Frame)) (old : ClientState) (past : JoinHistory) (m : ClientView) (text : List ℕ) (new : ClientState) : Type 0 where
   pub history_then : JoinHistory
   pub ended : history_then.ended ≡ past.ended
   pub given : history_then.given ≡ past.given
@@ -200,7 +200,7 @@ pub record Reaches (place : DeviceInfo → ℕ) (job : rules.AbstractJob) (pages
   pub out : new.out ≡ old.out ++ text
 
 -- it waits for the rest
-pub record WaitsOn (place : DeviceInfo → ℕ) (job : rules.AbstractJob) (pages : List (List Frame)) (m : ClientView) (old : ClientState) (past : JoinHistory) (piece left : List ℕ) (r : AbstractReply) (new : ClientState) : Type 0 where
+pub record WaitsOn (place : DeviceInfo → ℕ) (job : model.AbstractJob) (pages : List (List Frame)) (m : ClientView) (old : ClientState) (past : JoinHistory) (piece left : List ℕ) (r : AbstractReply) (new : ClientState) : Type 0 where
   pub part : left ≢ []
   pub front : List ℕ
   pub came : old.input.rest ++ piece ≡ front ++ new.input.rest
@@ -210,11 +210,11 @@ pub record WaitsOn (place : DeviceInfo → ℕ) (job : rules.AbstractJob) (pages
   pub runs : is_running new.outcome ≡ true
   pub reaches : Reaches place job pages old past m [] new
 
-abbrev pub mind_then : rules.AbstractJob → ClientView → AbstractReply → ClientView
+abbrev pub mind_then : model.AbstractJob → ClientView → AbstractReply → ClientView
 mind_then job m r = hear_in m.stage job m r
 
 -- it has heard the reply, and asked for what it waits for then
-pub record HearsIt (place : DeviceInfo → ℕ) (job : rules.AbstractJob) (pages : List (List Frame)) (m : ClientView) (old : ClientState) (past : JoinHistory) (piece left : List ℕ) (r : AbstractReply) (new : ClientState) : Type 0 where
+pub record HearsIt (place : DeviceInfo → ℕ) (job : model.AbstractJob) (pages : List (List Frame)) (m : ClientView) (old : ClientState) (past : JoinHistory) (piece left : List ℕ) (r : AbstractReply) (new : ClientState) : Type 0 where
   pub whole : left ≡ []
   pub rest : new.input.rest ≡ []
   pub text : List ℕ
@@ -224,19 +224,19 @@ pub record HearsIt (place : DeviceInfo → ℕ) (job : rules.AbstractJob) (pages
   pub reaches : Reaches place job pages old past (mind_then job m r) text new
 
 -- memory ran out
-pub record ChokesAt (place : DeviceInfo → ℕ) (job : rules.AbstractJob) (pages : List (List Frame)) (m : ClientView) (old : ClientState) (past : JoinHistory) (new : ClientState) : Type 0 where
+pub record ChokesAt (place : DeviceInfo → ℕ) (job : model.AbstractJob) (pages : List (List Frame)) (m : ClientView) (old : ClientState) (past : JoinHistory) (new : ClientState) : Type 0 where
   pub over : is_running new.outcome ≡ false
   pub reaches : Reaches place job pages old past (client_after_stop NoMem Memory m) [] new
 
-pub record ChokesBehind (place : DeviceInfo → ℕ) (job : rules.AbstractJob) (pages : List (List Frame)) (m : ClientView) (old : ClientState) (past : JoinHistory) (piece left : List ℕ) (r : AbstractReply) (new : ClientState) : Type 0 where
+pub record ChokesBehind (place : DeviceInfo → ℕ) (job : model.AbstractJob) (pages : List (List Frame)) (m : ClientView) (old : ClientState) (past : JoinHistory) (piece left : List ℕ) (r : AbstractReply) (new : ClientState) : Type 0 where
   pub whole : left ≡ []
   pub over : is_running new.outcome ≡ false
   pub text : List ℕ
   pub spells : SpellsSent old.target text (asks_of 0 (mind_then job m r).known (requests_sent job.task (mind_then job m r).stage))
-  pub running : (g : rules.AbstractProgress) × ((mind_then job m r).stage ≡ rules.Running g)
+  pub running : (g : model.AbstractProgress) × ((mind_then job m r).stage ≡ model.Running g)
   pub reaches : Reaches place job pages old past (client_after_stop NoMem Memory (mind_then job m r)) text new
 
-abbrev pub Comes4 : (DeviceInfo → ℕ) → rules.AbstractJob → List (List Frame) → ClientView → ClientState → JoinHistory → List ℕ → List ℕ → AbstractReply → ClientState → Type 0
+abbrev pub Comes4 : (DeviceInfo → ℕ) → model.AbstractJob → List (List Frame) → ClientView → ClientState → JoinHistory → List ℕ → List ℕ → AbstractReply → ClientState → Type 0
 Comes4 place job pages m old past piece left r new =
     WaitsOn place job pages m old past piece left r new ⊎ (HearsIt place job pages m old past piece left r new ⊎ (ChokesAt place job pages m old past new ⊎ ChokesBehind place job pages m old past piece left r new))
 
@@ -250,7 +250,7 @@ pub nothing_said : (target : JobTarget) (sent : List ℕ) → SpellsSent target 
 nothing_said target sent s = no_text target s.requests sent s.same s.text
 
 -- a job that has ended is read alike by the same frames
-ended_reads : (place : DeviceInfo → ℕ) (target : JobTarget) (job : rules.AbstractJob) (pages : List (List Frame)) (new : ClientState) (p q : JoinHistory) (m : ClientView) → new.outcome ≡ Ended statuses.NoMem whys.Memory → q.ended ≡ p.ended → ClientRefines place target job pages (protocol_of new p) m →
+ended_reads : (place : DeviceInfo → ℕ) (target : JobTarget) (job : model.AbstractJob) (pages : List (List Frame)) (new : ClientState) (p q : JoinHistory) (m : ClientView) → new.outcome ≡ Ended statuses.NoMem whys.Memory → q.ended ≡ p.ended → ClientRefines place target job pages (protocol_of new p) m →
     ClientRefines place target job pages (protocol_of new q) m
 ended_reads place target job pages new p q m o e r =
     record {
@@ -264,24 +264,24 @@ ended_reads place target job pages new p q m o e r =
 all_came : (old : ClientState) (piece left text rest : List ℕ) → old.input.rest ++ piece ≡ text ++ rest → (text ++ rest) ++ left ≡ old.input.rest ++ (piece ++ left)
 all_came old piece left text rest e = ap (λ (l : List ℕ). l ++ left) (sym e) ∙ append_assoc old.input.rest piece left
 
-record Before (place : DeviceInfo → ℕ) (job : rules.AbstractJob) (pages : List (List Frame)) (m : ClientView) (old : ClientState) (past : JoinHistory) (piece left : List ℕ) (r : AbstractReply) : Type 0 where
+record Before (place : DeviceInfo → ℕ) (job : model.AbstractJob) (pages : List (List Frame)) (m : ClientView) (old : ClientState) (past : JoinHistory) (piece left : List ℕ) (r : AbstractReply) : Type 0 where
   pub runs : is_running old.outcome ≡ true
   pub word : old.notes.word ≡ 0
   pub between : IsBetweenFrames past
   pub comes : SpellsAwaitedReply place old.progress r (old.input.rest ++ (piece ++ left))
 
-abbrev SoFar : (ListeningClient → Type 0) → (DeviceInfo → ℕ) → rules.AbstractJob → (old : ClientState) → (past : JoinHistory) → (piece left : List ℕ) → AbstractReply → (u : ClientState) → HasHeard old past piece u → Type 0
+abbrev SoFar : (ListeningClient → Type 0) → (DeviceInfo → ℕ) → model.AbstractJob → (old : ClientState) → (past : JoinHistory) → (piece left : List ℕ) → AbstractReply → (u : ClientState) → HasHeard old past piece u → Type 0
 SoFar Holds place job old past piece left r u h = IsDue place old.target job (protocol_of old past) (protocol_of u h.history_then) h.told h.text u.input.rest left r Holds ⊎ IsTaken place old.target job (protocol_of old past) (protocol_of u h.history_then) h.told u.input.rest left r Holds
 
-heard_so : (Holds : ListeningClient → Type 0) (place : DeviceInfo → ℕ) (job : rules.AbstractJob) (pages : List (List Frame)) (m : ClientView) (old : ClientState) (past : JoinHistory) (piece left : List ℕ) (r : AbstractReply) (u : ClientState) → Before place job pages m old past piece left r → (h : HasHeard old past piece u) → SoFar Holds place job old past piece left r u h
+heard_so : (Holds : ListeningClient → Type 0) (place : DeviceInfo → ℕ) (job : model.AbstractJob) (pages : List (List Frame)) (m : ClientView) (old : ClientState) (past : JoinHistory) (piece left : List ℕ) (r : AbstractReply) (u : ClientState) → Before place job pages m old past piece left r → (h : HasHeard old past piece u) → SoFar Holds place job old past piece left r u h
 heard_so Holds place job pages m old past piece left r u b h =
     so_far Holds place old.target job old.outcome old.progress old.notes past (protocol_of u h.history_then) h.told h.text h.sent u.input.rest left (old.input.rest ++ (piece ++ left)) r b.comes (all_came old piece left h.text u.input.rest h.whole) h.hears
 
 -- what is so of the client view then
-abbrev AsHeard : (DeviceInfo → ℕ) → rules.AbstractJob → List (List Frame) → (old : ClientState) → (past : JoinHistory) → (piece : List ℕ) → (u : ClientState) → HasHeard old past piece u → ListeningClient → Type 0
+abbrev AsHeard : (DeviceInfo → ℕ) → model.AbstractJob → List (List Frame) → (old : ClientState) → (past : JoinHistory) → (piece : List ℕ) → (u : ClientState) → HasHeard old past piece u → ListeningClient → Type 0
 AsHeard place job pages old past piece u h n = ListeningRefines place old.target job pages (protocol_of u h.history_then) n.client h.sent n.asks
 
-abbrev AsStarved : (DeviceInfo → ℕ) → rules.AbstractJob → List (List Frame) → (old : ClientState) → (past : JoinHistory) → (piece : List ℕ) → (was new : ClientState) → HasHeard old past piece was → ListeningClient → Type 0
+abbrev AsStarved : (DeviceInfo → ℕ) → model.AbstractJob → List (List Frame) → (old : ClientState) → (past : JoinHistory) → (piece : List ℕ) → (was new : ClientState) → HasHeard old past piece was → ListeningClient → Type 0
 AsStarved place job pages old past piece was new h n = ListeningRefines place old.target job pages (protocol_of was h.history_then) n.client h.sent n.asks × ClientRefines place old.target job pages (protocol_of new h.history_then) (client_after_stop NoMem Memory n.client)
 
 heard_ended : (old : ClientState) (past : JoinHistory) (piece : List ℕ) (u : ClientState) (h : HasHeard old past piece u) → h.history_then.ended ≡ past.ended
@@ -292,7 +292,7 @@ heard_given old past piece u h = hears_gives old.target (protocol_of old past) (
 
 -- all replies were heard
 
-waits_on : (place : DeviceInfo → ℕ) (job : rules.AbstractJob) (pages : List (List Frame)) (m : ClientView) (old : ClientState) (past : JoinHistory) (piece left : List ℕ) (r : AbstractReply) (new : ClientState) → Before place job pages m old past piece left r → (h : HasHeard old past piece new) →
+waits_on : (place : DeviceInfo → ℕ) (job : model.AbstractJob) (pages : List (List Frame)) (m : ClientView) (old : ClientState) (past : JoinHistory) (piece left : List ℕ) (r : AbstractReply) (new : ClientState) → Before place job pages m old past piece left r → (h : HasHeard old past piece new) →
     (is_running new.outcome ≡ true → WantsReply new.progress new.input.rest) → HearingAll place old.target job (protocol_of old past) h.told (AsHeard place job pages old past piece new h) (new_listening_client m) →
     IsDue place old.target job (protocol_of old past) (protocol_of new h.history_then) h.told h.text new.input.rest left r (AsHeard place job pages old past piece new h) → WaitsOn place job pages m old past piece left r new
 waits_on place job pages m old past piece left r new b h wants alike d =
@@ -327,7 +327,7 @@ taken_wants : (target : JobTarget) (last u : ProtocolState) (a : Answer) → u �
 taken_wants target last u a e b f imaging =
     subst (λ (x : ProtocolState). IsSome (wanted_port x.progress)) (sym e) (reply_wants target last a b (subst (λ (x : ProtocolState). HistoryFits target.task x.outcome x.progress x.history) e f) (subst (λ (x : ProtocolState). is_imaging x.progress ≡ true) e imaging))
 
-hears_it : (place : DeviceInfo → ℕ) (job : rules.AbstractJob) (pages : List (List Frame)) (m : ClientView) (old : ClientState) (past : JoinHistory) (piece left : List ℕ) (r : AbstractReply) (new : ClientState) → Before place job pages m old past piece left r → (h : HasHeard old past piece new) →
+hears_it : (place : DeviceInfo → ℕ) (job : model.AbstractJob) (pages : List (List Frame)) (m : ClientView) (old : ClientState) (past : JoinHistory) (piece left : List ℕ) (r : AbstractReply) (new : ClientState) → Before place job pages m old past piece left r → (h : HasHeard old past piece new) →
     HearingAll place old.target job (protocol_of old past) h.told (AsHeard place job pages old past piece new h) (new_listening_client m) →
     IsTaken place old.target job (protocol_of old past) (protocol_of new h.history_then) h.told new.input.rest left r (AsHeard place job pages old past piece new h) → HearsIt place job pages m old past piece left r new
 hears_it place job pages m old past piece left r new b h alike k =
@@ -355,7 +355,7 @@ hears_it place job pages m old past piece left r new b h alike k =
 
 -- what is due is not garbled
 
-never_garbled : (Holds : ListeningClient → Type 0) (place : DeviceInfo → ℕ) (job : rules.AbstractJob) (old : ClientState) (past : JoinHistory) (piece left : List ℕ) (r : AbstractReply) (was new : ClientState) (h : HasHeard old past piece was) → IsGarbled was new → SoFar Holds place job old past piece left r was h → ⊥
+never_garbled : (Holds : ListeningClient → Type 0) (place : DeviceInfo → ℕ) (job : model.AbstractJob) (old : ClientState) (past : JoinHistory) (piece left : List ℕ) (r : AbstractReply) (was new : ClientState) (h : HasHeard old past piece was) → IsGarbled was new → SoFar Holds place job old past piece left r was h → ⊥
 never_garbled Holds place job old past piece left r was new h g (inl d) =
     let f = comes_front place was.progress r (was.input.rest ++ left) d.comes in
     let same : f.procedure ≡ g.procedure = (let one : Some f.procedure ≡ Some g.procedure = sym f.awaited_is ∙ g.awaited_is in cc) in
@@ -368,7 +368,7 @@ never_garbled Holds place job old past piece left r was new h g (inr k) =
 choked_over : (old : ClientState) (past : JoinHistory) (new : ClientState) → EndsOutOfMemoryHere old past new → is_running new.outcome ≡ false
 choked_over old past new c = ap is_running c.starved.outcome
 
-reaches_choked : (place : DeviceInfo → ℕ) (job : rules.AbstractJob) (pages : List (List Frame)) (old was : ClientState) (past then_ : JoinHistory) (text : List ℕ) (m : ClientView) (new : ClientState) → (c : EndsOutOfMemoryHere was then_ new) → was.target ≡ old.target → then_.ended ≡ past.ended → then_.given ≡ past.given → was.out ≡ old.out ++ text →
+reaches_choked : (place : DeviceInfo → ℕ) (job : model.AbstractJob) (pages : List (List Frame)) (old was : ClientState) (past then_ : JoinHistory) (text : List ℕ) (m : ClientView) (new : ClientState) → (c : EndsOutOfMemoryHere was then_ new) → was.target ≡ old.target → then_.ended ≡ past.ended → then_.given ≡ past.given → was.out ≡ old.out ++ text →
     ClientRefines place old.target job pages (protocol_of new then_) m → Reaches place job pages old past m text new
 reaches_choked place job pages old was past then_ text m new c target ended given out r =
     record {
@@ -383,7 +383,7 @@ reaches_choked place job pages old was past then_ text m new c target ended give
       out = c.starved.out ∙ out;
     }
 
-chokes : (place : DeviceInfo → ℕ) (job : rules.AbstractJob) (pages : List (List Frame)) (m : ClientView) (old : ClientState) (past : JoinHistory) (piece left : List ℕ) (r : AbstractReply) (was new : ClientState) → Before place job pages m old past piece left r → (h : HasHeard old past piece was) → is_running was.outcome ≡ true → EndsOutOfMemoryHere was h.history_then new →
+chokes : (place : DeviceInfo → ℕ) (job : model.AbstractJob) (pages : List (List Frame)) (m : ClientView) (old : ClientState) (past : JoinHistory) (piece left : List ℕ) (r : AbstractReply) (was new : ClientState) → Before place job pages m old past piece left r → (h : HasHeard old past piece was) → is_running was.outcome ≡ true → EndsOutOfMemoryHere was h.history_then new →
     HearingAll place old.target job (protocol_of old past) h.told (AsStarved place job pages old past piece was new h) (new_listening_client m) →
     SoFar (AsStarved place job pages old past piece was new h) place job old past piece left r was h → ChokesAt place job pages m old past new ⊎ ChokesBehind place job pages m old past piece left r new
 chokes place job pages m old past piece left r was new b h runs c alike (inl d) =
@@ -404,16 +404,16 @@ chokes place job pages m old past piece left r was new b h runs c alike (inr k) 
       reaches = reaches_choked place job pages old was past h.history_then h.sent (client_after_stop NoMem Memory (mind_then job m r)) new c h.target (heard_ended old past piece was h) (heard_given old past piece was h) h.out both.1;
     })
 
-by_far : (place : DeviceInfo → ℕ) (job : rules.AbstractJob) (pages : List (List Frame)) (m : ClientView) (old : ClientState) (past : JoinHistory) (piece left : List ℕ) (r : AbstractReply) (new : ClientState) → Before place job pages m old past piece left r → (h : HasHeard old past piece new) → (is_running new.outcome ≡ true → WantsReply new.progress new.input.rest) →
+by_far : (place : DeviceInfo → ℕ) (job : model.AbstractJob) (pages : List (List Frame)) (m : ClientView) (old : ClientState) (past : JoinHistory) (piece left : List ℕ) (r : AbstractReply) (new : ClientState) → Before place job pages m old past piece left r → (h : HasHeard old past piece new) → (is_running new.outcome ≡ true → WantsReply new.progress new.input.rest) →
     HearingAll place old.target job (protocol_of old past) h.told (AsHeard place job pages old past piece new h) (new_listening_client m) → SoFar (AsHeard place job pages old past piece new h) place job old past piece left r new h → Comes4 place job pages m old past piece left r new
 by_far place job pages m old past piece left r new b h wants alike (inl d) = inl (waits_on place job pages m old past piece left r new b h wants alike d)
 by_far place job pages m old past piece left r new b h wants alike (inr k) = inr (inl (hears_it place job pages m old past piece left r new b h alike k))
 
-choked_either : (place : DeviceInfo → ℕ) (job : rules.AbstractJob) (pages : List (List Frame)) (m : ClientView) (old : ClientState) (past : JoinHistory) (piece left : List ℕ) (r : AbstractReply) (new : ClientState) → ChokesAt place job pages m old past new ⊎ ChokesBehind place job pages m old past piece left r new → Comes4 place job pages m old past piece left r new
+choked_either : (place : DeviceInfo → ℕ) (job : model.AbstractJob) (pages : List (List Frame)) (m : ClientView) (old : ClientState) (past : JoinHistory) (piece left : List ℕ) (r : AbstractReply) (new : ClientState) → ChokesAt place job pages m old past new ⊎ ChokesBehind place job pages m old past piece left r new → Comes4 place job pages m old past piece left r new
 choked_either place job pages m old past piece left r new (inl c) = inr (inr (inl c))
 choked_either place job pages m old past piece left r new (inr c) = inr (inr (inr c))
 
-by_heeds : (place : DeviceInfo → ℕ) (job : rules.AbstractJob) (pages : List (List Frame)) (m : ClientView) (old : ClientState) (past : JoinHistory) (piece left : List ℕ) (r : AbstractReply) (new : ClientState) → Before place job pages m old past piece left r → (heeds : Heeds old past piece new) → HeedsAs place job pages m old past piece new heeds → Comes4 place job pages m old past piece left r new
+by_heeds : (place : DeviceInfo → ℕ) (job : model.AbstractJob) (pages : List (List Frame)) (m : ClientView) (old : ClientState) (past : JoinHistory) (piece left : List ℕ) (r : AbstractReply) (new : ClientState) → Before place job pages m old past piece left r → (heeds : Heeds old past piece new) → HeedsAs place job pages m old past piece new heeds → Comes4 place job pages m old past piece left r new
 by_heeds place job pages m old past piece left r new b (Whole h wants) alike = by_far place job pages m old past piece left r new b h wants alike (heard_so (AsHeard place job pages old past piece new h) place job pages m old past piece left r new b h)
 by_heeds place job pages m old past piece left r new b (Garbled was h runs g) alike = absurd (never_garbled (λ n. Unit {0}) place job old past piece left r was new h g (heard_so (λ n. Unit {0}) place job pages m old past piece left r was b h))
 by_heeds place job pages m old past piece left r new b (OutOfMemoryBehind was h runs c) alike =
@@ -424,7 +424,7 @@ by_heeds place job pages m old past piece left r new b (OutOfMemoryAtOnce c) ali
       reaches = reaches_choked place job pages old old past past [] (client_after_stop NoMem Memory m) new c refl refl refl (sym (append-nil old.out)) alike;
     })))
 
-pub heeded : (place : DeviceInfo → ℕ) (job : rules.AbstractJob) (pages : List (List Frame)) (m : ClientView) (old : ClientState) (past : JoinHistory) (piece left : List ℕ) (r : AbstractReply) (new : ClientState) → job.task ≡ task_of old.target.task → is_running old.outcome ≡ true → old.notes.word ≡ 0 → IsBetweenFrames past → ClientRepresents past old →
+pub heeded : (place : DeviceInfo → ℕ) (job : model.AbstractJob) (pages : List (List Frame)) (m : ClientView) (old : ClientState) (past : JoinHistory) (piece left : List ℕ) (r : AbstractReply) (new : ClientState) → job.task ≡ task_of old.target.task → is_running old.outcome ≡ true → old.notes.word ≡ 0 → IsBetweenFrames past → ClientRepresents past old →
     ClientRefines place old.target job pages (protocol_of old past) m → SpellsAwaitedReply place old.progress r (old.input.rest ++ (piece ++ left)) → Heeds old past piece new → Comes4 place job pages m old past piece left r new
 heeded place job pages m old past piece left r new task runs word between serves reads comes heeds =
     by_heeds place job pages m old past piece left r new (record { runs = runs; word = word; between = between; comes = comes }) heeds (all_heard place job pages old new past piece m task runs serves reads heeds)

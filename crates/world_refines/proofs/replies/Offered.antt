@@ -24,7 +24,7 @@ use Rattle.saned_requests.specs.RequestAnswers.{RequestContext, kind_of, options
 use Rattle.wire_message.specs.WireValues.{wire_of}
 use Rattle.saned_core.specs.Feeding as daemon
 use Rattle.system_model.specs.AbstractMessages.{Authorize, Challenge, Describe, Get, GetDevices, Init, Open, Parameters, AbstractReply, AbstractRequest, Set, Start}
-use Rattle.system_model.specs.Client as rules
+use Rattle.system_model.specs.Client as model
 use Rattle.system_model.specs.Client.{ClientView, Running, JobStage, request_awaited}
 use Rattle.system_model.specs.Devices.{Make, OptionsInForce, AbstractAcceptedSet, accept_value, has_readable_value, readable_value}
 use Rattle.system_model.specs.Devices as rules_devices
@@ -46,7 +46,7 @@ use Rattle.world_refines.specs.Wires.{SpellsAwaitedReply}
 use Rattle.world_refines.specs.WorldRefinement.{session_by}
 use Rattle.world_refines.proofs.requests.Asked.{is_word}
 use Rattle.world_refines.proofs.state.BegunTrue.{lease_there}
-use Rattle.world_refines.proofs.requests.Folding.{Desked}
+use Rattle.world_refines.proofs.requests.Folding.{InContext}
 use Rattle.world_refines.proofs.requests.Kinded.{IsFor}
 use Rattle.world_refines.proofs.requests.Listing.{listed_told}
 use Rattle.world_refines.proofs.requests.OneReply.{HasShape}
@@ -57,84 +57,84 @@ use Rattle.world_refines.proofs.replies.Valued.{known_desc, value_given, value_g
 -- ---- its request is on the way
 
 pub record IsAsking (i : ℕ) (s : SystemState) (r : AbstractRequest) (rest : List AbstractRequest) : Type 0 where
-  pub progress : rules.AbstractProgress
+  pub progress : model.AbstractProgress
   pub stage : (s.job i).client.stage ≡ Running progress
   pub asks : sound.RequestInFlight i (make_for s i) (s.job i) (device_for s i) progress
   pub only : request_awaited progress ≡ r ∷ []
   pub none : rest ≡ []
 
-tail_none : (g : rules.AbstractProgress) → without_first (request_awaited g) ≡ []
-tail_none rules.Greeting = refl
-tail_none rules.Listing = refl
-tail_none rules.Opening = refl
-tail_none (rules.Allowing challenge) = refl
-tail_none (rules.Describing left) = refl
-tail_none (rules.Putting n value requested left) = refl
-tail_none (rules.Getting n left) = refl
-tail_none rules.Starting = refl
-tail_none rules.Shaping = refl
-tail_none (rules.Imaging params heard) = refl
+tail_none : (g : model.AbstractProgress) → without_first (request_awaited g) ≡ []
+tail_none model.Greeting = refl
+tail_none model.Listing = refl
+tail_none model.Opening = refl
+tail_none (model.Allowing challenge) = refl
+tail_none (model.Describing left) = refl
+tail_none (model.Putting n value requested left) = refl
+tail_none (model.Getting n left) = refl
+tail_none model.Starting = refl
+tail_none model.Shaping = refl
+tail_none (model.Imaging params heard) = refl
 
-asking_so : (i : ℕ) (s : SystemState) (r : AbstractRequest) (rest : List AbstractRequest) (g : rules.AbstractProgress) → (s.job i).client.stage ≡ Running g → sound.RequestInFlight i (make_for s i) (s.job i) (device_for s i) g → (s.job i).todo ≡ r ∷ rest → IsAsking i s r rest
+asking_so : (i : ℕ) (s : SystemState) (r : AbstractRequest) (rest : List AbstractRequest) (g : model.AbstractProgress) → (s.job i).client.stage ≡ Running g → sound.RequestInFlight i (make_for s i) (s.job i) (device_for s i) g → (s.job i).todo ≡ r ∷ rest → IsAsking i s r rest
 asking_so i s r rest g stage a e =
     let all : request_awaited g ≡ r ∷ rest = sym a.todo ∙ e in
     let none : rest ≡ [] = sym (ap without_first all) ∙ tail_none g in
     record { progress = g; stage = stage; asks = a; only = all ∙ ap (λ (x : List AbstractRequest). r ∷ x) none; none = none }
 
 asking_at : (i : ℕ) (s : SystemState) (r : AbstractRequest) (rest : List AbstractRequest) (st : JobStage) → (s.job i).client.stage ≡ st → IsUnderWay st → (s.job i).served ≡ true → (s.job i).todo ≡ r ∷ rest → sound.StageInvariant i (make_for s i) (s.job i) (device_for s i) st → IsAsking i s r rest
-asking_at i s r rest rules.Idle stage u served e h = absurd (let clash : false ≡ true = sym h.0 ∙ served in cc)
+asking_at i s r rest model.Idle stage u served e h = absurd (let clash : false ≡ true = sym h.0 ∙ served in cc)
 asking_at i s r rest (Running g) stage u served e (inl a) = asking_so i s r rest g stage a e
 asking_at i s r rest (Running g) stage u served e (inr (inl t)) = absurd (let clash : [] ≡ r ∷ rest = sym t.todo ∙ e in cc)
 asking_at i s r rest (Running g) stage u served e (inr (inr dead)) = absurd (let clash : false ≡ true = sym dead.served ∙ served in cc)
-asking_at i s r rest rules.Done stage u served e h = absurd u
-asking_at i s r rest (rules.Ended status why) stage u served e h = absurd u
+asking_at i s r rest model.Done stage u served e h = absurd u
+asking_at i s r rest (model.Ended status why) stage u served e h = absurd u
 
 pub is_asking : (i : ℕ) (s : SystemState) (r : AbstractRequest) (rest : List AbstractRequest) → sound.Invariant s → IsUnderWay (s.job i).client.stage → (s.job i).served ≡ true → (s.job i).todo ≡ r ∷ rest → IsAsking i s r rest
-is_asking i s r rest h u served e = asking_at i s r rest (s.job i).client.stage refl u served e (h.talks i)
+is_asking i s r rest h u served e = asking_at i s r rest (s.job i).client.stage refl u served e (h.exchanges i)
 
 -- behind the answer its reply is
-told_at : (i : ℕ) (s : SystemState) (r : AbstractRequest) (g : rules.AbstractProgress) → request_awaited g ≡ r ∷ [] → (s.job i).served ≡ true → (s.job i).todo ≡ [] → sound.StageInvariant i (make_for s i) (s.job i) (device_for s i) (Running g) → (reply : AbstractReply) × ((s.job i).due ≡ reply ∷ [])
+told_at : (i : ℕ) (s : SystemState) (r : AbstractRequest) (g : model.AbstractProgress) → request_awaited g ≡ r ∷ [] → (s.job i).served ≡ true → (s.job i).todo ≡ [] → sound.StageInvariant i (make_for s i) (s.job i) (device_for s i) (Running g) → (reply : AbstractReply) × ((s.job i).due ≡ reply ∷ [])
 told_at i s r g only served none (inl a) = absurd (let clash : [] ≡ r ∷ [] = sym none ∙ (a.todo ∙ only) in cc)
 told_at i s r g only served none (inr (inl t)) = (t.reply, t.due)
 told_at i s r g only served none (inr (inr dead)) = absurd (let clash : false ≡ true = sym dead.served ∙ served in cc)
 
-pub told_one : (i : ℕ) (s : SystemState) (r : AbstractRequest) (g : rules.AbstractProgress) → sound.Invariant s → (s.job i).client.stage ≡ Running g → request_awaited g ≡ r ∷ [] → (s.job i).served ≡ true → (s.job i).todo ≡ [] → (reply : AbstractReply) × ((s.job i).due ≡ reply ∷ [])
-told_one i s r g h stage only served none = told_at i s r g only served none (subst (λ (st : JobStage). sound.StageInvariant i (make_for s i) (s.job i) (device_for s i) st) stage (h.talks i))
+pub told_one : (i : ℕ) (s : SystemState) (r : AbstractRequest) (g : model.AbstractProgress) → sound.Invariant s → (s.job i).client.stage ≡ Running g → request_awaited g ≡ r ∷ [] → (s.job i).served ≡ true → (s.job i).todo ≡ [] → (reply : AbstractReply) × ((s.job i).due ≡ reply ∷ [])
+told_one i s r g h stage only served none = told_at i s r g only served none (subst (λ (st : JobStage). sound.StageInvariant i (make_for s i) (s.job i) (device_for s i) st) stage (h.exchanges i))
 
 -- ---- what it waits for is what it asked for
 
-same_progress : (g f : rules.AbstractProgress) → Running g ≡ Running f → g ≡ f
+same_progress : (g f : model.AbstractProgress) → Running g ≡ Running f → g ≡ f
 same_progress g f e = cc
 
 same_request : (x y : AbstractRequest) → x ∷ [] ≡ y ∷ [] → x ≡ y
 same_request x y e = cc
 
 -- a client that waits so has asked for that
-asked_for : (i : ℕ) (s : SystemState) (r : AbstractRequest) (rest : List AbstractRequest) (a : IsAsking i s r rest) (f : rules.AbstractProgress) → (s.job i).client.stage ≡ Running f → a.progress ≡ f
+asked_for : (i : ℕ) (s : SystemState) (r : AbstractRequest) (rest : List AbstractRequest) (a : IsAsking i s r rest) (f : model.AbstractProgress) → (s.job i).client.stage ≡ Running f → a.progress ≡ f
 asked_for i s r rest a f e = same_progress a.progress f (sym a.stage ∙ e)
 
-request_is : (i : ℕ) (s : SystemState) (r x : AbstractRequest) (rest : List AbstractRequest) (a : IsAsking i s r rest) (f : rules.AbstractProgress) → (s.job i).client.stage ≡ Running f → request_awaited f ≡ x ∷ [] → r ≡ x
+request_is : (i : ℕ) (s : SystemState) (r x : AbstractRequest) (rest : List AbstractRequest) (a : IsAsking i s r rest) (f : model.AbstractProgress) → (s.job i).client.stage ≡ Running f → request_awaited f ≡ x ∷ [] → r ≡ x
 request_is i s r x rest a f e is = same_request r x (sym a.only ∙ (ap request_awaited (asked_for i s r rest a f e) ∙ is))
 
-sync_at : (i : ℕ) (s : SystemState) (r : AbstractRequest) (rest : List AbstractRequest) (a : IsAsking i s r rest) (f : rules.AbstractProgress) → (s.job i).client.stage ≡ Running f → InSync i (make_for s i) (s.job i).session (s.job i).client (device_for s i) f
-sync_at i s r rest a f e = subst (λ (g : rules.AbstractProgress). InSync i (make_for s i) (s.job i).session (s.job i).client (device_for s i) g) (asked_for i s r rest a f e) a.asks.in_sync
+sync_at : (i : ℕ) (s : SystemState) (r : AbstractRequest) (rest : List AbstractRequest) (a : IsAsking i s r rest) (f : model.AbstractProgress) → (s.job i).client.stage ≡ Running f → InSync i (make_for s i) (s.job i).session (s.job i).client (device_for s i) f
+sync_at i s r rest a f e = subst (λ (g : model.AbstractProgress). InSync i (make_for s i) (s.job i).session (s.job i).client (device_for s i) g) (asked_for i s r rest a f e) a.asks.in_sync
 
 -- ---- its device is at rest where a setting is put
 
 other_request : (x y : AbstractRequest) (n : ℕ) (value : Value) → x ∷ [] ≡ y ∷ [] → y ≡ Set n value → x ≡ Set n value
 other_request x y n value e f = same_request x y e ∙ f
 
-rests_at : (i : ℕ) (k : Make) (b : SessionView) (m : ClientView) (dev : AbstractDevice) (g : rules.AbstractProgress) (r : AbstractRequest) (n : ℕ) (value : Value) → request_awaited g ≡ r ∷ [] → r ≡ Set n value → InSync i k b m dev g → is_resting dev.phase ≡ true
-rests_at i k b m dev (rules.Putting o request_awaited requested left) r n value e f h = ap is_resting h.settles.held.phase_is
-rests_at i k b m dev rules.Greeting r n value e f h = absurd (let clash : Init ≡ Set n value = other_request Init r n value e f in cc)
-rests_at i k b m dev rules.Listing r n value e f h = absurd (let clash : GetDevices ≡ Set n value = other_request GetDevices r n value e f in cc)
-rests_at i k b m dev rules.Opening r n value e f h = absurd (let clash : Open ≡ Set n value = other_request Open r n value e f in cc)
-rests_at i k b m dev (rules.Allowing challenge) r n value e f h = absurd (let clash : Authorize challenge ≡ Set n value = other_request (Authorize challenge) r n value e f in cc)
-rests_at i k b m dev (rules.Describing left) r n value e f h = absurd (let clash : Describe ≡ Set n value = other_request Describe r n value e f in cc)
-rests_at i k b m dev (rules.Getting o left) r n value e f h = absurd (let clash : Get o ≡ Set n value = other_request (Get o) r n value e f in cc)
-rests_at i k b m dev rules.Starting r n value e f h = absurd (let clash : Start ≡ Set n value = other_request Start r n value e f in cc)
-rests_at i k b m dev rules.Shaping r n value e f h = absurd (let clash : Parameters ≡ Set n value = other_request Parameters r n value e f in cc)
-rests_at i k b m dev (rules.Imaging params heard) r n value e f h = absurd (let clash : [] ≡ r ∷ [] = e in cc)
+rests_at : (i : ℕ) (k : Make) (b : SessionView) (m : ClientView) (dev : AbstractDevice) (g : model.AbstractProgress) (r : AbstractRequest) (n : ℕ) (value : Value) → request_awaited g ≡ r ∷ [] → r ≡ Set n value → InSync i k b m dev g → is_resting dev.phase ≡ true
+rests_at i k b m dev (model.Putting o request_awaited requested left) r n value e f h = ap is_resting h.settles.held.phase_is
+rests_at i k b m dev model.Greeting r n value e f h = absurd (let clash : Init ≡ Set n value = other_request Init r n value e f in cc)
+rests_at i k b m dev model.Listing r n value e f h = absurd (let clash : GetDevices ≡ Set n value = other_request GetDevices r n value e f in cc)
+rests_at i k b m dev model.Opening r n value e f h = absurd (let clash : Open ≡ Set n value = other_request Open r n value e f in cc)
+rests_at i k b m dev (model.Allowing challenge) r n value e f h = absurd (let clash : Authorize challenge ≡ Set n value = other_request (Authorize challenge) r n value e f in cc)
+rests_at i k b m dev (model.Describing left) r n value e f h = absurd (let clash : Describe ≡ Set n value = other_request Describe r n value e f in cc)
+rests_at i k b m dev (model.Getting o left) r n value e f h = absurd (let clash : Get o ≡ Set n value = other_request (Get o) r n value e f in cc)
+rests_at i k b m dev model.Starting r n value e f h = absurd (let clash : Start ≡ Set n value = other_request Start r n value e f in cc)
+rests_at i k b m dev model.Shaping r n value e f h = absurd (let clash : Parameters ≡ Set n value = other_request Parameters r n value e f in cc)
+rests_at i k b m dev (model.Imaging params heard) r n value e f h = absurd (let clash : [] ≡ r ∷ [] = e in cc)
 
 pub rests : (i : ℕ) (s : SystemState) (r : AbstractRequest) (rest : List AbstractRequest) → IsAsking i s r rest → (n : ℕ) (value : Value) → r ≡ Set n value → is_resting (device_for s i).phase ≡ true
 rests i s r rest a n value e = rests_at i (make_for s i) (s.job i).session (s.job i).client (device_for s i) a.progress r n value a.only e a.asks.in_sync
@@ -159,17 +159,17 @@ free_zero i make d device p h n =
     sym (free_same d.session.held (session_by i device p).words h.four h.words) ∙ word_zero (is_held_by i (device wants).holder) wants (not_mine i (device wants).holder n)
 
 -- so it is of one that asks to be allowed
-pub authorize_free : (i : ℕ) (k : Make) (b : SessionView) (m : ClientView) (dev : AbstractDevice) (g : rules.AbstractProgress) (c : Challenge) → request_awaited g ≡ Authorize c ∷ [] → InSync i k b m dev g → dev.holder ≢ Some i
-authorize_free i k b m dev (rules.Allowing challenge) c e h = h.0.free
-authorize_free i k b m dev rules.Greeting c e h = absurd (let clash : Init ≡ Authorize c = same_request Init (Authorize c) e in cc)
-authorize_free i k b m dev rules.Listing c e h = absurd (let clash : GetDevices ≡ Authorize c = same_request GetDevices (Authorize c) e in cc)
-authorize_free i k b m dev rules.Opening c e h = absurd (let clash : Open ≡ Authorize c = same_request Open (Authorize c) e in cc)
-authorize_free i k b m dev (rules.Describing left) c e h = absurd (let clash : Describe ≡ Authorize c = same_request Describe (Authorize c) e in cc)
-authorize_free i k b m dev (rules.Putting n value requested left) c e h = absurd (let clash : Set n value ≡ Authorize c = same_request (Set n value) (Authorize c) e in cc)
-authorize_free i k b m dev (rules.Getting n left) c e h = absurd (let clash : Get n ≡ Authorize c = same_request (Get n) (Authorize c) e in cc)
-authorize_free i k b m dev rules.Starting c e h = absurd (let clash : Start ≡ Authorize c = same_request Start (Authorize c) e in cc)
-authorize_free i k b m dev rules.Shaping c e h = absurd (let clash : Parameters ≡ Authorize c = same_request Parameters (Authorize c) e in cc)
-authorize_free i k b m dev (rules.Imaging params heard) c e h = absurd (let clash : [] ≡ Authorize c ∷ [] = e in cc)
+pub authorize_free : (i : ℕ) (k : Make) (b : SessionView) (m : ClientView) (dev : AbstractDevice) (g : model.AbstractProgress) (c : Challenge) → request_awaited g ≡ Authorize c ∷ [] → InSync i k b m dev g → dev.holder ≢ Some i
+authorize_free i k b m dev (model.Allowing challenge) c e h = h.0.free
+authorize_free i k b m dev model.Greeting c e h = absurd (let clash : Init ≡ Authorize c = same_request Init (Authorize c) e in cc)
+authorize_free i k b m dev model.Listing c e h = absurd (let clash : GetDevices ≡ Authorize c = same_request GetDevices (Authorize c) e in cc)
+authorize_free i k b m dev model.Opening c e h = absurd (let clash : Open ≡ Authorize c = same_request Open (Authorize c) e in cc)
+authorize_free i k b m dev (model.Describing left) c e h = absurd (let clash : Describe ≡ Authorize c = same_request Describe (Authorize c) e in cc)
+authorize_free i k b m dev (model.Putting n value requested left) c e h = absurd (let clash : Set n value ≡ Authorize c = same_request (Set n value) (Authorize c) e in cc)
+authorize_free i k b m dev (model.Getting n left) c e h = absurd (let clash : Get n ≡ Authorize c = same_request (Get n) (Authorize c) e in cc)
+authorize_free i k b m dev model.Starting c e h = absurd (let clash : Start ≡ Authorize c = same_request Start (Authorize c) e in cc)
+authorize_free i k b m dev model.Shaping c e h = absurd (let clash : Parameters ≡ Authorize c = same_request Parameters (Authorize c) e in cc)
+authorize_free i k b m dev (model.Imaging params heard) c e h = absurd (let clash : [] ≡ Authorize c ∷ [] = e in cc)
 
 -- ---- what the client knows of its options is what the device has
 
@@ -217,7 +217,7 @@ get_back k options target known descriptors notes n kind size left is own_is all
 
 -- the answer to its request
 pub record IsOffered (t : Ghost) (i : ℕ) (s : SystemState) (d : RequestContext) (q : Asked) (r : AbstractRequest) (rest : List AbstractRequest) (said : RequestAnswer) (reply : AbstractReply) (text : List ℕ) : Type 0 where
-  pub desked : Desked t i s d
+  pub in_context : InContext t i s d
   pub asking : IsAsking i s r rest
   pub is : IsRequest (target_of (t.jobs i)) 0 (s.job i).client.known q r
   pub for_it : IsFor (make_for s i) (device_for s i).options (listed_devices s) r reply
@@ -225,42 +225,42 @@ pub record IsOffered (t : Ghost) (i : ℕ) (s : SystemState) (d : RequestContext
   pub spelled : IsSaid (manner d 0) q (reply ∷ []) said
   pub says : daemon.SaysAll (daemon.replies_to said) text
 
-offered_at : (t : Ghost) (i : ℕ) (s : SystemState) (d : RequestContext) (q : Asked) (r x : AbstractRequest) (rest : List AbstractRequest) (said : RequestAnswer) (reply : AbstractReply) (text : List ℕ) (f : rules.AbstractProgress) → (s.job i).client.stage ≡ Running f → request_awaited f ≡ x ∷ [] → IsOffered t i s d q r rest said reply text → IsOffered t i s d q x rest said reply text
+offered_at : (t : Ghost) (i : ℕ) (s : SystemState) (d : RequestContext) (q : Asked) (r x : AbstractRequest) (rest : List AbstractRequest) (said : RequestAnswer) (reply : AbstractReply) (text : List ℕ) (f : model.AbstractProgress) → (s.job i).client.stage ≡ Running f → request_awaited f ≡ x ∷ [] → IsOffered t i s d q r rest said reply text → IsOffered t i s d q x rest said reply text
 offered_at t i s d q r x rest said reply text f stage only o = subst (λ (y : AbstractRequest). IsOffered t i s d q y rest said reply text) (request_is i s r x rest o.asking f stage only) o
 
-free_at : (t : Ghost) (i : ℕ) (s : SystemState) (d : RequestContext) → Desked t i s d → (device_for s i).holder ≢ Some i → (manner d 0).free ≡ Some 0
+free_at : (t : Ghost) (i : ℕ) (s : SystemState) (d : RequestContext) → InContext t i s d → (device_for s i).holder ≢ Some i → (manner d 0).free ≡ Some 0
 free_at t i s d h n = free_zero i s.make d s.device (s.job i) h.shows n
 
-infos_at : (t : Ghost) (i : ℕ) (s : SystemState) (d : RequestContext) → Desked t i s d → map (place_of_info t.infos) (manner d 0).infos ≡ listed_devices s
+infos_at : (t : Ghost) (i : ℕ) (s : SystemState) (d : RequestContext) → InContext t i s d → map (place_of_info t.infos) (manner d 0).infos ≡ listed_devices s
 infos_at t i s d h = listed_told i s.make d s.device (session_by i s.device (s.job i)) t.infos h.infos h.apart h.shows ∙ ap (listed_of s.device) (sym h.places)
 
-allowed_here : (t : Ghost) (i : ℕ) (s : SystemState) (d : RequestContext) → Desked t i s d → rules_devices.AreOptionsAllowed (make_for s i) (device_for s i).options
+allowed_here : (t : Ghost) (i : ℕ) (s : SystemState) (d : RequestContext) → InContext t i s d → rules_devices.AreOptionsAllowed (make_for s i) (device_for s i).options
 allowed_here t i s d h = (h.sound.fit (s.job i).session.job.wants).allowed
 
 pub comes_by : (t : Ghost) (i : ℕ) (s : SystemState) (d : RequestContext) (q : Asked) (r : AbstractRequest) (rest : List AbstractRequest) (said : RequestAnswer) (reply : AbstractReply) (text : List ℕ) (progress : Progress) (notes : Notes) (past : JoinHistory) → IsOffered t i s d q r rest said reply text → WaitsAs (s.job i).session.job progress notes past (s.job i).client → IsApt (target_of (t.jobs i)) progress notes →
     (s.job i).client.known ≡ descs notes.known → WaitsQuietly progress (r ∷ rest) → SpellsAwaitedReply (place_of_info t.infos) progress reply text
 comes_by t i s d q r rest said reply text stages.Greeting notes past offer w apt known waits =
-    let o = offered_at t i s d q r Init rest said reply text rules.Greeting w.0 refl offer in
+    let o = offered_at t i s d q r Init rest said reply text model.Greeting w.0 refl offer in
     greeting_comes (place_of_info t.infos) (make_for s i) (device_for s i).options (listed_devices s) (target_of (t.jobs i)) (s.job i).client.known (manner d 0) q reply said text o.is o.for_it o.shape o.spelled o.says
 comes_by t i s d q r rest said reply text stages.Listing notes past offer w apt known waits =
-    let o = offered_at t i s d q r GetDevices rest said reply text rules.Listing w.0 refl offer in
-    listing_comes (place_of_info t.infos) (make_for s i) (device_for s i).options (listed_devices s) (target_of (t.jobs i)) (s.job i).client.known (manner d 0) q reply said text (infos_at t i s d o.desked) o.is o.for_it o.shape o.spelled o.says
+    let o = offered_at t i s d q r GetDevices rest said reply text model.Listing w.0 refl offer in
+    listing_comes (place_of_info t.infos) (make_for s i) (device_for s i).options (listed_devices s) (target_of (t.jobs i)) (s.job i).client.known (manner d 0) q reply said text (infos_at t i s d o.in_context) o.is o.for_it o.shape o.spelled o.says
 comes_by t i s d q r rest said reply text stages.Opening notes past offer w apt known waits =
-    let o = offered_at t i s d q r Open rest said reply text rules.Opening w.0 refl offer in
-    let sync = sync_at i s r rest offer.asking rules.Opening w.0 in
-    open_comes (place_of_info t.infos) (make_for s i) (device_for s i).options (listed_devices s) (target_of (t.jobs i)) (s.job i).client.known (manner d 0) q reply said text (free_at t i s d o.desked sync.0.free) o.is o.for_it o.shape o.spelled o.says
+    let o = offered_at t i s d q r Open rest said reply text model.Opening w.0 refl offer in
+    let sync = sync_at i s r rest offer.asking model.Opening w.0 in
+    open_comes (place_of_info t.infos) (make_for s i) (device_for s i).options (listed_devices s) (target_of (t.jobs i)) (s.job i).client.known (manner d 0) q reply said text (free_at t i s d o.in_context sync.0.free) o.is o.for_it o.shape o.spelled o.says
 comes_by t i s d q r rest said reply text (stages.Allowing resource answer) notes past offer w apt known waits =
     let challenge = w.0.0 in
-    let o = offered_at t i s d q r (Authorize challenge) rest said reply text (rules.Allowing challenge) w.0.1.0 refl offer in
-    let sync = sync_at i s r rest offer.asking (rules.Allowing challenge) w.0.1.0 in
-    authorize_comes (place_of_info t.infos) (make_for s i) (device_for s i).options (listed_devices s) (target_of (t.jobs i)) (s.job i).client.known (manner d 0) challenge resource answer q reply said text (free_at t i s d o.desked sync.0.free) o.is o.for_it o.shape o.spelled o.says
+    let o = offered_at t i s d q r (Authorize challenge) rest said reply text (model.Allowing challenge) w.0.1.0 refl offer in
+    let sync = sync_at i s r rest offer.asking (model.Allowing challenge) w.0.1.0 in
+    authorize_comes (place_of_info t.infos) (make_for s i) (device_for s i).options (listed_devices s) (target_of (t.jobs i)) (s.job i).client.known (manner d 0) challenge resource answer q reply said text (free_at t i s d o.in_context sync.0.free) o.is o.for_it o.shape o.spelled o.says
 comes_by t i s d q r rest said reply text stages.Reopening notes past offer w apt known waits = absurd (let clash : r ∷ rest ≡ [] = waits.silent refl in cc)
 comes_by t i s d q r rest said reply text stages.Describing notes past offer w apt known waits =
-    let o = offered_at t i s d q r Describe rest said reply text (rules.Describing _) w.0 refl offer in
+    let o = offered_at t i s d q r Describe rest said reply text (model.Describing _) w.0 refl offer in
     describing_comes (place_of_info t.infos) (make_for s i) (device_for s i).options (listed_devices s) (target_of (t.jobs i)) (s.job i).client.known (manner d 0) q reply said text o.is o.for_it o.shape o.spelled o.says
 comes_by t i s d q r rest said reply text (stages.Putting n kind name asked_) notes past offer w apt known waits =
     let requested = w.0.0 in
-    let g = rules.Putting n asked_ requested _ in
+    let g = model.Putting n asked_ requested _ in
     let o = offered_at t i s d q r (Set n asked_) rest said reply text g w.0.1.0 refl offer in
     let sync = sync_at i s r rest offer.asking g w.0.1.0 in
     let is = table_is (make_for s i) (s.job i).client.known sync.options (device_for s i).options sync.known sync.settles.held.options_are in
@@ -268,20 +268,20 @@ comes_by t i s d q r rest said reply text (stages.Putting n kind name asked_) no
     (λ w on sent value set. set_back (make_for s i) (device_for s i).options (target_of (t.jobs i)) (s.job i).client.known notes n kind name asked_ is known apt w on sent value set) o.is o.for_it o.shape o.spelled o.says
 comes_by t i s d q r rest said reply text (stages.Getting n kind size) notes past offer w apt known waits =
     let left = w.0.0 in
-    let g = rules.Getting n left in
+    let g = model.Getting n left in
     let o = offered_at t i s d q r (Get n) rest said reply text g w.0.1.0 refl offer in
     let sync = sync_at i s r rest offer.asking g w.0.1.0 in
     let is = table_is (make_for s i) (s.job i).client.known sync.options (device_for s i).options sync.known sync.held.options_are in
-    let own_is = word_descriptors i s.make d s.device (s.job i) o.desked.shows sync.held.mine in
+    let own_is = word_descriptors i s.make d s.device (s.job i) o.in_context.shows sync.held.mine in
     get_comes (place_of_info t.infos) (make_for s i) (device_for s i).options (listed_devices s) (target_of (t.jobs i)) (s.job i).client.known (manner d 0) q n kind size reply said text
-    (λ w2 on sent value get. get_back (make_for s i) (device_for s i).options (target_of (t.jobs i)) (s.job i).client.known (manner d 0).descriptors notes n kind size left is own_is (allowed_here t i s d o.desked) known w.0.1.1 apt w2 on sent value get) o.is o.for_it o.shape o.spelled o.says
+    (λ w2 on sent value get. get_back (make_for s i) (device_for s i).options (target_of (t.jobs i)) (s.job i).client.known (manner d 0).descriptors notes n kind size left is own_is (allowed_here t i s d o.in_context) known w.0.1.1 apt w2 on sent value get) o.is o.for_it o.shape o.spelled o.says
 comes_by t i s d q r rest said reply text (stages.Starting first) notes past offer w apt known waits =
-    let o = offered_at t i s d q r Start rest said reply text rules.Starting w.0 refl offer in
+    let o = offered_at t i s d q r Start rest said reply text model.Starting w.0 refl offer in
     start_comes (place_of_info t.infos) (make_for s i) (device_for s i).options (listed_devices s) (target_of (t.jobs i)) (s.job i).client.known (manner d 0) q first reply said text o.is o.for_it o.shape o.spelled o.says
 comes_by t i s d q r rest said reply text (stages.Shaping port order) notes past offer w apt known waits =
-    let o = offered_at t i s d q r Parameters rest said reply text rules.Shaping w.0 refl offer in
+    let o = offered_at t i s d q r Parameters rest said reply text model.Shaping w.0 refl offer in
     shaping_comes (place_of_info t.infos) (make_for s i) (device_for s i).options (listed_devices s) (target_of (t.jobs i)) (s.job i).client.known (manner d 0) q port order reply said text o.is o.for_it o.shape o.spelled o.says
 comes_by t i s d q r rest said reply text (stages.Imaging port made) notes past offer w apt known waits =
-    absurd (let clash : [] ≡ r ∷ [] = sym (ap request_awaited (asked_for i s r rest offer.asking (rules.Imaging w.params w.payload) w.stage)) ∙ offer.asking.only in cc)
+    absurd (let clash : [] ≡ r ∷ [] = sym (ap request_awaited (asked_for i s r rest offer.asking (model.Imaging w.params w.payload) w.stage)) ∙ offer.asking.only in cc)
 comes_by t i s d q r rest said reply text stages.Turning notes past offer w apt known waits = absurd (waits.unturned refl)
 comes_by t i s d q r rest said reply text stages.Over notes past offer w apt known waits = absurd w

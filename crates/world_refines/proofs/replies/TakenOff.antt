@@ -4,7 +4,7 @@ use Rattle.std.specs.Option.{option_and_then}
 use Rattle.std.proofs.Common.{◌≡◌, ◌≢◌, ◌⊎◌, inl, inr, ◌∙◌, ℕ, zero, suc, ◌==◌, List, [], ◌∷◌, Option, Some, None, Bool, true, false, refl, sym, ap, subst, length, take, drop, slice_get, eqb-true, arith}
 use Rattle.std.proofs.lemmas.Bool.{eqb-false}
 use Rattle.device_api.specs.State.{DeviceState}
-use Rattle.saned_requests.specs.declared.session.Session.{Session as DeskSession}
+use Rattle.saned_requests.specs.declared.session.Session.{Session as RequestSession}
 use Rattle.saned_core.specs.declared.session_slot.SessionSlot.{SessionSlot}
 use Rattle.saned_core.specs.declared.session_slot.SessionId.{SessionId}
 use Rattle.saned_core.specs.DaemonStates.{Core, after_reply_bytes, after_taken, is_slot_number, on_session_slot, replies_in, replies_of, session_slot_of, session_in, slot_if_open}
@@ -25,8 +25,8 @@ use Rattle.scan_world.specs.Worlds.{WorldCore}
 use Rattle.world_refines.specs.GhostStates.{Ghost}
 use Rattle.world_refines.specs.WorldRefinement.{IsBelow, IsFaithfulSessionSlot, IsServed, WorldRefines, session_by}
 use Rattle.world_refines.specs.ClientDeliveries.{asking_left}
-use Rattle.world_refines.proofs.state.Faithful.{on_seat_all}
-use Rattle.world_refines.proofs.state.EndpointSlots.{Reseats, Single, later, reseats_kept}
+use Rattle.world_refines.proofs.state.Faithful.{on_slot_all}
+use Rattle.world_refines.proofs.state.EndpointSlots.{Replaces, Single, later, replaces_kept}
 use Rattle.world_refines.proofs.state.Sees.{Leaves}
 use Rattle.world_refines.proofs.state.Taking.{same_ruled, same_session, served_table}
 
@@ -43,12 +43,12 @@ taken_left n bytes = take_some (min n 4096) bytes
 -- ---- a slot
 
 -- it goes on, or is no more
-goes_or : (session : Option (DeskSession DeviceState)) (replies : List ℕ) (slot : SessionSlot DeviceState) → (slot_if_open session replies slot ≡ Some slot) ⊎ ((slot_if_open session replies slot ≡ None) × (session ≡ None) × (replies ≡ []))
+goes_or : (session : Option (RequestSession DeviceState)) (replies : List ℕ) (slot : SessionSlot DeviceState) → (slot_if_open session replies slot ≡ Some slot) ⊎ ((slot_if_open session replies slot ≡ None) × (session ≡ None) × (replies ≡ []))
 goes_or (Some s) replies slot = inl refl
 goes_or None [] slot = inr (refl, refl, refl)
 goes_or None (b ∷ bytes) slot = inl refl
 
-standing_number : (session : Option (DeskSession DeviceState)) (replies : List ℕ) (slot new : SessionSlot DeviceState) → slot_if_open session replies slot ≡ Some new → new.number ≡ slot.number
+standing_number : (session : Option (RequestSession DeviceState)) (replies : List ℕ) (slot new : SessionSlot DeviceState) → slot_if_open session replies slot ≡ Some new → new.number ≡ slot.number
 standing_number (Some s) replies slot new e = ap (λ (x : SessionSlot DeviceState). x.number) (sym (unsome slot new e))
 standing_number None [] slot new e = absurd (let clash : None ≡ Some new = e in cc)
 standing_number None (b ∷ bytes) slot new e = ap (λ (x : SessionSlot DeviceState). x.number) (sym (unsome slot new e))
@@ -56,7 +56,7 @@ standing_number None (b ∷ bytes) slot new e = ap (λ (x : SessionSlot DeviceSt
 pub taken_number : (c : ℕ) (slot new : SessionSlot DeviceState) → after_taken c slot ≡ Some new → new.number ≡ slot.number
 taken_number c slot new e = standing_number slot.session (drop c slot.replies) (after_reply_bytes c slot) new e
 
-standing_all : (P : Option (SessionSlot DeviceState) → Type 0) (session : Option (DeskSession DeviceState)) (replies : List ℕ) (slot : SessionSlot DeviceState) → P None → P (Some slot) → P (slot_if_open session replies slot)
+standing_all : (P : Option (SessionSlot DeviceState) → Type 0) (session : Option (RequestSession DeviceState)) (replies : List ℕ) (slot : SessionSlot DeviceState) → P None → P (Some slot) → P (slot_if_open session replies slot)
 standing_all P (Some s) replies slot none some = some
 standing_all P None [] slot none some = none
 standing_all P None (b ∷ bytes) slot none some = some
@@ -85,10 +85,10 @@ number_test false s n e t = absurd (eqb-false s.number n t e)
 number_is : (s : SessionSlot DeviceState) (n : ℕ) → s.number ≡ n → is_slot_number n (Some s) ≡ true
 number_is s n e = number_test (s.number == n) s n e refl
 
-seat_by_number : (n : ℕ) (slot : SessionSlot DeviceState) (new : Option (SessionSlot DeviceState)) (slots : List (Option (SessionSlot DeviceState))) → ((s : SessionSlot DeviceState) → new ≡ Some s → s.number ≡ n) → session_slot_of slots n ≡ None → session_slot_of (new ∷ slots) n ≡ new
+slot_by_number : (n : ℕ) (slot : SessionSlot DeviceState) (new : Option (SessionSlot DeviceState)) (slots : List (Option (SessionSlot DeviceState))) → ((s : SessionSlot DeviceState) → new ≡ Some s → s.number ≡ n) → session_slot_of slots n ≡ None → session_slot_of (new ∷ slots) n ≡ new
 unfolding session_slot_of
-seat_by_number n slot None slots number none = none
-seat_by_number n slot (Some s) slots number none = rw (number_is s n (number s refl)) refl
+slot_by_number n slot None slots number none = none
+slot_by_number n slot (Some s) slots number none = rw (number_is s n (number s refl)) refl
 
 found_by : (c n : ℕ) (x : Option (SessionSlot DeviceState)) (slots : List (Option (SessionSlot DeviceState))) (b : Bool) → is_slot_number n x ≡ b → Single (x ∷ slots) → session_slot_of (on_session_slot (after_taken c) n slots) n ≡ option_and_then (after_taken c) (session_slot_of slots n) →
     session_slot_of (if b then option_and_then (after_taken c) x ∷ slots else x ∷ on_session_slot (after_taken c) n slots) n ≡ option_and_then (after_taken c) (if b then x else session_slot_of slots n)
@@ -96,7 +96,7 @@ unfolding session_slot_of
 found_by c n None slots true e single more = absurd (let clash : false ≡ true = e in cc)
 found_by c n (Some slot) slots true e single more =
     let is : slot.number ≡ n = eqb-true slot.number n e in
-    seat_by_number n slot (after_taken c slot) slots (λ s taken. taken_number c slot s taken ∙ is) (none_of slots n (others_of slot slots n is single))
+    slot_by_number n slot (after_taken c slot) slots (λ s taken. taken_number c slot s taken ∙ is) (none_of slots n (others_of slot slots n is single))
 found_by c n x slots false e single more = rw e more
 
 pub found_taken : (c n : ℕ) (slots : List (Option (SessionSlot DeviceState))) → Single slots → session_slot_of (on_session_slot (after_taken c) n slots) n ≡ option_and_then (after_taken c) (session_slot_of slots n)
@@ -106,17 +106,17 @@ found_taken c n (x ∷ slots) single = found_by c n x slots (is_slot_number n x)
 
 -- ---- what is left of it
 
-replies_standing : (session : Option (DeskSession DeviceState)) (replies : List ℕ) (slot : SessionSlot DeviceState) → slot.replies ≡ replies → replies_in (slot_if_open session replies slot) ≡ replies
+replies_standing : (session : Option (RequestSession DeviceState)) (replies : List ℕ) (slot : SessionSlot DeviceState) → slot.replies ≡ replies → replies_in (slot_if_open session replies slot) ≡ replies
 replies_standing (Some s) replies slot e = e
 replies_standing None [] slot e = refl
 replies_standing None (b ∷ bytes) slot e = e
 
-session_standing : (session : Option (DeskSession DeviceState)) (replies : List ℕ) (slot : SessionSlot DeviceState) → slot.session ≡ session → session_in (slot_if_open session replies slot) ≡ session
+session_standing : (session : Option (RequestSession DeviceState)) (replies : List ℕ) (slot : SessionSlot DeviceState) → slot.session ≡ session → session_in (slot_if_open session replies slot) ≡ session
 session_standing (Some s) replies slot e = e
 session_standing None [] slot e = refl
 session_standing None (b ∷ bytes) slot e = e
 
-input_standing : (session : Option (DeskSession DeviceState)) (replies : List ℕ) (slot : SessionSlot DeviceState) → input_in (slot_if_open session replies slot) ≡ asking_left (is_some session) replies slot.input.rest
+input_standing : (session : Option (RequestSession DeviceState)) (replies : List ℕ) (slot : SessionSlot DeviceState) → input_in (slot_if_open session replies slot) ≡ asking_left (is_some session) replies slot.input.rest
 input_standing (Some s) replies slot = refl
 input_standing None [] slot = refl
 input_standing None (b ∷ bytes) slot = refl
@@ -160,8 +160,8 @@ taken_input n d k single =
     let c = length (delivered_bytes n (replies_of d k)) in
     ap input_in (found_taken c k d.slots single) ∙ (input_taken c (session_slot_of d.slots k) ∙ ap (λ (bytes : List ℕ). asking_left (is_some (session_in (session_slot_of d.slots k))) bytes (input_in (session_slot_of d.slots k))) (taken_left n (replies_of d k)))
 
-pub reseats_taken : (n : ℕ) (link : Option SessionId) (d : Core) (k : ℕ) → Reseats link link d (world.without_taken k n d)
-reseats_taken n link d k = let c = length (delivered_bytes n (replies_of d k)) in reseats_kept (after_taken c) link d k (taken_number c)
+pub replaces_taken : (n : ℕ) (link : Option SessionId) (d : Core) (k : ℕ) → Replaces link link d (world.without_taken k n d)
+replaces_taken n link d k = let c = length (delivered_bytes n (replies_of d k)) in replaces_kept (after_taken c) link d k (taken_number c)
 
 pub leaves_taken : (t : Ghost) (w : WorldCore) (i n : ℕ) (p : Endpoint) (id : SessionId) (device : ℕ → AbstractDevice) → WorldRefines t w → slice_get w.endpoints i ≡ Some p → ((k : ℕ) → device k ≡ t.system.device k) →
     Leaves i t.system.make (Some id) w.daemon (world.without_taken id.number n w.daemon) t.system.device device
@@ -173,8 +173,8 @@ leaves_taken t w i n p id device h at same =
       users = refl;
       infos = refl;
       opened = omega arith;
-      below = on_seat_all (IsBelow d.opened) (after_taken c) id.number d.slots tt (λ s b. standing_all (IsBelow d.opened) s.session (drop c s.replies) (after_reply_bytes c s) tt b) h.slots;
-      faithful = record { lying = h.faithful.lying; lent = on_seat_all IsFaithfulSessionSlot (after_taken c) id.number d.slots tt (λ s b. standing_all IsFaithfulSessionSlot s.session (drop c s.replies) (after_reply_bytes c s) tt b) h.faithful.lent };
+      below = on_slot_all (IsBelow d.opened) (after_taken c) id.number d.slots tt (λ s b. standing_all (IsBelow d.opened) s.session (drop c s.replies) (after_reply_bytes c s) tt b) h.slots;
+      faithful = record { lying = h.faithful.lying; lent = on_slot_all IsFaithfulSessionSlot (after_taken c) id.number d.slots tt (λ s b. standing_all IsFaithfulSessionSlot s.session (drop c s.replies) (after_reply_bytes c s) tt b) h.faithful.lent };
       slots = λ m other low. apart d.slots (after_taken c) id.number m (taken_number c) (λ x. other (sym x));
       held = own.held;
       shows = same_tables i t.system.make own.held d.registry t.system.device device same own.shows;

@@ -26,7 +26,7 @@ use Rattle.saned_requests.specs.RequestAnswers.{RequestContext, MayOpen}
 use Rattle.saned_requests.specs.OptionValues.{value_asked}
 use Rattle.scan_job.specs.declared.job.Job.{Job}
 use Rattle.system_model.specs.AbstractMessages.{Authorize, Cancel, Challenge, Close, Describe, Exit, Get, GetDevices, Init, Open, Parameters, AbstractRequest, Set, Start, same_text}
-use Rattle.system_model.specs.Client as rules
+use Rattle.system_model.specs.Client as model
 use Rattle.system_model.specs.Devices.{Make, OptionsInForce, descriptors_in_force, accept_value}
 use Rattle.system_model.specs.AbstractDevices.{AbstractDevice, is_held_by}
 use Rattle.system_model.specs.Daemon.{Environment}
@@ -194,7 +194,7 @@ pub record IsSession (i : ℕ) (make : ℕ → Make) (users : List Entry) (infos
   pub speaks : SpeaksAs job.device p d.session
 
 wants_is : (users : List Entry) (infos : List DeviceInfo) (job : Job) (p : JobState) → p.session.job ≡ abstract_job users infos job → p.session.job.wants ≡ place_named infos job.device
-wants_is users infos job p e = ap (λ (j : rules.AbstractJob). j.wants) e
+wants_is users infos job p e = ap (λ (j : model.AbstractJob). j.wants) e
 
 -- a SET whose value is not of its option's type: the daemon and the model refuses it
 pub record IsOdd (i : ℕ) (make : ℕ → Make) (d : RequestContext) (device : ℕ → AbstractDevice) (p : JobState) (q : Asked) (r : AbstractRequest) : Type 0 where
@@ -218,7 +218,7 @@ open_names i make users infos job d device p name h is =
 
 pub open_guarded : (i : ℕ) (make : ℕ → Make) (users : List Entry) (infos : List DeviceInfo) (job : Job) (d : RequestContext) (device : ℕ → AbstractDevice) (p : JobState) (name : List ℕ) → IsSession i make users infos job d device p → name ≡ job.device → IsGuarded users name p.session.job.guarded
 open_guarded i make users infos job d device p name h is =
-    subst (λ (n : List ℕ). IsGuarded users n p.session.job.guarded) (sym is) (subst (λ (b : Bool). IsGuarded users job.device b) (sym (ap (λ (j : rules.AbstractJob). j.guarded) h.job_is)) (guards users job.device))
+    subst (λ (n : List ℕ). IsGuarded users n p.session.job.guarded) (sym is) (subst (λ (b : Bool). IsGuarded users job.device b) (sym (ap (λ (j : model.AbstractJob). j.guarded) h.job_is)) (guards users job.device))
 
 set_free : (i : ℕ) (make : ℕ → Make) (users : List Entry) (infos : List DeviceInfo) (job : Job) (d : RequestContext) (device : ℕ → AbstractDevice) (p : JobState) (listed : List ℕ) (known : List Descriptor) (n : ℕ) (kind : Kind) (value : WireValue) (asked : Value) → IsSession i make users infos job d device p → known ≡ descriptors_in_force (make p.session.job.wants) (device p.session.job.wants).options →
     IsSet 0 known n asked 0 n kind value → IsFree i make users d device p listed (requests.ControlOption 0 n actions.SetValue kind value) (Set n asked)
@@ -259,7 +259,7 @@ authorizes : (i : ℕ) (make : ℕ → Make) (users : List Entry) (infos : List 
 authorizes i make users infos job d device p listed awaited resource user answer challenge h named is =
     subst (λ (u : List ℕ). IsJudged (MayOpen users awaited resource u answer) (same_text challenge awaited.resource) (p.session.job.allows awaited.resource)) (sym is.1)
     (subst (λ (c : List ℕ). IsJudged (MayOpen users awaited resource job.user answer) (same_text c awaited.resource) (p.session.job.allows awaited.resource)) is.0
-    (subst (λ (b : Bool). IsJudged (MayOpen users awaited resource job.user answer) (same_text resource awaited.resource) b) (sym (ap (λ (j : rules.AbstractJob). j.allows awaited.resource) h.job_is))
+    (subst (λ (b : Bool). IsJudged (MayOpen users awaited resource job.user answer) (same_text resource awaited.resource) b) (sym (ap (λ (j : model.AbstractJob). j.allows awaited.resource) h.job_is))
     (judged users awaited job.device job.user job.password resource answer named is.2)))
 
 is_awaited : (i : ℕ) (make : ℕ → Make) (users : List Entry) (infos : List DeviceInfo) (job : Job) (d : RequestContext) (device : ℕ → AbstractDevice) (p : JobState) (listed : List ℕ) (known : List Descriptor) (awaited : AwaitedAuthorization) (q : Asked) (r : AbstractRequest) → IsSession i make users infos job d device p → awaited.name ≡ job.device →

@@ -36,7 +36,7 @@ use Rattle.world_refines.proofs.requests.AnswersKeep.{Stays, stays, not_breaking
 use Rattle.world_refines.proofs.state.CoreCallsKeep.{given_infos, place_left, put_let_go, word_wanted}
 use Rattle.world_refines.proofs.state.Faithful.{given_true, word_true}
 use Rattle.world_refines.proofs.state.ReadTrue.{held_true, stopped_true}
-use Rattle.world_refines.proofs.requests.Folding.{AnswersOne, Desked, answers_to, due_none, legal_answer}
+use Rattle.world_refines.proofs.requests.Folding.{AnswersOne, InContext, answers_to, due_none, legal_answer}
 
 -- ---- what is let go
 
@@ -127,7 +127,7 @@ broken i memory = By i (actions.Breaks memory)
 abbrev broken_party : Bool → JobState → JobState
 broken_party memory p = record p { todo = []; due = []; served = false; session = without_session memory p.session }
 
-pub breaks : (t : Ghost) (i : ℕ) (s : SystemState) (d new : RequestContext) (memory : Bool) → Desked t i s d → MayBreak (s.job i).client.stage → (memory ≡ false → (s.job i).due ≢ []) → Back i s.make d s.device new → Closed t i s d (broken i memory ∷ []) memory new
+pub breaks : (t : Ghost) (i : ℕ) (s : SystemState) (d new : RequestContext) (memory : Bool) → InContext t i s d → MayBreak (s.job i).client.stage → (memory ≡ false → (s.job i).due ≢ []) → Back i s.make d s.device new → Closed t i s d (broken i memory ∷ []) memory new
 breaks t i s d new memory h may some back =
     let p = s.job i in
     let next = after_transition s (By i (actions.Breaks memory)) in
@@ -166,7 +166,7 @@ breaks t i s d new memory h may some back =
 one_step : (i : ℕ) (s : SystemState) (chance : Chance) → after_all s (answers i (chance ∷ [])) ≡ after_transition s (answers_to i chance.0 chance.1)
 one_step i s chance = refl
 
-pub ends_by_request : (t : Ghost) (i : ℕ) (s : SystemState) (d new : RequestContext) (q : Asked) (r : AbstractRequest) (rest : List AbstractRequest) (said : RequestAnswer) → Desked t i s d → (s.job i).todo ≡ r ∷ rest → Answers t.users d q said new → session_goes_on said ≡ false → (one : AnswersOne t i s d said new) →
+pub ends_by_request : (t : Ghost) (i : ℕ) (s : SystemState) (d new : RequestContext) (q : Asked) (r : AbstractRequest) (rest : List AbstractRequest) (said : RequestAnswer) → InContext t i s d → (s.job i).todo ≡ r ∷ rest → Answers t.users d q said new → session_goes_on said ≡ false → (one : AnswersOne t i s d said new) →
     Closed t i s d (answers i ((one.challenge, one.fault) ∷ [])) false new
 ends_by_request t i s d new q r rest said h e g off one =
     let chance : Chance = (one.challenge, one.fault) in
@@ -210,7 +210,7 @@ closed_behind t i s d mid new chances steps memory legal others c =
     }
 
 -- a request was answered, and then it breaks off
-pub breaks_behind_one : (t : Ghost) (i : ℕ) (s : SystemState) (d new : RequestContext) (r : AbstractRequest) (rest : List AbstractRequest) (said : RequestAnswer) (memory : Bool) → Desked t i s d → (s.job i).todo ≡ r ∷ rest → MayBreak (s.job i).client.stage → session_goes_on said ≡ true → (one : AnswersOne t i s d said new) →
+pub breaks_behind_one : (t : Ghost) (i : ℕ) (s : SystemState) (d new : RequestContext) (r : AbstractRequest) (rest : List AbstractRequest) (said : RequestAnswer) (memory : Bool) → InContext t i s d → (s.job i).todo ≡ r ∷ rest → MayBreak (s.job i).client.stage → session_goes_on said ≡ true → (one : AnswersOne t i s d said new) →
     Closed t i s d (answers i ((one.challenge, one.fault) ∷ []) ++ broken i memory ∷ []) memory new
 breaks_behind_one t i s d new r rest said memory h e may on one =
     let chance : Chance = (one.challenge, one.fault) in

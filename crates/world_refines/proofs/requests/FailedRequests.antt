@@ -12,7 +12,7 @@ use Rattle.scan_job.specs.declared.job.Job.{Job}
 use Rattle.system_model.specs.AbstractDevices.{AbstractDevice}
 use Rattle.system_model.specs.AbstractMessages.{Challenge, AbstractRequest}
 use Rattle.system_model.specs.Actions.{Answers}
-use Rattle.system_model.specs.Client as rules
+use Rattle.system_model.specs.Client as model
 use Rattle.system_model.specs.Client.{ClientView}
 use Rattle.system_model.specs.Daemon.{FailureCounts}
 use Rattle.system_model.specs.Deliveries.{Chance, answers}
@@ -42,7 +42,7 @@ pub lease_named : (i : ℕ) (make : ℕ → Make) (users : List Entry) (infos : 
     held_by d.session.held w ≡ Some l → l.device.info.name ≡ job.device
 lease_named i make users infos job d device p w l job_is infos_are h held =
     let own = (h.devices.leases w l held).own in
-    let place : l.place ≡ place_named infos job.device = holds_wanted i make d device p l.place h (record { word = w; lease = l; stands = held; place = refl }) ∙ ap (λ (j : rules.AbstractJob). j.wants) job_is in
+    let place : l.place ≡ place_named infos job.device = holds_wanted i make d device p l.place h (record { word = w; lease = l; stands = held; place = refl }) ∙ ap (λ (j : model.AbstractJob). j.wants) job_is in
     let there : name_at infos (place_named infos job.device) ≡ Some own.place.info.name = ap (name_at infos) (sym place) ∙ (ap (λ (all : List DeviceInfo). name_at all l.place) infos_are ∙ names_at d.registry l.place own.place own.at) in
     own.name ∙ name_by infos job.device own.place.info.name (position (is_name job.device) infos) refl there
 

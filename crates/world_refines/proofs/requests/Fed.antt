@@ -28,9 +28,9 @@ use Rattle.world_refines.proofs.state.Changing.{IsChange, stands_change}
 use Rattle.world_refines.proofs.requests.Closing.{Keeps}
 use Rattle.world_refines.proofs.state.Held.{held_after_all}
 use Rattle.world_refines.proofs.state.ListedPlaces.{shown_after}
-use Rattle.world_refines.proofs.state.EndpointSlots.{Reseats}
+use Rattle.world_refines.proofs.state.EndpointSlots.{Replaces}
 use Rattle.world_refines.proofs.state.Sees.{Leaves}
-use Rattle.world_refines.proofs.requests.Sent.{IsSent, talks_sent}
+use Rattle.world_refines.proofs.requests.Sent.{IsSent, exchanges_sent}
 use Rattle.world_refines.proofs.state.Taking.{sits_there}
 use Rattle.world_refines.specs.WorldPending.{HasNoRequest, Pends}
 
@@ -107,7 +107,7 @@ pub record FedSo (t : Ghost) (w : WorldCore) (i : ℕ) (p q : Endpoint) (id : Se
   pub replies : replies_in (session_slot_of e.slots id.number) ≡ down
   pub served : IsServed i t.system.make e (Some id) ((after_all t.system steps).job i).served (after_all t.system steps).device (session_by i (after_all t.system steps).device ((after_all t.system steps).job i))
   pub leaves : Leaves i t.system.make (Some id) w.daemon e t.system.device (after_all t.system steps).device
-  pub reseats : Reseats (Some id) (Some id) w.daemon e
+  pub replaces : Replaces (Some id) (Some id) w.daemon e
   pub begun : AreStartedViews t.system.make ((after_all t.system steps).job i)
   pub speaks : Speaks (t.jobs i).device ((after_all t.system steps).job i) (session_in (session_slot_of e.slots id.number))
   pub waits : WaitsQuietly p.client.progress ((after_all t.system steps).job i).todo
@@ -142,7 +142,7 @@ fed_stands t w i p q id e steps up asking down out h at low link f =
       shown = shown_after t w steps h;
       sits = sits_there u e i q now bytes (t.history i) (t.pages i) refl (put_there t.wires i bytes) (put_there t.history i (t.history i)) (put_there t.pages i (t.pages i)) (record {
         job_is = f.keeps.job ∙ s.job_is;
-        talks = talks_sent (place_of_info t.infos) (t.jobs i) out (t.history i) (t.pages i) me now p q f.endpoint.sent f.keeps.client f.keeps.job s.talks;
+        exchanges = exchanges_sent (place_of_info t.infos) (t.jobs i) out (t.history i) (t.pages i) me now p q f.endpoint.sent f.keeps.client f.keeps.job s.exchanges;
         carries = subst (λ (x : Option SessionId). WiresMatch bytes (slot_of_link e x) q) (sym q_link) (carries_fed (t.wires i) up asking down out (slot_of_link w.daemon p.link) (session_slot_of e.slots id.number) p q now.served f.endpoint f.up_is f.input f.replies s.carries);
         means = means_fed (place_of_info t.infos) (t.jobs i) up asking down out (t.wires i) me now p q f.endpoint linked f.means s.means;
         served = subst (λ (x : Option SessionId). IsServed i u.system.make e x now.served u.system.device (session_by i u.system.device now)) (sym q_link)
@@ -152,6 +152,6 @@ fed_stands t w i p q id e steps up asking down out h at low link f =
         pends = subst (λ (v : ClientState). Pends v.outcome v.progress v.phase bytes) (sym f.endpoint.sent.client) (record { asking = f.pending; telling = s.pends.telling; reading = s.pends.reading });
       });
       link = λ x is. inl (link ∙ (sym q_link ∙ is));
-      reseats = subst (λ (x : Option SessionId). Reseats p.link x w.daemon e) (sym q_link) (subst (λ (x : Option SessionId). Reseats x (Some id) w.daemon e) (sym link) f.reseats);
+      replaces = subst (λ (x : Option SessionId). Replaces p.link x w.daemon e) (sym q_link) (subst (λ (x : Option SessionId). Replaces x (Some id) w.daemon e) (sym link) f.replaces);
       begun = f.begun;
     })

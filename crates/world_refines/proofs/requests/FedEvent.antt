@@ -4,7 +4,7 @@ use Rattle.std.specs.List.{AllByRecursion}
 use Rattle.std.proofs.Common.{◌≡◌, ◌≢◌, ◌⊎◌, inl, inr, ◌∙◌, ℕ, zero, suc, ◌<◌, List, [], ◌∷◌, ◌++◌, Option, Some, None, Bool, true, false, refl, sym, ap, subst, slice_get, slice_set, append_assoc, append-nil, arith}
 use Rattle.frame_join.specs.FrameHistory.{JoinHistory}
 use Rattle.device_api.specs.State.{DeviceState, after_cancel}
-use Rattle.saned_requests.specs.declared.session.Session.{Session as DeskSession}
+use Rattle.saned_requests.specs.declared.session.Session.{Session as RequestSession}
 use Rattle.md5_auth.specs.declared.users.Entry.{Entry}
 use Rattle.dispatch.specs.declared.table.place.Lease.{Lease}
 use Rattle.saned_requests.specs.Holding.{held_by}
@@ -32,12 +32,12 @@ use Rattle.system_model.specs.AbstractMessages.{AbstractRequest, Status}
 use Rattle.system_model.specs.AbstractMessages as words
 use Rattle.system_model.specs.Devices.{Make}
 use Rattle.system_model.specs.Causes.{IsCauseAmong, LinkOutOfMemory}
-use Rattle.system_model.specs.Client as rules
+use Rattle.system_model.specs.Client as model
 use Rattle.system_model.specs.Client.{Idle, ClientView, Running, Done, Ended, JobStage, request_awaited}
 use Rattle.system_model.specs.Daemon.{TransferState, FailureCounts}
 use Rattle.system_model.specs.AbstractDevices.{AbstractDevice}
 use Rattle.system_model.specs.Deliveries.{Chance, answers}
-use Rattle.system_model.specs.Invariants.{StageInvariant as SoundTalks}
+use Rattle.system_model.specs.Invariants.{StageInvariant as SoundExchanges}
 use Rattle.system_model.specs.SystemStates.{JobState, SystemState, make_for, device_for}
 use Rattle.system_model.specs.Transitions.{IsHistory, IsImaging, IsUnderWay, MayBreak, Transition, after_all}
 use Rattle.daemon_refines.specs.ContextRefinement.{ContextRefines, TableRefines}
@@ -63,17 +63,17 @@ use Rattle.world_refines.specs.Answering.{AnswersSome, Completes, IsCutShort}
 use Rattle.world_refines.specs.Answering.AnswersSome.{BreaksOff, GoesOn, IsOver, WasOver}
 use Rattle.world_refines.proofs.requests.AnswersKeep.{stays}
 use Rattle.world_refines.proofs.requests.Closing.{Closed, broken, keeps_stayed}
-use Rattle.world_refines.proofs.requests.FedSlot.{HeldTrue, IsNotOn, leaves_fed, left_down, reseats_fed, seat_on, seat_over}
-use Rattle.world_refines.proofs.state.Faithful.{Seats, seat_all}
+use Rattle.world_refines.proofs.requests.FedSlot.{HeldTrue, IsNotOn, leaves_fed, left_down, replaces_fed, slot_on, slot_over}
+use Rattle.world_refines.proofs.state.Faithful.{TakesSlot, slot_all}
 use Rattle.world_refines.proofs.requests.Fed.{FedSo, fed_stands, fed_wires}
 use Rattle.world_refines.proofs.requests.Waiting.{waits_there}
 use Rattle.daemon_refines.proofs.Moved.{unsome}
 use Rattle.world_refines.proofs.requests.RequestDeliveries.{UnsaidAt, IsCountedAlone, counted_alone, cut_piece, is_over, is_starved, same_count}
 use Rattle.world_refines.proofs.requests.FailedRequests.{counted_fails, fails_alone, lease_named}
 use Rattle.world_refines.proofs.replies.Offered.{is_asking}
-use Rattle.world_refines.proofs.requests.Folding.{Desked, IsReadAs, OneRequest, due_none, run_all, spells_none}
+use Rattle.world_refines.proofs.requests.Folding.{InContext, IsReadAs, OneRequest, due_none, run_all, spells_none}
 use Rattle.world_refines.proofs.requests.Sent.{IsSent}
-use Rattle.world_refines.proofs.state.EndpointSlots.{reseats_same}
+use Rattle.world_refines.proofs.state.EndpointSlots.{replaces_same}
 use Rattle.world_refines.proofs.state.Sees.{Leaves}
 use Rattle.world_refines.proofs.state.Failing.{Counting, along_then, plain_decides}
 use Rattle.world_refines.proofs.state.Taking.{DecidesAt, DecidesIn, done, leaves_core}
@@ -99,28 +99,28 @@ pub asks_some : (job : Job) (m : ClientView) (todo : List AbstractRequest) (aski
 asks_some job m [] asking up some s = absurd (none_spelled job asking up some s.requests s.text s.same)
 asks_some job m (r ∷ rest) asking up some s = (r, rest, refl)
 
-may_break : (i : ℕ) (k : Make) (p : JobState) (dev : AbstractDevice) (st : JobStage) (r : AbstractRequest) (rest : List AbstractRequest) → p.todo ≡ r ∷ rest → SoundTalks i k p dev st → MayBreak st
+may_break : (i : ℕ) (k : Make) (p : JobState) (dev : AbstractDevice) (st : JobStage) (r : AbstractRequest) (rest : List AbstractRequest) → p.todo ≡ r ∷ rest → SoundExchanges i k p dev st → MayBreak st
 may_break i k p dev (Running g) r rest e (inl h) = λ x is none. let same : g ≡ x = cc in let clash : [] ≡ r ∷ rest = sym none ∙ (ap request_awaited (sym same) ∙ (sym h.todo ∙ e)) in absurd (cc)
-may_break i k p dev (Running g) r rest e (inr (inl h)) = λ x is. let same : g ≡ x = cc in subst (λ (y : rules.AbstractProgress). request_awaited y ≢ []) same h.waits
-may_break i k p dev (Running g) r rest e (inr (inr h)) = λ x is. let same : g ≡ x = cc in subst (λ (y : rules.AbstractProgress). request_awaited y ≢ []) same h.waits
+may_break i k p dev (Running g) r rest e (inr (inl h)) = λ x is. let same : g ≡ x = cc in subst (λ (y : model.AbstractProgress). request_awaited y ≢ []) same h.waits
+may_break i k p dev (Running g) r rest e (inr (inr h)) = λ x is. let same : g ≡ x = cc in subst (λ (y : model.AbstractProgress). request_awaited y ≢ []) same h.waits
 may_break i k p dev Idle r rest e h = λ x is. absurd (cc)
 may_break i k p dev Done r rest e h = λ x is. absurd (cc)
 may_break i k p dev (Ended status why) r rest e h = λ x is. absurd (cc)
 
 not_imaging : (st : JobStage) → MayBreak st → IsImaging st → ⊥
-not_imaging st may (params, heard, is) = may (rules.Imaging params heard) is refl
+not_imaging st may (params, heard, is) = may (model.Imaging params heard) is refl
 
-flow_by : (g : rules.AbstractProgress) (c d : TransferState) (progress : Progress) (phase : RecordPhase) (image : Option (List ℕ)) (flight : List ℕ) (ending : Option Status) → request_awaited g ≢ [] → FlowsBy g c progress phase image flight ending → FlowsBy g d progress phase image flight ending
-flow_by (rules.Imaging params heard) c d progress phase image flight ending some h = absurd (some refl)
-flow_by rules.Greeting c d progress phase image flight ending some h = h
-flow_by rules.Listing c d progress phase image flight ending some h = h
-flow_by rules.Opening c d progress phase image flight ending some h = h
-flow_by (rules.Allowing challenge) c d progress phase image flight ending some h = h
-flow_by (rules.Describing ws) c d progress phase image flight ending some h = h
-flow_by (rules.Putting n value requested ws) c d progress phase image flight ending some h = h
-flow_by (rules.Getting n ns) c d progress phase image flight ending some h = h
-flow_by rules.Starting c d progress phase image flight ending some h = h
-flow_by rules.Shaping c d progress phase image flight ending some h = h
+flow_by : (g : model.AbstractProgress) (c d : TransferState) (progress : Progress) (phase : RecordPhase) (image : Option (List ℕ)) (flight : List ℕ) (ending : Option Status) → request_awaited g ≢ [] → FlowsBy g c progress phase image flight ending → FlowsBy g d progress phase image flight ending
+flow_by (model.Imaging params heard) c d progress phase image flight ending some h = absurd (some refl)
+flow_by model.Greeting c d progress phase image flight ending some h = h
+flow_by model.Listing c d progress phase image flight ending some h = h
+flow_by model.Opening c d progress phase image flight ending some h = h
+flow_by (model.Allowing challenge) c d progress phase image flight ending some h = h
+flow_by (model.Describing ws) c d progress phase image flight ending some h = h
+flow_by (model.Putting n value requested ws) c d progress phase image flight ending some h = h
+flow_by (model.Getting n ns) c d progress phase image flight ending some h = h
+flow_by model.Starting c d progress phase image flight ending some h = h
+flow_by model.Shaping c d progress phase image flight ending some h = h
 
 -- no data flows to a client that waits for a reply, whatever the daemon's frame is
 flow_still : (st : JobStage) (c d : TransferState) (progress : Progress) (phase : RecordPhase) (image : Option (List ℕ)) (flight : List ℕ) (ending : Option Status) → MayBreak st → FlightMatches st c progress phase image flight ending → FlightMatches st d progress phase image flight ending
@@ -139,15 +139,15 @@ flow_kept p q progress phase image view flight ending may h =
 
 -- ---- what stands before it
 
-record Ready (t : Ghost) (w : WorldCore) (i : ℕ) (p : Endpoint) (id : SessionId) (session : DeskSession DeviceState) : Type 0 where
+record Ready (t : Ghost) (w : WorldCore) (i : ℕ) (p : Endpoint) (id : SessionId) (session : RequestSession DeviceState) : Type 0 where
   stands : WorldRefines t w
   at : slice_get w.endpoints i ≡ Some p
   low : i < t.count
   link : p.link ≡ Some id
   one : OneRequest t i
-  desked : Desked t i t.system (core_context w.daemon session)
+  in_context : InContext t i t.system (core_context w.daemon session)
   slot : SessionSlot DeviceState
-  seat_is : session_slot_of w.daemon.slots id.number ≡ Some slot
+  slot_is : session_slot_of w.daemon.slots id.number ≡ Some slot
   going : slot.session ≡ Some session
   next : AbstractRequest
   others : List AbstractRequest
@@ -159,12 +159,12 @@ record Ready (t : Ghost) (w : WorldCore) (i : ℕ) (p : Endpoint) (id : SessionI
   reads : IsReadAs t i t.system (map (λ (x : JoinHistory). x.ended) (t.pages i)) (protocol_of p.client (t.history i))
 
 -- what waits for the client that is under way is what is due to it, which is nothing
-due_is : (t : Ghost) (w : WorldCore) (i : ℕ) (p : Endpoint) (id : SessionId) (session : DeskSession DeviceState) → Ready t w i p id session → IsUnderWay (t.system.job i).client.stage → SpellsReplies (place_of_info t.infos) p.client.progress (t.system.job i).due ((t.wires i).telling ++ (t.wires i).down)
+due_is : (t : Ghost) (w : WorldCore) (i : ℕ) (p : Endpoint) (id : SessionId) (session : RequestSession DeviceState) → Ready t w i p id session → IsUnderWay (t.system.job i).client.stage → SpellsReplies (place_of_info t.infos) p.client.progress (t.system.job i).due ((t.wires i).telling ++ (t.wires i).down)
 due_is t w i p id session r u = (r.stands.endpoints i p r.at).means.down u
 
-nothing_waits : (t : Ghost) (w : WorldCore) (i : ℕ) (p : Endpoint) (id : SessionId) (session : DeskSession DeviceState) → Ready t w i p id session → IsUnderWay (t.system.job i).client.stage → (t.wires i).telling ++ (t.wires i).down ≡ []
+nothing_waits : (t : Ghost) (w : WorldCore) (i : ℕ) (p : Endpoint) (id : SessionId) (session : RequestSession DeviceState) → Ready t w i p id session → IsUnderWay (t.system.job i).client.stage → (t.wires i).telling ++ (t.wires i).down ≡ []
 nothing_waits t w i p id session r u =
-    spells_none t p.client.progress (t.system.job i).due ((t.wires i).telling ++ (t.wires i).down) (due_none t i t.system (core_context w.daemon session) r.next r.others r.desked u r.todo) (due_is t w i p id session r u)
+    spells_none t p.client.progress (t.system.job i).due ((t.wires i).telling ++ (t.wires i).down) (due_none t i t.system (core_context w.daemon session) r.next r.others r.in_context u r.todo) (due_is t w i p id session r u)
 
 front_none : (a b : List ℕ) → a ++ b ≡ [] → a ≡ []
 front_none [] b e = refl
@@ -175,16 +175,16 @@ told_none t progress due text e none = subst (λ (x : List words.AbstractReply).
 
 -- ---- its slot
 
-came_is : (t : Ghost) (w : WorldCore) (i : ℕ) (p : Endpoint) (id : SessionId) (session : DeskSession DeviceState) → Ready t w i p id session → input_in (session_slot_of w.daemon.slots id.number) ≡ (t.wires i).asking
+came_is : (t : Ghost) (w : WorldCore) (i : ℕ) (p : Endpoint) (id : SessionId) (session : RequestSession DeviceState) → Ready t w i p id session → input_in (session_slot_of w.daemon.slots id.number) ≡ (t.wires i).asking
 came_is t w i p id session r = ap (λ (x : Option SessionId). input_in (slot_of_link w.daemon x)) (sym r.link) ∙ (r.stands.endpoints i p r.at).carries.asking
 
-waits_is : (t : Ghost) (w : WorldCore) (i : ℕ) (p : Endpoint) (id : SessionId) (session : DeskSession DeviceState) → (r : Ready t w i p id session) → r.slot.replies ≡ (t.wires i).down
-waits_is t w i p id session r = ap replies_in (sym r.seat_is) ∙ (ap (λ (x : Option SessionId). replies_in (slot_of_link w.daemon x)) (sym r.link) ∙ (r.stands.endpoints i p r.at).carries.down)
+waits_is : (t : Ghost) (w : WorldCore) (i : ℕ) (p : Endpoint) (id : SessionId) (session : RequestSession DeviceState) → (r : Ready t w i p id session) → r.slot.replies ≡ (t.wires i).down
+waits_is t w i p id session r = ap replies_in (sym r.slot_is) ∙ (ap (λ (x : Option SessionId). replies_in (slot_of_link w.daemon x)) (sym r.link) ∙ (r.stands.endpoints i p r.at).carries.down)
 
-own_waits : (t : Ghost) (w : WorldCore) (i : ℕ) (p : Endpoint) (id : SessionId) (session : DeskSession DeviceState) → Ready t w i p id session → p.is_over ≡ false
+own_waits : (t : Ghost) (w : WorldCore) (i : ℕ) (p : Endpoint) (id : SessionId) (session : RequestSession DeviceState) → Ready t w i p id session → p.is_over ≡ false
 own_waits t w i p id session r =
     let s = r.stands.endpoints i p r.at in
-    s.means.over (s.means.linked ∙ ap is_some r.link) ∙ ap not r.desked.served
+    s.means.over (s.means.linked ∙ ap is_some r.link) ∙ ap not r.in_context.served
 
 -- ---- a source that fails in it
 
@@ -197,7 +197,7 @@ left_by e n word context lease (inl stands) well held = inl (record { session = 
 left_by e n word context lease (inr back) well held =
     inr (subst (IsIn (after_cancel lease.device) lease.place) (sym back) (all_return context.registry context.session.held word lease well held))
 
-failed_by : (t : Ghost) (w : WorldCore) (i : ℕ) (p : Endpoint) (id : SessionId) (session : DeskSession DeviceState) (e : Core) (context : RequestContext) (fault : FailureCounts) → Ready t w i p id session → IsLeft e id.number context → FailedAt session.held context.session.held 0 fault → HoldsWell context.registry context.session.held → FailedIn w e i (t.jobs i).device
+failed_by : (t : Ghost) (w : WorldCore) (i : ℕ) (p : Endpoint) (id : SessionId) (session : RequestSession DeviceState) (e : Core) (context : RequestContext) (fault : FailureCounts) → Ready t w i p id session → IsLeft e id.number context → FailedAt session.held context.session.held 0 fault → HoldsWell context.registry context.session.held → FailedIn w e i (t.jobs i).device
 failed_by t w i p id session e context fault r left f well = record {
   endpoint = p;
   is_there = r.at;
@@ -205,23 +205,23 @@ failed_by t w i p id session e context fault r left f well = record {
   linked = r.link;
   word = 0;
   lease = f.lease;
-  held = record { session = session; stands = ap session_in r.seat_is ∙ r.going; held = f.stood };
-  named = lease_named i t.system.make t.users t.infos (t.jobs i) (core_context w.daemon session) t.system.device (t.system.job i) 0 f.lease r.desked.job_is r.desked.infos r.desked.shows f.stood;
+  held = record { session = session; stands = ap session_in r.slot_is ∙ r.going; held = f.stood };
+  named = lease_named i t.system.make t.users t.infos (t.jobs i) (core_context w.daemon session) t.system.device (t.system.job i) 0 f.lease r.in_context.job_is r.in_context.infos r.in_context.shows f.stood;
   after = f.after;
   stopped = f.failed.stopped;
   left = left_by e id.number 0 context (record f.lease { device = f.after }) left well f.stands;
 }
 
-fails_here : (t : Ghost) (w : WorldCore) (i : ℕ) (p : Endpoint) (id : SessionId) (session : DeskSession DeviceState) (e : Core) (context : RequestContext) (chances : List Chance) (asked later : List AbstractRequest) → Ready t w i p id session → length chances ≡ length asked → (t.system.job i).todo ≡ asked ++ later →
+fails_here : (t : Ghost) (w : WorldCore) (i : ℕ) (p : Endpoint) (id : SessionId) (session : RequestSession DeviceState) (e : Core) (context : RequestContext) (chances : List Chance) (asked later : List AbstractRequest) → Ready t w i p id session → length chances ≡ length asked → (t.system.job i).todo ≡ asked ++ later →
     ((q : AbstractRequest) → (t.system.job i).todo ≡ q ∷ [] → IsCountedAlone (core_context w.daemon session) chances context) → IsLeft e id.number context → AllAlong (FailsIn t w e) t.system (answers i chances)
 fails_here t w i p id session e context chances asked later r count are counted left =
     fails_alone (λ (b : Bool) (j : ℕ). InEvent b w e j (t.jobs j)) i t.system chances (λ under.
-    let a = is_asking i t.system r.next r.others r.desked.sound under r.desked.served r.todo in
+    let a = is_asking i t.system r.next r.others r.in_context.sound under r.in_context.served r.todo in
     let only : (t.system.job i).todo ≡ r.next ∷ [] = r.todo ∙ ap (λ (x : List AbstractRequest). r.next ∷ x) a.none in
     counted_fails (FailedIn w e i (t.jobs i).device) (core_context w.daemon session) context chances asked later r.next count (sym only ∙ are) (λ fault f well. failed_by t w i p id session e context fault r left f well) (counted r.next only))
 
 -- a reply that could not be said
-cut_there : (t : Ghost) (w : WorldCore) (i : ℕ) (p : Endpoint) (id : SessionId) (session : DeskSession DeviceState) → Ready t w i p id session → IsUnderWay (t.system.job i).client.stage → UnsaidAt t i (core_context w.daemon session) (t.system.job i).todo → CutIn w i (t.jobs i)
+cut_there : (t : Ghost) (w : WorldCore) (i : ℕ) (p : Endpoint) (id : SessionId) (session : RequestSession DeviceState) → Ready t w i p id session → IsUnderWay (t.system.job i).client.stage → UnsaidAt t i (core_context w.daemon session) (t.system.job i).todo → CutIn w i (t.jobs i)
 cut_there t w i p id session r on u =
     let waits = waits_there t w i u.next u.later r.stands on u.todo_is in
     let one : waits.0 ≡ p = unsome waits.0 p (sym waits.1 ∙ r.at) in
@@ -231,7 +231,7 @@ cut_there t w i p id session r on u =
       id = id;
       linked = r.link;
       session = session;
-      stands = ap session_in r.seat_is ∙ r.going;
+      stands = ap session_in r.slot_is ∙ r.going;
       request = u.request;
       known = (t.system.job i).client.known;
       asked = u.next;
@@ -252,7 +252,7 @@ broken_fails F i true s f = tt
 broken_fails F i false s f = f refl
 
 -- and of a session that is over behind it
-fails_off : (t : Ghost) (w : WorldCore) (i : ℕ) (p : Endpoint) (id : SessionId) (session : DeskSession DeviceState) (e : Core) (context : RequestContext) (chances : List Chance) (steps : List Transition) (memory : Bool) (asked later : List AbstractRequest) → Ready t w i p id session → length chances ≡ length asked → (t.system.job i).todo ≡ asked ++ later →
+fails_off : (t : Ghost) (w : WorldCore) (i : ℕ) (p : Endpoint) (id : SessionId) (session : RequestSession DeviceState) (e : Core) (context : RequestContext) (chances : List Chance) (steps : List Transition) (memory : Bool) (asked later : List AbstractRequest) → Ready t w i p id session → length chances ≡ length asked → (t.system.job i).todo ≡ asked ++ later →
     ((q : AbstractRequest) → (t.system.job i).todo ≡ q ∷ [] → IsCountedAlone (core_context w.daemon session) chances context) → e.registry ≡ daemon.table_let_go context → ((memory ≡ false) × (steps ≡ answers i chances)) ⊎ (IsCutShort memory t.users t.infos (t.jobs i) × (steps ≡ answers i chances ++ broken i memory ∷ [])) →
     (memory ≡ false → (steps ≡ answers i chances) ⊎ (IsUnderWay (t.system.job i).client.stage → UnsaidAt t i (core_context w.daemon session) (t.system.job i).todo)) → AllAlong (FailsIn t w e) t.system steps
 fails_off t w i p id session e context chances steps memory asked later r count are counted back is cut = by_steps is
@@ -282,7 +282,7 @@ fails_off t w i p id session e context chances steps memory asked later r count 
 -- ---- the session goes on
 
 -- what the daemon's contract says of it
-record IsFedOn (t : Ghost) (w : WorldCore) (n i : ℕ) (id : SessionId) (session : DeskSession DeviceState) (e : Core) (context : RequestContext) (rest text : List ℕ) : Type 0 where
+record IsFedOn (t : Ghost) (w : WorldCore) (n i : ℕ) (id : SessionId) (session : RequestSession DeviceState) (e : Core) (context : RequestContext) (rest text : List ℕ) : Type 0 where
   others : e ≡ record w.daemon { slots = e.slots; registry = e.registry; stream = e.stream }
   slots : e.slots ≡ on_session_slot (slot_or_none_after_feed Standing context rest text) id.number w.daemon.slots
   registry : e.registry ≡ context.registry
@@ -298,7 +298,7 @@ session_on e context i make n device s stands registry stream shows begun =
       begun = begun;
     }
 
-goes_on : (t : Ghost) (w : WorldCore) (i n : ℕ) (p : Endpoint) (id : SessionId) (session : DeskSession DeviceState) (e : Core) (context : RequestContext) (rest text : List ℕ) → Ready t w i p id session → GhostCan t i (events.ToDaemon n) → IsFedOn t w n i id session e context rest text →
+goes_on : (t : Ghost) (w : WorldCore) (i n : ℕ) (p : Endpoint) (id : SessionId) (session : RequestSession DeviceState) (e : Core) (context : RequestContext) (rest text : List ℕ) → Ready t w i p id session → GhostCan t i (events.ToDaemon n) → IsFedOn t w n i id session e context rest text →
     GhostLeads (events.ToDaemon n) (Counting (AnswersSome n) w e) t i (record { daemon = e; endpoints = slice_set w.endpoints i (world.without_sent n p) })
 goes_on t w i n p id session e context rest text r can f =
     let h = r.stands in
@@ -308,7 +308,7 @@ goes_on t w i n p id session e context rest text r can f =
     let g = f.feeds in
     let so = g.so_far in
     let c = cut_piece (t.jobs i) me.client me.todo x.asking x.up n so.requests so.reads.text rest r.spells so.reads.whole so.reads.spelled in
-    let ran = run_all t i r.one t.system (core_context w.daemon session) context so.requests c.first c.others so.told r.desked c.are c.of_first so.answers in
+    let ran = run_all t i r.one t.system (core_context w.daemon session) context so.requests c.first c.others so.told r.in_context c.are c.of_first so.answers in
     let steps = answers i ran.chances in
     let s = after_all t.system steps in
     let now = s.job i in
@@ -317,14 +317,14 @@ goes_on t w i n p id session e context rest text r can f =
     let up = bytes_not_delivered n x.up in
     let down = x.down ++ text in
     let u = wired_then t i steps (fed_wires up rest down x) in
-    let there = ap (λ (ss : Seats). session_slot_of ss id.number) f.slots ∙ seat_on context rest text id.number w.daemon.slots r.slot r.seat_is in
+    let there = ap (λ (ss : TakesSlot). session_slot_of ss id.number) f.slots ∙ slot_on context rest text id.number w.daemon.slots r.slot r.slot_is in
     let session_there : session_in (session_slot_of e.slots id.number) ≡ Some context.session = ap session_in there in
-    let shows = subst (λ (m : ℕ → Make). ContextRefines i m context s.device (session_by i s.device now)) stay.make ran.desked.shows in
+    let shows = subst (λ (m : ℕ → Make). ContextRefines i m context s.device (session_by i s.device now)) stay.make ran.in_context.shows in
     let count : length ran.chances ≡ length c.first = ran.count ∙ same_count (t.jobs i) me.client so.requests c.first c.of_first in
-    let fails = fails_here t w i p id session e context ran.chances c.first c.others r count c.are (λ q only. counted_alone (core_context w.daemon session) context ran.chances (holds_well i s.make context.session.held context.registry s.device ran.desked.shows.devices) ran.counted) (inl session_there) in
+    let fails = fails_here t w i p id session e context ran.chances c.first c.others r count c.are (λ q only. counted_alone (core_context w.daemon session) context ran.chances (holds_well i s.make context.session.held context.registry s.device ran.in_context.shows.devices) ran.counted) (inl session_there) in
     done (events.ToDaemon n) (Counting (AnswersSome n) w e) t i _ steps u can (
       GoesOn c.first rest text (record { text = so.reads.text; whole = so.reads.whole; spelled = c.spelled; later = c.others; first = c.are }) g.wants
-          (record { chances = ran.chances; count = count; steps_are = refl }) (record { legal = ran.legal; then_is = refl }) ran.desked.served,
+          (record { chances = ran.chances; count = count; steps_are = refl }) (record { legal = ran.legal; then_is = refl }) ran.in_context.served,
       fails,
     )
     (fed_stands t w i p (world.without_sent n p) id e steps up rest down out h r.at r.low r.link (record {
@@ -335,15 +335,15 @@ goes_on t w i n p id session e context rest text r can f =
         sent = record { client = refl; task = refl; file = refl; pages = refl; finished = refl; was_connected = refl; out_of_memory = inl refl };
         link = refl;
         image = refl;
-        over = own_waits t w i p id session r ∙ ap not (sym ran.desked.served);
+        over = own_waits t w i p id session r ∙ ap not (sym ran.in_context.served);
       };
       input = ap input_in there;
       replies = ap replies_in there ∙ ap (λ (b : List ℕ). b ++ text) (waits_is t w i p id session r);
-      served = subst (λ (b : Bool). IsServed i t.system.make e (Some id) b s.device (session_by i s.device now)) (sym ran.desked.served) (session_on e context i t.system.make id.number s.device (session_by i s.device now) session_there f.registry f.stream shows ran.desked.begun);
-      leaves = leaves_fed i t.system.make w.daemon e id t.system.device s.device Standing context rest text context.registry f.others f.slots f.registry h.slots h.faithful (sym ran.desked.infos ∙ h.is_of.infos) ran.desked.lying ran.desked.held context.session.held shows.devices ran.others;
-      reseats = reseats_fed Standing context rest text (Some id) w.daemon e id.number f.slots;
-      begun = subst (λ (m : ℕ → Make). AreStartedViews m now) stay.make ran.desked.started;
-      speaks = subst (λ (o : Option (DeskSession DeviceState)). Speaks (t.jobs i).device now o) (sym session_there) ran.desked.speaks;
+      served = subst (λ (b : Bool). IsServed i t.system.make e (Some id) b s.device (session_by i s.device now)) (sym ran.in_context.served) (session_on e context i t.system.make id.number s.device (session_by i s.device now) session_there f.registry f.stream shows ran.in_context.begun);
+      leaves = leaves_fed i t.system.make w.daemon e id t.system.device s.device Standing context rest text context.registry f.others f.slots f.registry h.slots h.faithful (sym ran.in_context.infos ∙ h.is_of.infos) ran.in_context.lying ran.in_context.held context.session.held shows.devices ran.others;
+      replaces = replaces_fed Standing context rest text (Some id) w.daemon e id.number f.slots;
+      begun = subst (λ (m : ℕ → Make). AreStartedViews m now) stay.make ran.in_context.started;
+      speaks = subst (λ (o : Option (RequestSession DeviceState)). Speaks (t.jobs i).device now o) (sym session_there) ran.in_context.speaks;
       waits = subst (WaitsQuietly p.client.progress) (sym ran.todo) (waits_behind p.client.progress c.first c.others (subst (WaitsQuietly p.client.progress) c.are sits.waits));
       pending = no_request_wants rest g.wants;
       means = record {
@@ -352,7 +352,7 @@ goes_on t w i n p id session e context rest text r can f =
         image = stay.own.image;
         flight = stay.own.flight;
         ending = stay.own.ending;
-        calm = λ off. absurd (let clash : true ≡ false = sym ran.desked.served ∙ off in cc);
+        calm = λ off. absurd (let clash : true ≡ false = sym ran.in_context.served ∙ off in cc);
         unended = stay.own.unended sits.means.unended;
         alive = r.alive;
         up = λ _. subst (λ (m : ClientView). SpellsAsked (t.jobs i) m now.todo (rest ++ up)) (sym stay.own.client) (subst (λ (qs : List AbstractRequest). SpellsAsked (t.jobs i) me.client qs (rest ++ up)) (sym ran.todo) c.still);
@@ -382,7 +382,7 @@ record IsOverPost (n : ℕ) (memory : Bool) (old new : Endpoint) : Type 0 where
   starved : memory ≡ true → new.out_of_memory ≡ true
   still : memory ≡ false → new.out_of_memory ≡ old.out_of_memory
 
-off_so : (t : Ghost) (w : WorldCore) (i n : ℕ) (p q : Endpoint) (id : SessionId) (session : DeskSession DeviceState) (e : Core) (fed : Fed) (context : RequestContext) (rest text down : List ℕ) (steps : List Transition) (memory : Bool) → Ready t w i p id session → IsFedOff t w id e fed context rest text → IsOverPost n memory p q →
+off_so : (t : Ghost) (w : WorldCore) (i n : ℕ) (p q : Endpoint) (id : SessionId) (session : RequestSession DeviceState) (e : Core) (fed : Fed) (context : RequestContext) (rest text down : List ℕ) (steps : List Transition) (memory : Bool) → Ready t w i p id session → IsFedOff t w id e fed context rest text → IsOverPost n memory p q →
     Closed t i t.system (core_context w.daemon session) steps memory context → left_down fed (t.wires i).down text ≡ down → (IsUnderWay (t.system.job i).client.stage → (t.wires i).telling ++ down ≡ []) →
     FedSo t w i p q id e steps (bytes_not_delivered n (t.wires i).up) [] down (bytes_not_delivered n p.client.out)
 off_so t w i n p q id session e fed context rest text down steps memory r f endpoint c down_is silent =
@@ -392,11 +392,11 @@ off_so t w i n p q id session e fed context rest text down steps memory r f endp
     let x = t.wires i in
     let s = after_all t.system steps in
     let now = s.job i in
-    let over = seat_over fed context rest text id.number w.daemon.slots r.slot f.off h.slots_are.apart r.seat_is in
-    let there : session_slot_of e.slots id.number ≡ session_slot_of (on_session_slot (slot_or_none_after_feed fed context rest text) id.number w.daemon.slots) id.number = ap (λ (ss : Seats). session_slot_of ss id.number) f.slots in
+    let over = slot_over fed context rest text id.number w.daemon.slots r.slot f.off h.slots_are.apart r.slot_is in
+    let there : session_slot_of e.slots id.number ≡ session_slot_of (on_session_slot (slot_or_none_after_feed fed context rest text) id.number w.daemon.slots) id.number = ap (λ (ss : TakesSlot). session_slot_of ss id.number) f.slots in
     let none : session_in (session_slot_of e.slots id.number) ≡ None = ap session_in there ∙ over.session in
-    let way : (p.client.progress ≡ stages.Over) ⊎ IsUnderWay now.client.stage = way_or p.client.outcome p.client.progress now.client.stage (is_running p.client.outcome) refl sits.talks.over
-    (λ runs. subst (λ (m : ClientView). IsUnderWay m.stage) (sym c.keeps.client) (runs_under (place_of_info t.infos) (target_of (t.jobs i)) me.session.job (map (λ (y : JoinHistory). y.ended) (t.pages i)) (protocol_of p.client (t.history i)) me.client sits.talks.reads runs)) in
+    let way : (p.client.progress ≡ stages.Over) ⊎ IsUnderWay now.client.stage = way_or p.client.outcome p.client.progress now.client.stage (is_running p.client.outcome) refl sits.exchanges.over
+    (λ runs. subst (λ (m : ClientView). IsUnderWay m.stage) (sym c.keeps.client) (runs_under (place_of_info t.infos) (target_of (t.jobs i)) me.session.job (map (λ (y : JoinHistory). y.ended) (t.pages i)) (protocol_of p.client (t.history i)) me.client sits.exchanges.reads runs)) in
     record {
       legal = c.legal;
       keeps = c.keeps;
@@ -406,10 +406,10 @@ off_so t w i n p q id session e fed context rest text down steps memory r f endp
       replies = ap replies_in there ∙ (over.replies ∙ (ap (λ (b : List ℕ). left_down fed b text) (waits_is t w i p id session r) ∙ down_is));
       served = subst (λ (b : Bool). IsServed i t.system.make e (Some id) b s.device (session_by i s.device now)) (sym c.served) (none, subst (λ (y : Table). TableRefines i t.system.make [] y s.device) (sym f.registry) c.back);
       leaves = leaves_fed i t.system.make w.daemon e id t.system.device s.device fed context rest text (daemon.table_let_go context) f.others f.slots f.registry h.slots h.faithful (sym c.infos ∙ h.is_of.infos) c.lying (true_off fed context f.off) [] c.back c.others;
-      reseats = reseats_fed fed context rest text (Some id) w.daemon e id.number f.slots;
+      replaces = replaces_fed fed context rest text (Some id) w.daemon e id.number f.slots;
       begun = c.started;
-      speaks = subst (λ (o : Option (DeskSession DeviceState)). Speaks (t.jobs i).device now o) (sym none) tt;
-      waits = waits_ended i (make_for s i) now (device_for s i) p.client.progress me.todo ((sound_after_all t.system steps h.sound c.legal).talks i) c.served way sits.waits;
+      speaks = subst (λ (o : Option (RequestSession DeviceState)). Speaks (t.jobs i).device now o) (sym none) tt;
+      waits = waits_ended i (make_for s i) now (device_for s i) p.client.progress me.todo ((sound_after_all t.system steps h.sound c.legal).exchanges i) c.served way sits.waits;
       pending = no_request_none;
       means = record {
         client = c.keeps.client;
@@ -441,11 +441,11 @@ off_so t w i n p q id session e fed context rest text down steps memory r f endp
 assoc_down : (a b c : List ℕ) → (a ++ b) ++ c ≡ [] → a ++ (b ++ c) ≡ []
 assoc_down a b c e = sym (append_assoc a b c) ∙ e
 
-goes_off : (t : Ghost) (w : WorldCore) (i n : ℕ) (p : Endpoint) (id : SessionId) (session : DeskSession DeviceState) (e : Core) (context : RequestContext) (rest text : List ℕ) → Ready t w i p id session → GhostCan t i (events.ToDaemon n) → IsFedOff t w id e Over context rest text →
+goes_off : (t : Ghost) (w : WorldCore) (i n : ℕ) (p : Endpoint) (id : SessionId) (session : RequestSession DeviceState) (e : Core) (context : RequestContext) (rest text : List ℕ) → Ready t w i p id session → GhostCan t i (events.ToDaemon n) → IsFedOff t w id e Over context rest text →
     daemon.FeedsOver (record { users = t.users; context = core_context w.daemon session; before = (t.wires i).asking; piece = delivered_bytes n (t.wires i).up }) context text → GhostLeads (events.ToDaemon n) (Counting (AnswersSome n) w e) t i (record { daemon = e; endpoints = slice_set w.endpoints i (after_fed Over (world.without_sent n p)) })
 goes_off t w i n p id session e context rest text r can f g =
     let x = t.wires i in
-    let o = is_over t i (core_context w.daemon session) context x.asking x.up n text r.one r.desked r.may r.spells g in
+    let o = is_over t i (core_context w.daemon session) context x.asking x.up n text r.one r.in_context r.may r.spells g in
     let a = o.parts in
     let q = after_fed Over (world.without_sent n p) in
     let up = bytes_not_delivered n x.up in
@@ -456,7 +456,7 @@ goes_off t w i n p id session e context rest text r can f g =
     λ under. assoc_down x.telling x.down text (o.silent under (map (λ (y : JoinHistory). y.ended) (t.pages i)) (protocol_of p.client (t.history i)) r.reads (r.stands.endpoints i p r.at).waits (x.telling ++ x.down) (due_is t w i p id session r under)) in
     let completes : Completes t i n a.asked a.rest = record { text = a.text; whole = a.whole; spelled = a.spelled; later = a.later; first = a.are } in
     let fails = fails_off t w i p id session e context a.chances a.steps false a.asked a.later r a.count a.are a.counted f.registry a.steps_are a.cut in
-    done (events.ToDaemon n) (Counting (AnswersSome n) w e) t i _ a.steps u can (by_steps t i n a.asked a.rest a.steps a.chances text completes a.count a.closed.legal r.desked.served a.closed.served a.steps_are, fails)
+    done (events.ToDaemon n) (Counting (AnswersSome n) w e) t i _ a.steps u can (by_steps t i n a.asked a.rest a.steps a.chances text completes a.count a.closed.legal r.in_context.served a.closed.served a.steps_are, fails)
     (fed_stands t w i p q id e a.steps up [] down (bytes_not_delivered n p.client.out) r.stands r.at r.low r.link (off_so t w i n p q id session e Over context rest text down a.steps false r f endpoint a.closed refl silent))
   where
     by_steps : (t : Ghost) (i n : ℕ) (request_awaited : List AbstractRequest) (rest : List ℕ) (steps : List Transition) (chances : List Chance) (text : List ℕ) → Completes t i n request_awaited rest → length chances ≡ length request_awaited → IsHistory t.system steps → (t.system.job i).served ≡ true → ((after_all t.system steps).job i).served ≡ false →
@@ -464,11 +464,11 @@ goes_off t w i n p id session e context rest text r can f g =
     by_steps t i n request_awaited rest steps chances text completes count legal on off (inl is) = IsOver request_awaited rest text completes (record { chances = chances; count = count; steps_are = is.1 }) (record { legal = legal; then_is = refl }) on off
     by_steps t i n request_awaited rest steps chances text completes count legal on off (inr is) = BreaksOff false request_awaited rest text (answers i chances) completes (record { chances = chances; count = count; steps_are = refl }) is.0 is.1 (record { legal = legal; then_is = refl })
 
-goes_without : (t : Ghost) (w : WorldCore) (i n : ℕ) (p : Endpoint) (id : SessionId) (session : DeskSession DeviceState) (e : Core) (context : RequestContext) (rest text : List ℕ) → Ready t w i p id session → GhostCan t i (events.ToDaemon n) → IsFedOff t w id e Starved context rest text →
+goes_without : (t : Ghost) (w : WorldCore) (i n : ℕ) (p : Endpoint) (id : SessionId) (session : RequestSession DeviceState) (e : Core) (context : RequestContext) (rest text : List ℕ) → Ready t w i p id session → GhostCan t i (events.ToDaemon n) → IsFedOff t w id e Starved context rest text →
     daemon.FeedOutOfMemory (record { users = t.users; context = core_context w.daemon session; before = (t.wires i).asking; piece = delivered_bytes n (t.wires i).up }) context → GhostLeads (events.ToDaemon n) (Counting (AnswersSome n) w e) t i (record { daemon = e; endpoints = slice_set w.endpoints i (after_fed Starved (world.without_sent n p)) })
 goes_without t w i n p id session e context rest text r can f g =
     let x = t.wires i in
-    let a = is_starved t i (core_context w.daemon session) context x.asking x.up n r.one r.desked r.may r.spells g in
+    let a = is_starved t i (core_context w.daemon session) context x.asking x.up n r.one r.in_context r.may r.spells g in
     let q = after_fed Starved (world.without_sent n p) in
     let up = bytes_not_delivered n x.up in
     let endpoint : IsOverPost n true p q = record { sent = record { client = refl; task = refl; file = refl; pages = refl; finished = refl; was_connected = refl; out_of_memory = inr refl }; link = refl; image = refl; over = refl; starved = λ _. refl; still = λ nay. absurd (let clash : true ≡ false = nay in cc) } in
@@ -490,13 +490,13 @@ alive_at : (t : Ghost) (i : ℕ) (p : Endpoint) (id : SessionId) → p.link ≡ 
 alive_at t i p id link idle before e = let clash : None ≡ Some id = sym (before (idle e)) ∙ link in absurd (cc)
 
 alive_by : (t : Ghost) (w : WorldCore) (i : ℕ) (p : Endpoint) (id : SessionId) → WorldRefines t w → slice_get w.endpoints i ≡ Some p → p.link ≡ Some id → (t.system.job i).client.stage ≡ Idle → ⊥
-alive_by t w i p id h at link = let s = h.endpoints i p at in alive_at t i p id link s.talks.idle (λ nay. (s.means.before nay).0)
+alive_by t w i p id h at link = let s = h.endpoints i p at in alive_at t i p id link s.exchanges.idle (λ nay. (s.means.before nay).0)
 
-seat_there : (o : Option (SessionSlot DeviceState)) (session : DeskSession DeviceState) → (p : Option (SessionSlot DeviceState)) → p ≡ o → session_in p ≡ Some session → (slot : SessionSlot DeviceState) × (p ≡ Some slot) × (slot.session ≡ Some session)
-seat_there o session None is e = absurd (let clash : None ≡ Some session = e in cc)
-seat_there o session (Some slot) is e = (slot, refl, e)
+slot_there : (o : Option (SessionSlot DeviceState)) (session : RequestSession DeviceState) → (p : Option (SessionSlot DeviceState)) → p ≡ o → session_in p ≡ Some session → (slot : SessionSlot DeviceState) × (p ≡ Some slot) × (slot.session ≡ Some session)
+slot_there o session None is e = absurd (let clash : None ≡ Some session = e in cc)
+slot_there o session (Some slot) is e = (slot, refl, e)
 
-held_of : (slot : SessionSlot DeviceState) (session : DeskSession DeviceState) → slot.session ≡ Some session → IsFaithfulSessionSlot (Some slot) → AllByRecursion IsFaithfulLease session.held
+held_of : (slot : SessionSlot DeviceState) (session : RequestSession DeviceState) → slot.session ≡ Some session → IsFaithfulSessionSlot (Some slot) → AllByRecursion IsFaithfulLease session.held
 held_of slot session is h = subst IsFaithfulSession is h
 
 -- ---- it was over before
@@ -523,7 +523,7 @@ was_over t w i n p id e h at low link can off same =
       replies = ap (λ (o : Option SessionId). replies_in (slot_of_link w.daemon o)) (sym link) ∙ s.carries.down;
       served = served;
       leaves = subst (λ (o : Option SessionId). Leaves i t.system.make o w.daemon w.daemon t.system.device t.system.device) link (leaves_core t w i p t.system.device h at (λ k. refl));
-      reseats = reseats_same (Some id) w.daemon;
+      replaces = replaces_same (Some id) w.daemon;
       begun = h.begun i;
       speaks = subst (λ (o : Option SessionId). Speaks (t.jobs i).device me (session_in (slot_of_link w.daemon o))) link s.speaks;
       waits = s.waits;
@@ -546,17 +546,17 @@ was_over t w i n p id e h at low link can off same =
 
 -- ---- the event
 
-ready : (t : Ghost) (w : WorldCore) (i n : ℕ) (p : Endpoint) (id : SessionId) → WorldRefines t w → slice_get w.endpoints i ≡ Some p → i < t.count → p.link ≡ Some id → OneRequest t i → GhostCan t i (events.ToDaemon n) → (t.system.job i).served ≡ true → (session : DeskSession DeviceState) × Ready t w i p id session
+ready : (t : Ghost) (w : WorldCore) (i n : ℕ) (p : Endpoint) (id : SessionId) → WorldRefines t w → slice_get w.endpoints i ≡ Some p → i < t.count → p.link ≡ Some id → OneRequest t i → GhostCan t i (events.ToDaemon n) → (t.system.job i).served ≡ true → (session : RequestSession DeviceState) × Ready t w i p id session
 ready t w i n p id h at low link one can on =
     let s = h.endpoints i p at in
     let me = t.system.job i in
     let x = t.wires i in
     let served = subst (λ (o : Option SessionId). IsServed i t.system.make w.daemon o me.served t.system.device (session_by i t.system.device me)) link s.served in
     let shows : SessionRefines i t.system.make w.daemon id.number t.system.device (session_by i t.system.device me) = subst (λ (b : Bool). IsServed i t.system.make w.daemon (Some id) b t.system.device (session_by i t.system.device me)) on served in
-    let slot = seat_there (session_slot_of w.daemon.slots id.number) shows.session (session_slot_of w.daemon.slots id.number) refl shows.stands in
+    let slot = slot_there (session_slot_of w.daemon.slots id.number) shows.session (session_slot_of w.daemon.slots id.number) refl shows.stands in
     let spells = s.means.up on in
     let some = asks_some (t.jobs i) me.client me.todo x.asking x.up can.1 spells in
-    let lent = subst IsFaithfulSessionSlot slot.1 (seat_all IsFaithfulSessionSlot w.daemon.slots id.number tt h.faithful.lent) in (
+    let lent = subst IsFaithfulSessionSlot slot.1 (slot_all IsFaithfulSessionSlot w.daemon.slots id.number tt h.faithful.lent) in (
       shows.session,
       record {
         stands = h;
@@ -564,7 +564,7 @@ ready t w i n p id h at low link one can on =
         low = low;
         link = link;
         one = one;
-        desked = record {
+        in_context = record {
           shows = shows.shows;
           begun = shows.begun;
           job_is = s.job_is;
@@ -580,20 +580,20 @@ ready t w i n p id h at low link one can on =
           served = on;
         };
         slot = slot.0;
-        seat_is = slot.1;
+        slot_is = slot.1;
         going = slot.2;
         next = some.0;
         others = some.1;
         todo = some.2;
-        may = may_break i (make_for t.system i) me (device_for t.system i) me.client.stage some.0 some.1 some.2 (h.sound.talks i);
+        may = may_break i (make_for t.system i) me (device_for t.system i) me.client.stage some.0 some.1 some.2 (h.sound.exchanges i);
         alive = alive_by t w i p id h at link;
         spells = spells;
         some = can.1;
-        reads = s.talks.reads;
+        reads = s.exchanges.reads;
       },
     )
 
-by_fed : (t : Ghost) (w : WorldCore) (i n : ℕ) (p : Endpoint) (id : SessionId) (session : DeskSession DeviceState) (fed : Fed) (e : Core) → Ready t w i p id session → GhostCan t i (events.ToDaemon n) → e ≡ record w.daemon { slots = e.slots; registry = e.registry; stream = e.stream } →
+by_fed : (t : Ghost) (w : WorldCore) (i n : ℕ) (p : Endpoint) (id : SessionId) (session : RequestSession DeviceState) (fed : Fed) (e : Core) → Ready t w i p id session → GhostCan t i (events.ToDaemon n) → e ≡ record w.daemon { slots = e.slots; registry = e.registry; stream = e.stream } →
     FeedsIn session t.users id.number (t.wires i).asking w.daemon.slots w.daemon.registry w.daemon.stream (delivered_bytes n (t.wires i).up) fed e.slots e.registry e.stream → GhostLeads (events.ToDaemon n) (Counting (AnswersSome n) w e) t i (record { daemon = e; endpoints = slice_set w.endpoints i (after_fed fed (world.without_sent n p)) })
 by_fed t w i n p id session Standing e r can others g = goes_on t w i n p id session e g.context g.rest g.text r can (record { others = others; slots = g.slots_is; registry = g.registry_is; stream = g.stream_is; feeds = g.feeds })
 by_fed t w i n p id session Over e r can others g = goes_off t w i n p id session e g.context g.rest g.text r can (record { off = tt; others = others; slots = g.slots_is; registry = g.registry_is }) g.feeds
@@ -604,7 +604,7 @@ pub piece_leads : (t : Ghost) (w : WorldCore) (i n : ℕ) (p : Endpoint) (id : S
 piece_leads t w i n p id fed e true on h at low link one can g =
     let r = ready t w i n p id h at low link one can on in
     let s = h.endpoints i p at in
-    let stands : session_in (session_slot_of w.daemon.slots id.number) ≡ Some r.0 = ap session_in r.1.seat_is ∙ r.1.going in
+    let stands : session_in (session_slot_of w.daemon.slots id.number) ≡ Some r.0 = ap session_in r.1.slot_is ∙ r.1.going in
     let fed_in : FeedsIn r.0 w.daemon.users id.number (input_in (session_slot_of w.daemon.slots id.number)) w.daemon.slots w.daemon.registry w.daemon.stream (delivered_bytes n p.client.out) fed e.slots e.registry e.stream =
     feeds_in id.number w.daemon (delivered_bytes n p.client.out) fed e r.0 stands g in
     by_fed t w i n p id r.0 fed e r.1 can g.others.rest

@@ -29,7 +29,7 @@ use Rattle.world_refines.specs.GhostStates.{Ghost}
 use Rattle.world_refines.specs.Speaks.{SetsAsHeld, SpeaksAs, WaitsQuietly}
 use Rattle.world_refines.specs.WorldRefinement.{IsFaithfulLease, IsFaithfulPlace, info_at, session_by, AreStartedViews}
 use Rattle.world_refines.proofs.requests.Asked.{IsSession, free_elsewhere}
-use Rattle.world_refines.proofs.requests.Folding.{AnswersOne, Desked, IsReadAs, OneRequest, Replied, answers_to, legal_answer}
+use Rattle.world_refines.proofs.requests.Folding.{AnswersOne, InContext, IsReadAs, OneRequest, Replied, answers_to, legal_answer}
 use Rattle.world_refines.proofs.state.Held.{held_after_all}
 use Rattle.world_refines.proofs.requests.PlainAnswers.{Ends, IsTold, answer_ends}
 use Rattle.world_refines.proofs.requests.Replied.{Answering, IsAnswered, answers_as}
@@ -98,7 +98,7 @@ pub record Rest (t : Ghost) (i : ℕ) (s : SystemState) (d : RequestContext) (q 
   pub replied : session_goes_on said ≡ true → IsUnderWay (s.job i).client.stage → (pages : List (List Frame)) (protocol : ProtocolState) → IsReadAs t i s pages protocol → WaitsQuietly protocol.progress (s.job i).todo → Replied t i s (after_transition s (answers_to i challenge fault)) protocol.progress said
   pub cut : IsUnderWay (s.job i).client.stage → (before behind : List Wire) (reply : Wire) → replies_to said ≡ before ++ reply ∷ behind → IsUnsaid reply → before ≡ []
 
-pub one_by : (t : Ghost) (i : ℕ) (s : SystemState) (d new : RequestContext) (q : Asked) (r : AbstractRequest) (rest : List AbstractRequest) (said : RequestAnswer) (challenge : Challenge) (fault : Option FailureCounts) → Desked t i s d → (s.job i).todo ≡ r ∷ rest → IsRequest (target_of (t.jobs i)) 0 (s.job i).client.known q r → Answers t.users d q said new →
+pub one_by : (t : Ghost) (i : ℕ) (s : SystemState) (d new : RequestContext) (q : Asked) (r : AbstractRequest) (rest : List AbstractRequest) (said : RequestAnswer) (challenge : Challenge) (fault : Option FailureCounts) → InContext t i s d → (s.job i).todo ≡ r ∷ rest → IsRequest (target_of (t.jobs i)) 0 (s.job i).client.known q r → Answers t.users d q said new →
     IsAnswered i s.make (listed_devices s) (t.jobs i).device s.device (s.job i) d q r said new challenge fault → Rest t i s d q r said new challenge fault → AnswersOne t i s d said new
 one_by t i s d new q r rest said challenge fault h e is g a more =
     let p = s.job i in
@@ -145,7 +145,7 @@ one_by t i s d new q r rest said challenge fault h e is g a more =
     }
 
 -- each request, where the rest is so
-pub one_request : (t : Ghost) (i : ℕ) → ((s : SystemState) (d new : RequestContext) (q : Asked) (r : AbstractRequest) (rest : List AbstractRequest) (said : RequestAnswer) → Desked t i s d → (s.job i).todo ≡ r ∷ rest → IsRequest (target_of (t.jobs i)) 0 (s.job i).client.known q r → Answers t.users d q said new →
+pub one_request : (t : Ghost) (i : ℕ) → ((s : SystemState) (d new : RequestContext) (q : Asked) (r : AbstractRequest) (rest : List AbstractRequest) (said : RequestAnswer) → InContext t i s d → (s.job i).todo ≡ r ∷ rest → IsRequest (target_of (t.jobs i)) 0 (s.job i).client.known q r → Answers t.users d q said new →
     (a : Answering i s.make (listed_devices s) (t.jobs i).device s.device (s.job i) d q r said new) → Rest t i s d q r said new a.0 a.1) → OneRequest t i
 one_request t i more s d new q r rest said h e is g =
     let as_held : SetsAsHeld i (make_for s i) (s.job i).client.known (device_for s i) (r ∷ rest) = subst (λ (qs : List AbstractRequest). SetsAsHeld i (make_for s i) (s.job i).client.known (device_for s i) qs) e (h.asks i) in

@@ -39,7 +39,7 @@ use Rattle.world_refines.proofs.requests.AnswersKeep.{stays}
 use Rattle.world_refines.proofs.state.Waiting.{waits_less}
 
 -- the request context is the session of job i's client by the model
-pub record Desked (t : Ghost) (i : ℕ) (s : SystemState) (d : RequestContext) : Type 0 where
+pub record InContext (t : Ghost) (i : ℕ) (s : SystemState) (d : RequestContext) : Type 0 where
   pub shows : ContextRefines i s.make d s.device (session_by i s.device (s.job i))
   pub begun : IsSessionBegun d
   pub job_is : (s.job i).session.job ≡ abstract_job t.users t.infos (t.jobs i)
@@ -73,7 +73,7 @@ pub record AnswersOne (t : Ghost) (i : ℕ) (s : SystemState) (d : RequestContex
   pub fault : Option FailureCounts
   pub may : MayFail (make_for s i) fault
   pub counted : IsCounted d.session.held new.session.held 0 fault
-  pub on : session_goes_on said ≡ true → Desked t i (after_transition s (answers_to i challenge fault)) new
+  pub on : session_goes_on said ≡ true → InContext t i (after_transition s (answers_to i challenge fault)) new
   pub others : session_goes_on said ≡ true → LeavesOthers i d.registry new.registry s.device (after_transition s (answers_to i challenge fault)).device
   pub some_due : session_goes_on said ≡ true → ((after_transition s (answers_to i challenge fault)).job i).due ≢ []
   pub replied : session_goes_on said ≡ true → IsUnderWay (s.job i).client.stage → (pages : List (List Frame)) (protocol : ProtocolState) → IsReadAs t i s pages protocol → WaitsQuietly protocol.progress (s.job i).todo → Replied t i s (after_transition s (answers_to i challenge fault)) protocol.progress said
@@ -87,7 +87,7 @@ pub record AnswersOne (t : Ghost) (i : ℕ) (s : SystemState) (d : RequestContex
 
 abbrev pub OneRequest : Ghost → ℕ → Type 0
 OneRequest t i =
-    (s : SystemState) (d new : RequestContext) (q : Asked) (r : AbstractRequest) (rest : List AbstractRequest) (said : RequestAnswer) → Desked t i s d → (s.job i).todo ≡ r ∷ rest → IsRequest (target_of (t.jobs i)) 0 (s.job i).client.known q r → Answers t.users d q said new → AnswersOne t i s d said new
+    (s : SystemState) (d new : RequestContext) (q : Asked) (r : AbstractRequest) (rest : List AbstractRequest) (said : RequestAnswer) → InContext t i s d → (s.job i).todo ≡ r ∷ rest → IsRequest (target_of (t.jobs i)) 0 (s.job i).client.known q r → Answers t.users d q said new → AnswersOne t i s d said new
 
 -- ---- texts of replies
 
@@ -114,8 +114,8 @@ no_reply i k p dev (Running g) r rest u e (inr (inr h)) = h.due
 no_reply i k p dev Done r rest u e h = absurd u
 no_reply i k p dev (Ended status why) r rest u e h = absurd u
 
-pub due_none : (t : Ghost) (i : ℕ) (s : SystemState) (d : RequestContext) (r : AbstractRequest) (rest : List AbstractRequest) → Desked t i s d → IsUnderWay (s.job i).client.stage → (s.job i).todo ≡ r ∷ rest → (s.job i).due ≡ []
-due_none t i s d r rest h u e = no_reply i (make_for s i) (s.job i) (device_for s i) (s.job i).client.stage r rest u e (h.sound.talks i)
+pub due_none : (t : Ghost) (i : ℕ) (s : SystemState) (d : RequestContext) (r : AbstractRequest) (rest : List AbstractRequest) → InContext t i s d → IsUnderWay (s.job i).client.stage → (s.job i).todo ≡ r ∷ rest → (s.job i).due ≡ []
+due_none t i s d r rest h u e = no_reply i (make_for s i) (s.job i) (device_for s i) (s.job i).client.stage r rest u e (h.sound.exchanges i)
 
 pub spells_none : (t : Ghost) (progress : Progress) (due : List words.AbstractReply) (text : List ℕ) → due ≡ [] → SpellsReplies (place_of_info t.infos) progress due text → text ≡ []
 spells_none t progress due text e h = subst (λ (x : List words.AbstractReply). SpellsReplies (place_of_info t.infos) progress x text) e h
@@ -129,7 +129,7 @@ pub todo_after : (i : ℕ) (s : SystemState) (challenge : Challenge) (fault : Op
 todo_after i s challenge fault r rest e =
     ap (λ (p : JobState). p.todo) (party_answered i s challenge fault) ∙ ap (λ (x : List AbstractRequest). (answer_next i (make_for s i) (listed_devices s) (s.job i) (device_for s i) challenge fault x).todo) e ∙ ap without_first e
 
-pub legal_answer : (t : Ghost) (i : ℕ) (s : SystemState) (d : RequestContext) (challenge : Challenge) (fault : Option FailureCounts) (r : AbstractRequest) (rest : List AbstractRequest) → Desked t i s d → (s.job i).todo ≡ r ∷ rest → MayFail (make_for s i) fault → IsEnabled s (answers_to i challenge fault)
+pub legal_answer : (t : Ghost) (i : ℕ) (s : SystemState) (d : RequestContext) (challenge : Challenge) (fault : Option FailureCounts) (r : AbstractRequest) (rest : List AbstractRequest) → InContext t i s d → (s.job i).todo ≡ r ∷ rest → MayFail (make_for s i) fault → IsEnabled s (answers_to i challenge fault)
 legal_answer t i s d challenge fault r rest h e may = (h.served, λ none. absurd (let clash : [] ≡ r ∷ rest = sym none ∙ e in cc), may)
 
 -- ---- all of them
@@ -144,20 +144,20 @@ pub record Ran (t : Ghost) (i : ℕ) (s : SystemState) (d : RequestContext) (qs 
   pub count : length chances ≡ length qs
   pub legal : IsHistory s (answers i chances)
   pub counted : AreCounted d chances new
-  pub desked : Desked t i (after_all s (answers i chances)) new
+  pub in_context : InContext t i (after_all s (answers i chances)) new
   pub others : LeavesOthers i d.registry new.registry s.device (after_all s (answers i chances)).device
   pub todo : ((after_all s (answers i chances)).job i).todo ≡ later
   pub told_are : IsUnderWay (s.job i).client.stage → (pages : List (List Frame)) (protocol : ProtocolState) → IsReadAs t i s pages protocol → WaitsQuietly protocol.progress (s.job i).todo → (front text : List ℕ) → SpellsReplies (place_of_info t.infos) protocol.progress (s.job i).due front → SaysAll told text →
       SpellsReplies (place_of_info t.infos) protocol.progress ((after_all s (answers i chances)).job i).due (front ++ text)
 
-ran_none : (t : Ghost) (i : ℕ) (s : SystemState) (d new : RequestContext) (later : List AbstractRequest) (told : List Reply) → Desked t i s d → (s.job i).todo ≡ later → (told ≡ []) × (new ≡ d) → Ran t i s d [] later told new
+ran_none : (t : Ghost) (i : ℕ) (s : SystemState) (d new : RequestContext) (later : List AbstractRequest) (told : List Reply) → InContext t i s d → (s.job i).todo ≡ later → (told ≡ []) × (new ≡ d) → Ran t i s d [] later told new
 ran_none t i s d new later told h e g =
     record {
       chances = [];
       count = refl;
       legal = tt;
       counted = g.1;
-      desked = subst (Desked t i s) (sym g.1) h;
+      in_context = subst (InContext t i s) (sym g.1) h;
       others = subst (λ (x : RequestContext). LeavesOthers i d.registry x.registry s.device s.device) (sym g.1) (leaves_all i d.registry s.device);
       todo = e;
       told_are = λ u pages protocol reads waits front text spells says.
@@ -171,7 +171,7 @@ read_after t i s chance pages protocol h =
     subst (λ (m : ClientView). ClientRefines (place_of_info t.infos) (target_of (t.jobs i)) ((after_transition s (answers_to i chance.0 chance.1)).job i).session.job pages protocol (client_at_greeting m.stage m)) (sym own.client)
     (subst (λ (j : AbstractJob). ClientRefines (place_of_info t.infos) (target_of (t.jobs i)) j pages protocol (client_at_greeting (s.job i).client.stage (s.job i).client)) (sym own.job) h)
 
-ran_more : (t : Ghost) (i : ℕ) (s : SystemState) (d mid new : RequestContext) (q : Asked) (qs : List Asked) (r : AbstractRequest) (rest later : List AbstractRequest) (said : RequestAnswer) (more : List Reply) → Desked t i s d → (s.job i).todo ≡ r ∷ rest → session_goes_on said ≡ true → (one : AnswersOne t i s d said mid) →
+ran_more : (t : Ghost) (i : ℕ) (s : SystemState) (d mid new : RequestContext) (q : Asked) (qs : List Asked) (r : AbstractRequest) (rest later : List AbstractRequest) (said : RequestAnswer) (more : List Reply) → InContext t i s d → (s.job i).todo ≡ r ∷ rest → session_goes_on said ≡ true → (one : AnswersOne t i s d said mid) →
     Ran t i (after_transition s (answers_to i one.challenge one.fault)) mid qs later more new → Ran t i s d (q ∷ qs) later (replies_to said ++ more) new
 ran_more t i s d mid new q qs r rest later said more h e on one ran =
     let next = after_transition s (answers_to i one.challenge one.fault) in
@@ -182,7 +182,7 @@ ran_more t i s d mid new q qs r rest later said more h e on one ran =
       count = ap suc ran.count;
       legal = (legal_answer t i s d one.challenge one.fault r rest h e one.may, ran.legal);
       counted = (mid, one.counted, ran.counted);
-      desked = ran.desked;
+      in_context = ran.in_context;
       others = leaves_then i d.registry mid.registry new.registry s.device next.device (after_all next (answers i ran.chances)).device (one.others on) ran.others;
       todo = ran.todo;
       told_are = λ u pages protocol reads waits front text spells says.
@@ -203,7 +203,7 @@ ran_more t i s d mid new q qs r rest later said more h e on one ran =
 known_after : (i : ℕ) (s : SystemState) (chance : Chance) → ((after_transition s (answers_to i chance.0 chance.1)).job i).client.known ≡ (s.job i).client.known
 known_after i s chance = ap (λ (m : ClientView). m.known) (stays i s (chance ∷ [])).own.client
 
-pub run_all : (t : Ghost) (i : ℕ) → OneRequest t i → (s : SystemState) (d new : RequestContext) (qs : List Asked) (first later : List AbstractRequest) (told : List Reply) → Desked t i s d → (s.job i).todo ≡ first ++ later →
+pub run_all : (t : Ghost) (i : ℕ) → OneRequest t i → (s : SystemState) (d new : RequestContext) (qs : List Asked) (first later : List AbstractRequest) (told : List Reply) → InContext t i s d → (s.job i).todo ≡ first ++ later →
     AreRequests (target_of (t.jobs i)) qs (asks_of 0 (s.job i).client.known first) → AnswersAll t.users d qs told new → Ran t i s d qs later told new
 run_all t i one s d new [] [] later told h e are g = ran_none t i s d new later told h e g
 run_all t i one s d new [] (r ∷ first) later told h e are g = absurd are

@@ -34,7 +34,7 @@ use Rattle.world_refines.specs.Speaks.{WaitsQuietly}
 use Rattle.world_refines.specs.WorldRefinement.{client_at_greeting}
 use Rattle.world_refines.proofs.requests.AnswersKeep.{stays}
 use Rattle.world_refines.proofs.state.BegunTrue.{begun_sheets}
-use Rattle.world_refines.proofs.requests.Folding.{Desked, IsReadAs, OneRequest, Replied, answers_to, legal_answer, todo_after}
+use Rattle.world_refines.proofs.requests.Folding.{InContext, IsReadAs, OneRequest, Replied, answers_to, legal_answer, todo_after}
 use Rattle.world_refines.proofs.requests.Kinded.{AreFor, answer_for}
 use Rattle.world_refines.proofs.state.GhostClients.{run_is, under_runs}
 use Rattle.world_refines.proofs.replies.Offered.{IsAsking, authorize_free, comes_by, free_zero, is_asking, rests, told_one}
@@ -42,14 +42,14 @@ use Rattle.world_refines.proofs.requests.OneReply.{either_shape, open_reply, sai
 use Rattle.world_refines.proofs.requests.Replied.{IsAnswered, IsSaid}
 use Rattle.world_refines.proofs.requests.FoldedRequest.{KeepsTrue, one_request, own_init, party_is, served_now}
 use Rattle.world_refines.proofs.requests.Silent.{ends_silent}
-use Rattle.world_refines.proofs.state.StaysSteady.{IsTrueDesk, answers_keep}
+use Rattle.world_refines.proofs.state.StaysSteady.{IsTrueContext, answers_keep}
 
 -- ---- what it leaves
 
-keeps_true : (t : Ghost) (i : ℕ) (s : SystemState) (d : RequestContext) (q : Asked) (r : AbstractRequest) (said : RequestAnswer) (new : RequestContext) (challenge : Challenge) (fault : Option FailureCounts) → Desked t i s d → Answers t.users d q said new → KeepsTrue (make_for s i) d new (served_now i s r challenge fault)
+keeps_true : (t : Ghost) (i : ℕ) (s : SystemState) (d : RequestContext) (q : Asked) (r : AbstractRequest) (said : RequestAnswer) (new : RequestContext) (challenge : Challenge) (fault : Option FailureCounts) → InContext t i s d → Answers t.users d q said new → KeepsTrue (make_for s i) d new (served_now i s r challenge fault)
 keeps_true t i s d q r said new challenge fault h g =
     let keeps = answers_keep t.users d q said new g in
-    let own : IsTrueDesk d = record { lying = h.lying; lent = h.held } in
+    let own : IsTrueContext d = record { lying = h.lying; lent = h.held } in
     let still = keeps.stays own in
     record { infos = keeps.infos; held = still.lent; lying = still.lying; begun = begun_sheets i s.make (listed_devices s) d s.device (s.job i) r challenge fault h.shows own }
 
@@ -61,7 +61,7 @@ record OneTold (i : ℕ) (s : SystemState) (r : AbstractRequest) (challenge : Ch
   told : (served_now i s r challenge fault).told ≡ reply ∷ []
   due : ((after_transition s (answers_to i challenge fault)).job i).due ≡ (s.job i).due ++ reply ∷ []
 
-tells_one : (t : Ghost) (i : ℕ) (s : SystemState) (d new : RequestContext) (q : Asked) (r : AbstractRequest) (rest : List AbstractRequest) (said : RequestAnswer) (challenge : Challenge) (fault : Option FailureCounts) → Desked t i s d → (s.job i).todo ≡ r ∷ rest → IsAnswered i s.make (listed_devices s) (t.jobs i).device s.device (s.job i) d q r said new challenge fault → session_goes_on said ≡ true →
+tells_one : (t : Ghost) (i : ℕ) (s : SystemState) (d new : RequestContext) (q : Asked) (r : AbstractRequest) (rest : List AbstractRequest) (said : RequestAnswer) (challenge : Challenge) (fault : Option FailureCounts) → InContext t i s d → (s.job i).todo ≡ r ∷ rest → IsAnswered i s.make (listed_devices s) (t.jobs i).device s.device (s.job i) d q r said new challenge fault → session_goes_on said ≡ true →
     IsAsking i s r rest → OneTold i s r challenge fault
 tells_one t i s d new q r rest said challenge fault h e a on asking =
     let next = after_transition s (answers_to i challenge fault) in
@@ -81,7 +81,7 @@ tells_one t i s d new q r rest said challenge fault h e a on asking =
       due = one.1 ∙ ap (λ (x : List AbstractReply). x ++ one.0 ∷ []) (sym none);
     }
 
-replies_one : (t : Ghost) (i : ℕ) (s : SystemState) (d new : RequestContext) (q : Asked) (r : AbstractRequest) (rest : List AbstractRequest) (said : RequestAnswer) (challenge : Challenge) (fault : Option FailureCounts) → Desked t i s d → (s.job i).todo ≡ r ∷ rest → IsRequest (target_of (t.jobs i)) 0 (s.job i).client.known q r → Answers t.users d q said new →
+replies_one : (t : Ghost) (i : ℕ) (s : SystemState) (d new : RequestContext) (q : Asked) (r : AbstractRequest) (rest : List AbstractRequest) (said : RequestAnswer) (challenge : Challenge) (fault : Option FailureCounts) → InContext t i s d → (s.job i).todo ≡ r ∷ rest → IsRequest (target_of (t.jobs i)) 0 (s.job i).client.known q r → Answers t.users d q said new →
     IsAnswered i s.make (listed_devices s) (t.jobs i).device s.device (s.job i) d q r said new challenge fault → session_goes_on said ≡ true → IsUnderWay (s.job i).client.stage → (pages : List (List Frame)) (protocol : ProtocolState) → IsReadAs t i s pages protocol → WaitsQuietly protocol.progress (s.job i).todo →
     Replied t i s (after_transition s (answers_to i challenge fault)) protocol.progress said
 replies_one t i s d new q r rest said challenge fault h e is g a on u pages protocol reads waits =
@@ -100,7 +100,7 @@ replies_one t i s d new q r rest said challenge fault h e is g a on u pages prot
       reply = one.reply;
       due = one.due;
       comes = λ text says.
-          comes_by t i s d q r rest said one.reply text protocol.progress protocol.notes protocol.history (record { desked = h; asking = asking; is = is; for_it = kinds; shape = said_shape t.users d q said new g on; spelled = spelled; says = says })
+          comes_by t i s d q r rest said one.reply text protocol.progress protocol.notes protocol.history (record { in_context = h; asking = asking; is = is; for_it = kinds; shape = said_shape t.users d q said new g on; spelled = spelled; says = says })
           stands.1 stands.2 stands.0.descriptors (subst (WaitsQuietly protocol.progress) e waits);
     }
 
@@ -162,7 +162,7 @@ authorized : (target : _) (known : _) (resource user password : List ℕ) (r : A
 authorized target known resource user password (Authorize c) is = (c, refl)
 authorized target known resource user password r is = absurd is
 
-first_free : (t : Ghost) (i : ℕ) (s : SystemState) (d : RequestContext) (q : Asked) (r : AbstractRequest) (rest : List AbstractRequest) (resource user password : List ℕ) → Desked t i s d → IsAsking i s r rest → IsRequest (target_of (t.jobs i)) 0 (s.job i).client.known q r → q ≡ requests.Authorize resource user password → free_word d.session.held ≡ Some 0
+first_free : (t : Ghost) (i : ℕ) (s : SystemState) (d : RequestContext) (q : Asked) (r : AbstractRequest) (rest : List AbstractRequest) (resource user password : List ℕ) → InContext t i s d → IsAsking i s r rest → IsRequest (target_of (t.jobs i)) 0 (s.job i).client.known q r → q ≡ requests.Authorize resource user password → free_word d.session.held ≡ Some 0
 first_free t i s d q r rest resource user password h asking is same =
     let c = authorized (target_of (t.jobs i)) (s.job i).client.known resource user password r (subst (λ (x : Asked). IsRequest (target_of (t.jobs i)) 0 (s.job i).client.known x r) same is) in
     free_zero i s.make d s.device (s.job i) h.shows (authorize_free i (make_for s i) (s.job i).session (s.job i).client (device_for s i) asking.progress c.0 (asking.only ∙ ap (λ (x : AbstractRequest). x ∷ []) c.1) asking.asks.in_sync)
@@ -171,7 +171,7 @@ least_zero : (word : ℕ) (free : Option ℕ) → free ≡ Some 0 → (word ≡ 
 least_zero word free e (inl is) = is
 least_zero word free e (inr is) = let same : Some 0 ≡ Some word = sym e ∙ is in sym (let zero_is : 0 ≡ word = cc in zero_is)
 
-never_cut : (t : Ghost) (i : ℕ) (s : SystemState) (d new : RequestContext) (q : Asked) (r : AbstractRequest) (rest : List AbstractRequest) (said : RequestAnswer) (b : Bool) → session_goes_on said ≡ b → Desked t i s d → (s.job i).todo ≡ r ∷ rest → IsRequest (target_of (t.jobs i)) 0 (s.job i).client.known q r → Answers t.users d q said new → IsUnderWay (s.job i).client.stage →
+never_cut : (t : Ghost) (i : ℕ) (s : SystemState) (d new : RequestContext) (q : Asked) (r : AbstractRequest) (rest : List AbstractRequest) (said : RequestAnswer) (b : Bool) → session_goes_on said ≡ b → InContext t i s d → (s.job i).todo ≡ r ∷ rest → IsRequest (target_of (t.jobs i)) 0 (s.job i).client.known q r → Answers t.users d q said new → IsUnderWay (s.job i).client.stage →
     (before behind : List Wire) (reply : Wire) → replies_to said ≡ before ++ reply ∷ behind → IsUnsaid reply → before ≡ []
 never_cut t i s d new q r rest said false off h e is g u before behind reply at unsaid =
     nothing_front before behind reply (sym (ends_silent t.users d q said new (own_init (target_of (t.jobs i)) (s.job i).client.known q r is) g off) ∙ at)

@@ -27,7 +27,7 @@ use Rattle.system_model.specs.AbstractDevices.{AbstractDevice, is_held_by, is_re
 use Rattle.system_model.specs.Daemon.{TransferState, FailureCounts, AnswerEffect, reply_effect}
 use Rattle.system_model.specs.Actions.{job_after_answer, environment_of}
 use Rattle.system_model.specs.SystemStates.{JobState, with_entry}
-use Rattle.saned_requests.specs.declared.session.Session.{Session as DeskSession}
+use Rattle.saned_requests.specs.declared.session.Session.{Session as RequestSession}
 use Rattle.device_api.specs.State.{DeviceState}
 use Rattle.sane_fixed.specs.declared.device_info.DeviceInfo.{DeviceInfo}
 use Rattle.system_model.specs.AbstractSessions.{least_free_word as free_of, one_word_session, only_word}
@@ -72,7 +72,7 @@ Answering i make listed name device p d q r said new = (challenge : Challenge) �
 
 -- ---- where nothing is asked for
 
-speaks_as : (name : List ℕ) (p : JobState) (s : DeskSession DeviceState) → s.greeted ≡ true → s.awaited ≡ None → p.session.awaited ≡ None → SpeaksAs name p s
+speaks_as : (name : List ℕ) (p : JobState) (s : RequestSession DeviceState) → s.greeted ≡ true → s.awaited ≡ None → p.session.awaited ≡ None → SpeaksAs name p s
 speaks_as name p s greeted none sent =
     record { greeted = subst (λ (b : Bool). IsGreeted b p.todo) (sym greeted) tt; awaits = subst (λ (a : Option AwaitedAuthorization). Awaits name a p.session.awaited) (sym none) sent }
 

@@ -42,7 +42,7 @@ use Rattle.world_refines.specs.Wires.{SpellsAsked, SpellsReplies}
 use Rattle.world_refines.proofs.requests.Closing.{Closed, answers_then, breaks, breaks_behind_one, broken, closed_behind, ends_by_request}
 use Rattle.world_refines.proofs.requests.Cut.{asked_first, cut_at, not_garbled, taken_next}
 use Rattle.world_refines.specs.WorldRefinement.{session_by}
-use Rattle.world_refines.proofs.requests.Folding.{AnswersOne, AreCounted, Desked, IsReadAs, OneRequest, Ran, answers_to, due_none, run_all, spells_none}
+use Rattle.world_refines.proofs.requests.Folding.{AnswersOne, AreCounted, InContext, IsReadAs, OneRequest, Ran, answers_to, due_none, run_all, spells_none}
 use Rattle.world_refines.proofs.requests.AnswersKeep.{stays}
 use Rattle.world_refines.proofs.requests.Spelling.{spell_behind}
 use Rattle.world_refines.proofs.replies.Offered.{is_asking}
@@ -194,7 +194,7 @@ record OneMore (t : Ghost) (i : ℕ) (d mid : RequestContext) (todo : List Abstr
   count : length ran.chances ≡ length first
 
 -- what is held by a request context that is shown
-well_of : (t : Ghost) (i : ℕ) (s : Rules) (d : RequestContext) → Desked t i s d → HoldsWell d.registry d.session.held
+well_of : (t : Ghost) (i : ℕ) (s : Rules) (d : RequestContext) → InContext t i s d → HoldsWell d.registry d.session.held
 well_of t i s d h = holds_well i s.make d.session.held d.registry s.device h.shows.devices
 
 same_well : (mid new : RequestContext) → SameWords mid new → HoldsWell mid.registry mid.session.held → HoldsWell new.registry new.session.held
@@ -206,9 +206,9 @@ by_request t i d mid new todo came q said one o g off =
     let r = o.ran in
     let far = after_all t.system (answers i r.chances) in
     let known = known_far t i d mid o.qs (o.next ∷ o.later) o.told r in
-    let a = one far mid new q o.next o.later said r.desked r.todo (subst (λ (k : List Descriptor). IsRequest (target_of (t.jobs i)) 0 k q o.next) (sym known) o.is) g in
+    let a = one far mid new q o.next o.later said r.in_context r.todo (subst (λ (k : List Descriptor). IsRequest (target_of (t.jobs i)) 0 k q o.next) (sym known) o.is) g in
     let chance : Chance = (a.challenge, a.fault) in
-    let c = closed_behind t i t.system d mid new r.chances (answers i (chance ∷ [])) false r.legal r.others (ends_by_request t i far mid new q o.next o.later said r.desked r.todo g off a) in
+    let c = closed_behind t i t.system d mid new r.chances (answers i (chance ∷ [])) false r.legal r.others (ends_by_request t i far mid new q o.next o.later said r.in_context r.todo g off a) in
     record {
       asked = o.first ++ o.next ∷ [];
       later = o.later;
@@ -220,7 +220,7 @@ by_request t i d mid new todo came q said one o g off =
       chances = r.chances ++ chance ∷ [];
       count = more_count r.chances o.first chance o.next o.count;
       steps = answers i (r.chances ++ chance ∷ []);
-      counted = λ only todo_is. counted_behind d mid new r.chances chance r.counted a.counted (same_well mid new (answers_end t.users mid q said new g off) (well_of t i far mid r.desked));
+      counted = λ only todo_is. counted_behind d mid new r.chances chance r.counted a.counted (same_well mid new (answers_end t.users mid q said new g off) (well_of t i far mid r.in_context));
       steps_are = inl (refl, refl);
       cut = λ e. inl refl;
       closed = subst (λ (xs : List Transition). Closed t i t.system d xs false new) (sym (answers_then i r.chances (chance ∷ []))) c;
@@ -232,10 +232,10 @@ by_break t i d mid new todo came q said memory one may o g on cut unsaid =
     let r = o.ran in
     let far = after_all t.system (answers i r.chances) in
     let known = known_far t i d mid o.qs (o.next ∷ o.later) o.told r in
-    let a = one far mid new q o.next o.later said r.desked r.todo (subst (λ (k : List Descriptor). IsRequest (target_of (t.jobs i)) 0 k q o.next) (sym known) o.is) g in
+    let a = one far mid new q o.next o.later said r.in_context r.todo (subst (λ (k : List Descriptor). IsRequest (target_of (t.jobs i)) 0 k q o.next) (sym known) o.is) g in
     let chance : Chance = (a.challenge, a.fault) in
     let still : MayBreak (far.job i).client.stage = may_far t i d mid o.qs (o.next ∷ o.later) o.told r may in
-    let c = closed_behind t i t.system d mid new r.chances (answers i (chance ∷ []) ++ broken i memory ∷ []) memory r.legal r.others (breaks_behind_one t i far mid new o.next o.later said memory r.desked r.todo still on a) in
+    let c = closed_behind t i t.system d mid new r.chances (answers i (chance ∷ []) ++ broken i memory ∷ []) memory r.legal r.others (breaks_behind_one t i far mid new o.next o.later said memory r.in_context r.todo still on a) in
     let is : answers i r.chances ++ (answers i (chance ∷ []) ++ broken i memory ∷ []) ≡ answers i (r.chances ++ chance ∷ []) ++ broken i memory ∷ [] =
     sym (append_assoc (answers i r.chances) (answers i (chance ∷ [])) (broken i memory ∷ [])) ∙ ap (λ (xs : List Transition). xs ++ broken i memory ∷ []) (sym (answers_then i r.chances (chance ∷ []))) in
     record {
@@ -270,7 +270,7 @@ record SoFar (t : Ghost) (i : ℕ) (d mid : RequestContext) (todo : List Abstrac
   ran : Ran t i t.system d qs others told mid
   lengths : length qs ≡ length first
 
-so_far : (t : Ghost) (i : ℕ) (d mid : RequestContext) (asking up : List ℕ) (n : ℕ) (rest text : List ℕ) → OneRequest t i → Desked t i t.system d → SpellsAsked (t.jobs i) (t.system.job i).client (t.system.job i).todo (asking ++ up) → (g : daemon.AnsweredSoFar (record { users = t.users; context = d; before = asking; piece = delivered_bytes n up }) (record { context = mid; rest = rest; text = text })) →
+so_far : (t : Ghost) (i : ℕ) (d mid : RequestContext) (asking up : List ℕ) (n : ℕ) (rest text : List ℕ) → OneRequest t i → InContext t i t.system d → SpellsAsked (t.jobs i) (t.system.job i).client (t.system.job i).todo (asking ++ up) → (g : daemon.AnsweredSoFar (record { users = t.users; context = d; before = asking; piece = delivered_bytes n up }) (record { context = mid; rest = rest; text = text })) →
     SoFar t i d mid (t.system.job i).todo (asking ++ delivered_bytes n up) rest (bytes_not_delivered n up) g.told
 so_far t i d mid asking up n rest text one h spells g =
     let c = cut_piece (t.jobs i) (t.system.job i).client (t.system.job i).todo asking up n g.requests g.reads.text rest spells g.reads.whole g.reads.spelled in
@@ -327,9 +327,9 @@ over_silent t i d mid new todo came front back q said last one o g ended says_fr
     let r = o.ran in
     let far = after_all t.system (answers i r.chances) in
     let known = known_far t i d mid o.qs (o.next ∷ o.later) o.told r in
-    let a = one far mid new q o.next o.later said r.desked r.todo (subst (λ (k : List Descriptor). IsRequest (target_of (t.jobs i)) 0 k q o.next) (sym known) o.is) g in
+    let a = one far mid new q o.next o.later said r.in_context r.todo (subst (λ (k : List Descriptor). IsRequest (target_of (t.jobs i)) 0 k q o.next) (sym known) o.is) g in
     let under : IsUnderWay (far.job i).client.stage = subst (λ (m : ClientView). IsUnderWay m.stage) (sym (stays i t.system r.chances).own.client) u in
-    let none = due_none t i far mid o.next o.later r.desked under r.todo in
+    let none = due_none t i far mid o.next o.later r.in_context under r.todo in
     let empty : f ++ front ≡ [] = spells_none t protocol.progress (far.job i).due (f ++ front) none (r.told_are u pages protocol reads waits f front spells says_front) in
     let last_empty : back ≡ [] = last_silent t i far mid new said last back a under ended says_back in
     sym (append_assoc f front back) ∙ (ap (λ (x : List ℕ). x ++ back) empty ∙ last_empty)
@@ -352,8 +352,8 @@ cut_by t i d mid new todo came q said last o g on (ends.Done off is) = absurd (l
 cut_by t i d mid new todo came q said last o g on (ends.Cut before behind reply at unsaid is) =
     record {
       context = mid;
-      devices = o.ran.desked.infos;
-      allowed = allowed_there i (after_all t.system (answers i o.ran.chances)).make mid (after_all t.system (answers i o.ran.chances)).device _ o.ran.desked.shows;
+      devices = o.ran.in_context.infos;
+      allowed = allowed_there i (after_all t.system (answers i o.ran.chances)).make mid (after_all t.system (answers i o.ran.chances)).device _ o.ran.in_context.shows;
       request = q;
       known = (t.system.job i).client.known;
       asked = o.next;
@@ -381,7 +381,7 @@ none_ran : (d mid : RequestContext) (chances : List Chance) → length chances �
 none_ran d mid [] none c = c
 none_ran d mid (chance ∷ chances) none c = absurd (omega (arith, none))
 
-unsaid_at : (t : Ghost) (i : ℕ) (d mid new : RequestContext) (came : List ℕ) (q : Asked) (said : RequestAnswer) (last : List Reply) → Desked t i t.system d → OneMore t i d mid (t.system.job i).todo came q → Answers t.users mid q said new → daemon.session_goes_on said ≡ true → daemon.EndsWith said last → IsUnderWay (t.system.job i).client.stage → UnsaidAt t i d (t.system.job i).todo
+unsaid_at : (t : Ghost) (i : ℕ) (d mid new : RequestContext) (came : List ℕ) (q : Asked) (said : RequestAnswer) (last : List Reply) → InContext t i t.system d → OneMore t i d mid (t.system.job i).todo came q → Answers t.users mid q said new → daemon.session_goes_on said ≡ true → daemon.EndsWith said last → IsUnderWay (t.system.job i).client.stage → UnsaidAt t i d (t.system.job i).todo
 unsaid_at t i d mid new came q said last h o g on (ends.Done off is) under = absurd (let clash : true ≡ false = sym on ∙ off in cc)
 unsaid_at t i d mid new came q said last h o g on (ends.Cut before behind reply at unsaid is) under =
     let none = only_first t i o.first o.next o.later h.sound under h.served o.are in
@@ -406,7 +406,7 @@ over_by : (t : Ghost) (i : ℕ) (d mid new : RequestContext) (todo : List Abstra
 over_by t i d mid new todo came q said last true e one may o g ended unsaid = by_break t i d mid new todo came q said false one may o g e (cut_by t i d mid new todo came q said last o g e ended) (λ no. unsaid e)
 over_by t i d mid new todo came q said last false e one may o g ended unsaid = by_request t i d mid new todo came q said one o g e
 
-closed_so : (t : Ghost) (i : ℕ) (d mid new : RequestContext) (came rest behind front back : List ℕ) (told last : List Reply) → OneRequest t i → Desked t i t.system d → MayBreak (t.system.job i).client.stage → SoFar t i d mid (t.system.job i).todo came rest behind told → daemon.SaysAll told front → daemon.SaysAll last back →
+closed_so : (t : Ghost) (i : ℕ) (d mid new : RequestContext) (came rest behind front back : List ℕ) (told last : List Reply) → OneRequest t i → InContext t i t.system d → MayBreak (t.system.job i).client.stage → SoFar t i d mid (t.system.job i).todo came rest behind told → daemon.SaysAll told front → daemon.SaysAll last back →
     daemon.FeedEndsSession t.users mid rest last new → IsOverSo t i d new came (front ++ back)
 closed_so t i d mid new came rest behind front back told last one h may f says_front says_back (Garbled nay none is) = absurd (not_garbled f.still.requests rest behind f.still.text nay)
 closed_so t i d mid new came rest behind front back told last one h may f says_front says_back (Ended left_over q said k g ended) =
@@ -416,7 +416,7 @@ closed_so t i d mid new came rest behind front back told last one h may f says_f
       silent = over_silent t i d mid new (t.system.job i).todo came front back q said last one o g ended says_front says_back;
     }
 
-pub is_over : (t : Ghost) (i : ℕ) (d new : RequestContext) (asking up : List ℕ) (n : ℕ) (text : List ℕ) → OneRequest t i → Desked t i t.system d → MayBreak (t.system.job i).client.stage → SpellsAsked (t.jobs i) (t.system.job i).client (t.system.job i).todo (asking ++ up) →
+pub is_over : (t : Ghost) (i : ℕ) (d new : RequestContext) (asking up : List ℕ) (n : ℕ) (text : List ℕ) → OneRequest t i → InContext t i t.system d → MayBreak (t.system.job i).client.stage → SpellsAsked (t.jobs i) (t.system.job i).client (t.system.job i).todo (asking ++ up) →
     daemon.FeedsOver (record { users = t.users; context = d; before = asking; piece = delivered_bytes n up }) new text → IsOverSo t i d new (asking ++ delivered_bytes n up) text
 is_over t i d new asking up n text one h may spells g =
     let f = so_far t i d g.mid asking up n g.rest g.front one h spells g.so_far in
@@ -444,7 +444,7 @@ at_once t i d mid new todo came rest behind told may f counted back =
       counted = counted;
       steps_are = inr (tt, refl);
       cut = λ e. absurd (let clash : true ≡ false = e in cc);
-      closed = closed_behind t i t.system d mid new r.chances (broken i true ∷ []) true r.legal r.others (breaks t i far mid new true r.desked still (λ nay. absurd (let clash : true ≡ false = nay in cc)) back);
+      closed = closed_behind t i t.system d mid new r.chances (broken i true ∷ []) true r.legal r.others (breaks t i far mid new true r.in_context still (λ nay. absurd (let clash : true ≡ false = nay in cc)) back);
     }
 
 -- another request is whole behind them
@@ -463,17 +463,17 @@ starved_by t i d mid new todo came rest behind left_over told q one may f k (inr
     by_end true e = by_break t i d mid new todo came q g.0 true one may (one_more t i d mid todo came rest behind left_over told q f k) g.1 e tt (λ no. absurd (let clash : true ≡ false = no in cc))
     by_end false e =
         let far = after_all t.system (answers i f.ran.chances) in
-        at_once t i d mid new todo came rest behind told may f (none_so_far t i d mid new todo came rest behind left_over told q f k) (back_same i far.make mid far.device (session_by i far.device (far.job i)) new f.ran.desked.shows (answers_end t.users mid q g.0 new g.1 e))
+        at_once t i d mid new todo came rest behind told may f (none_so_far t i d mid new todo came rest behind left_over told q f k) (back_same i far.make mid far.device (session_by i far.device (far.job i)) new f.ran.in_context.shows (answers_end t.users mid q g.0 new g.1 e))
 
 starved_so : (t : Ghost) (i : ℕ) (d mid new : RequestContext) (todo : List AbstractRequest) (came rest behind : List ℕ) (told : List Reply) → OneRequest t i → MayBreak (t.system.job i).client.stage → SoFar t i d mid todo came rest behind told → (new ≡ mid) ⊎ daemon.OutOfMemoryNext t.users mid rest new → Parts t i d todo came true new
 starved_so t i d mid new todo came rest behind told one may f (inl is) =
     let far = after_all t.system (answers i f.ran.chances) in
-    at_once t i d mid new todo came rest behind told may f (λ r only. subst (IsCountedAlone d f.ran.chances) (sym is) (counted_alone d mid f.ran.chances (well_of t i far mid f.ran.desked) f.ran.counted)) (back_same i far.make mid far.device (session_by i far.device (far.job i)) new f.ran.desked.shows (same_words mid mid new is refl refl))
+    at_once t i d mid new todo came rest behind told may f (λ r only. subst (IsCountedAlone d f.ran.chances) (sym is) (counted_alone d mid f.ran.chances (well_of t i far mid f.ran.in_context) f.ran.counted)) (back_same i far.make mid far.device (session_by i far.device (far.job i)) new f.ran.in_context.shows (same_words mid mid new is refl refl))
 starved_so t i d mid new todo came rest behind told one may f (inr g) =
     let far = after_all t.system (answers i f.ran.chances) in
-    starved_by t i d mid new todo came rest behind g.left told g.request one may f g.takes (faltered i far.make t.users mid far.device (session_by i far.device (far.job i)) g.request new f.ran.desked.shows g.out_of_memory)
+    starved_by t i d mid new todo came rest behind g.left told g.request one may f g.takes (faltered i far.make t.users mid far.device (session_by i far.device (far.job i)) g.request new f.ran.in_context.shows g.out_of_memory)
 
-pub is_starved : (t : Ghost) (i : ℕ) (d new : RequestContext) (asking up : List ℕ) (n : ℕ) → OneRequest t i → Desked t i t.system d → MayBreak (t.system.job i).client.stage → SpellsAsked (t.jobs i) (t.system.job i).client (t.system.job i).todo (asking ++ up) →
+pub is_starved : (t : Ghost) (i : ℕ) (d new : RequestContext) (asking up : List ℕ) (n : ℕ) → OneRequest t i → InContext t i t.system d → MayBreak (t.system.job i).client.stage → SpellsAsked (t.jobs i) (t.system.job i).client (t.system.job i).todo (asking ++ up) →
     daemon.FeedOutOfMemory (record { users = t.users; context = d; before = asking; piece = delivered_bytes n up }) new → Parts t i d (t.system.job i).todo (asking ++ delivered_bytes n up) true new
 is_starved t i d new asking up n one h may spells g =
     let f = so_far t i d g.mid asking up n g.rest g.text one h spells g.so_far in

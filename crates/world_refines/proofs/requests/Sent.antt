@@ -12,7 +12,7 @@ use Rattle.scan_job.specs.declared.job.Job.{Job}
 use Rattle.client_replies.specs.declared.progress.Progress.TheVariants as stages
 use Rattle.client_replies.specs.ProtocolStates.{target_of, is_running}
 use Rattle.net_client.specs.ClientStates.{ClientRepresents, ClientState, protocol_of}
-use Rattle.system_model.specs.Client as rules
+use Rattle.system_model.specs.Client as model
 use Rattle.system_model.specs.Client.{Idle, ClientView}
 use Rattle.system_model.specs.SystemStates.{JobState}
 use Rattle.system_model.specs.Transitions.{IsUnderWay}
@@ -48,8 +48,8 @@ all_sent : (laid : Bool) (out : List ℕ) (past : JoinHistory) (pages : List Joi
 all_sent true out past pages old new l h = files_sent out [] _ old new l h
 all_sent false out past pages old new l h = files_sent out past.given pages old new l h
 
-pub talks_sent : (place : DeviceInfo → ℕ) (job : Job) (out : List ℕ) (past : JoinHistory) (pages : List JoinHistory) (p q : JobState) (old new : Endpoint) → IsSent out old new → q.client ≡ p.client → q.session.job ≡ p.session.job → EndpointClientRefines place job past pages p old → EndpointClientRefines place job past pages q new
-talks_sent place job out past pages p q old new l view same h =
+pub exchanges_sent : (place : DeviceInfo → ℕ) (job : Job) (out : List ℕ) (past : JoinHistory) (pages : List JoinHistory) (p q : JobState) (old new : Endpoint) → IsSent out old new → q.client ≡ p.client → q.session.job ≡ p.session.job → EndpointClientRefines place job past pages p old → EndpointClientRefines place job past pages q new
+exchanges_sent place job out past pages p q old new l view same h =
     let shown : List (List Frame) = map (λ (x : JoinHistory). x.ended) pages in
     record {
       task = l.task ∙ h.task;
@@ -60,7 +60,7 @@ talks_sent place job out past pages p q old new l view same h =
       reads =
           subst (λ (c : ClientState). ClientRefines place (target_of job) q.session.job shown (protocol_of c past) (client_at_greeting q.client.stage q.client)) (sym l.client)
           (subst (λ (m : ClientView). ClientRefines place (target_of job) q.session.job shown (protocol_of old.client past) (client_at_greeting m.stage m)) (sym view)
-          (subst (λ (x : rules.AbstractJob). ClientRefines place (target_of job) x shown (protocol_of old.client past) (client_at_greeting p.client.stage p.client)) (sym same) h.reads));
+          (subst (λ (x : model.AbstractJob). ClientRefines place (target_of job) x shown (protocol_of old.client past) (client_at_greeting p.client.stage p.client)) (sym same) h.reads));
       idle = λ idle. l.was_connected ∙ h.idle (sym (ap (λ (m : ClientView). m.stage) view) ∙ idle);
       begun = λ nay. subst (λ (m : ClientView). (m.stage ≡ Idle) ⊎ (IsUnderWay m.stage → ⊥)) (sym view) (h.begun (sym l.was_connected ∙ nay));
       files = subst (λ (x : Bool). KeepsFiles x past pages new) (sym (ap (λ (c : ClientState). is_laid job.task c.outcome past) l.client)) (all_sent (is_laid job.task old.client.outcome past) out past pages old new l h.files);
@@ -71,8 +71,8 @@ talks_sent place job out past pages p q old new l view same h =
 
 -- ---- the slot of its session, or that there is none
 
-abbrev Seats : Type 0
-Seats = List (Option (SessionSlot DeviceState))
+abbrev TakesSlot : Type 0
+TakesSlot = List (Option (SessionSlot DeviceState))
 
 abbrev IsOff : Bool → Type 0
 IsOff true = ⊥
@@ -86,16 +86,16 @@ absent_by : (n : ℕ) (x y : Option (SessionSlot DeviceState)) (b : Bool) → is
 absent_by n x y true e other none = absurd other
 absent_by n x y false e other none = none
 
-not_numbered : (n : ℕ) (x : Option (SessionSlot DeviceState)) (slots : Seats) → ((k : ℕ) (s : SessionSlot DeviceState) → slice_get (x ∷ slots) k ≡ Some (Some s) → s.number ≢ n) → is_slot_number n x ≡ true → ⊥
+not_numbered : (n : ℕ) (x : Option (SessionSlot DeviceState)) (slots : TakesSlot) → ((k : ℕ) (s : SessionSlot DeviceState) → slice_get (x ∷ slots) k ≡ Some (Some s) → s.number ≢ n) → is_slot_number n x ≡ true → ⊥
 not_numbered n None slots nay e = let clash : false ≡ true = e in absurd (cc)
 not_numbered n (Some s) slots nay e = nay zero s refl (eqb-true s.number n e)
 
-absent : (n : ℕ) (slots : Seats) → ((k : ℕ) (s : SessionSlot DeviceState) → slice_get slots k ≡ Some (Some s) → s.number ≢ n) → session_slot_of slots n ≡ None
+absent : (n : ℕ) (slots : TakesSlot) → ((k : ℕ) (s : SessionSlot DeviceState) → slice_get slots k ≡ Some (Some s) → s.number ≢ n) → session_slot_of slots n ≡ None
 unfolding session_slot_of
 absent n [] nay = refl
 absent n (x ∷ slots) nay = absent_by n x (session_slot_of slots n) (is_slot_number n x) refl (off_by (is_slot_number n x) (not_numbered n x slots nay)) (absent n slots (λ k s at. nay (suc k) s at))
 
-gone_by : (f : SessionSlot DeviceState → Option (SessionSlot DeviceState)) (n : ℕ) (x : Option (SessionSlot DeviceState)) (slots : Seats) (slot : SessionSlot DeviceState) (b : Bool) → is_slot_number n x ≡ b → Single (x ∷ slots) → (if b then x else session_slot_of slots n) ≡ Some slot → f slot ≡ None →
+gone_by : (f : SessionSlot DeviceState → Option (SessionSlot DeviceState)) (n : ℕ) (x : Option (SessionSlot DeviceState)) (slots : TakesSlot) (slot : SessionSlot DeviceState) (b : Bool) → is_slot_number n x ≡ b → Single (x ∷ slots) → (if b then x else session_slot_of slots n) ≡ Some slot → f slot ≡ None →
     (session_slot_of slots n ≡ Some slot → session_slot_of (on_session_slot f n slots) n ≡ None) → session_slot_of (if b then option_and_then f x ∷ slots else x ∷ on_session_slot f n slots) n ≡ None
 unfolding session_slot_of
 gone_by f n x slots slot true e single is none more =
@@ -106,7 +106,7 @@ gone_by f n x slots slot true e single is none more =
 gone_by f n x slots slot false e single is none more = rw e (more is)
 
 -- a slot that becomes none is there no more
-pub gone_seat : (f : SessionSlot DeviceState → Option (SessionSlot DeviceState)) (n : ℕ) (slots : Seats) (slot : SessionSlot DeviceState) → Single slots → session_slot_of slots n ≡ Some slot → f slot ≡ None → session_slot_of (on_session_slot f n slots) n ≡ None
+pub gone_slot : (f : SessionSlot DeviceState → Option (SessionSlot DeviceState)) (n : ℕ) (slots : TakesSlot) (slot : SessionSlot DeviceState) → Single slots → session_slot_of slots n ≡ Some slot → f slot ≡ None → session_slot_of (on_session_slot f n slots) n ≡ None
 unfolding session_slot_of on_session_slot
-gone_seat f n [] slot single is none = absurd (let clash : None ≡ Some slot = is in cc)
-gone_seat f n (x ∷ slots) slot single is none = gone_by f n x slots slot (is_slot_number n x) refl single is none (λ there. gone_seat f n slots slot (later x slots single) there none)
+gone_slot f n [] slot single is none = absurd (let clash : None ≡ Some slot = is in cc)
+gone_slot f n (x ∷ slots) slot single is none = gone_by f n x slots slot (is_slot_number n x) refl single is none (λ there. gone_slot f n slots slot (later x slots single) there none)

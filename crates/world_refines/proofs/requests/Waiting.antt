@@ -100,9 +100,9 @@ waits_at t w i q rest (Some p) at h todo r =
     let s = h.endpoints i p at in
     let me = t.system.job i in
     let silent : Silent p.client.progress = λ e. none_asked me.todo rest q (s.waits.silent e) todo in
-    (p, at, outcome_waits (place_of_info t.infos) (target_of (t.jobs i)) me.session.job (map (λ (x : JoinHistory). x.ended) (t.pages i)) p.client.outcome p.client.progress p.client.notes (t.history i) (client_at_greeting me.client.stage me.client) r.progress q rest (woken me.client.stage me.client r.progress r.stage refl) r.asked silent s.waits.unturned s.talks.reads.stands)
+    (p, at, outcome_waits (place_of_info t.infos) (target_of (t.jobs i)) me.session.job (map (λ (x : JoinHistory). x.ended) (t.pages i)) p.client.outcome p.client.progress p.client.notes (t.history i) (client_at_greeting me.client.stage me.client) r.progress q rest (woken me.client.stage me.client r.progress r.stage refl) r.asked silent s.waits.unturned s.exchanges.reads.stands)
 
 -- in the world in front of an answer its client waits for that
 pub waits_there : (t : Ghost) (w : WorldCore) (i : ℕ) (q : AbstractRequest) (rest : List AbstractRequest) → WorldRefines t w → IsUnderWay (t.system.job i).client.stage → (t.system.job i).todo ≡ q ∷ rest → WaitsSo w i q
 waits_there t w i q rest h on todo =
-    waits_at t w i q rest (slice_get w.endpoints i) refl h todo (runs_by i (make_for t.system i) (t.system.job i) (device_for t.system i) (t.system.job i).client.stage q rest refl on (h.sound.talks i) todo)
+    waits_at t w i q rest (slice_get w.endpoints i) refl h todo (runs_by i (make_for t.system i) (t.system.job i) (device_for t.system i) (t.system.job i).client.stage q rest refl on (h.sound.exchanges i) todo)

@@ -24,7 +24,7 @@ use Rattle.world_refines.specs.WorldRefinement.{IsFaithful, IsFaithfulPage, sess
 use Rattle.world_refines.proofs.state.Faithful.{left_true}
 use Rattle.world_refines.proofs.state.ReadTrue.{held_true}
 use Rattle.world_refines.proofs.requests.Served.{serving}
-use Rattle.world_refines.proofs.state.StaysSteady.{IsTrueDesk}
+use Rattle.world_refines.proofs.state.StaysSteady.{IsTrueContext}
 
 -- all that was started are page views
 abbrev pub AreSheets : List Begin → Type 0
@@ -137,7 +137,7 @@ pub lease_there : (wants : ℕ) (o : Option (Lease DeviceState)) → Some wants 
 lease_there wants None e = absurd (let clash : Some wants ≡ None = e in cc)
 lease_there wants (Some l) e = (l, refl, sym (unsome wants l.place e))
 
-held_sheets : (i : ℕ) (make : ℕ → Make) (d : RequestContext) (device : ℕ → AbstractDevice) (p : JobState) → ContextRefines i make d device (session_by i device p) → IsTrueDesk d → (make p.session.job.wants).steady ≡ true → is_held_by i (device p.session.job.wants).holder ≡ true → AllByRecursion IsPageView (device p.session.job.wants).tray
+held_sheets : (i : ℕ) (make : ℕ → Make) (d : RequestContext) (device : ℕ → AbstractDevice) (p : JobState) → ContextRefines i make d device (session_by i device p) → IsTrueContext d → (make p.session.job.wants).steady ≡ true → is_held_by i (device p.session.job.wants).holder ≡ true → AllByRecursion IsPageView (device p.session.job.wants).tray
 held_sheets i make d device p h t steady held =
     let wants = p.session.job.wants in
     let word : Some wants ≡ option_map (λ (l : Lease DeviceState). l.place) (held_by d.session.held 0) = sym (ap (λ (b : Bool). cond b (Some wants) None) held) ∙ h.words 0 in
@@ -146,7 +146,7 @@ held_sheets i make d device p h t steady held =
     let dev : device wants ≡ abstract_device (Some i) l.0.device = ap device (sym l.2) ∙ shown.device in
     subst (λ (x : AbstractDevice). AllByRecursion IsPageView x.tray) (sym dev) (tray_true (make l.0.place) l.0.device (ap (λ (k : ℕ). (make k).steady) l.2 ∙ steady) shown.made.sources (held_true d.session.held 0 l.0 l.1 t.lent))
 
-pub begun_sheets : (i : ℕ) (make : ℕ → Make) (listed : List ℕ) (d : RequestContext) (device : ℕ → AbstractDevice) (p : JobState) (r : AbstractRequest) (challenge : Challenge) (fault : Option FailureCounts) → ContextRefines i make d device (session_by i device p) → IsTrueDesk d → (make p.session.job.wants).steady ≡ true → AreSheets (serving i make listed device p r challenge fault).begun
+pub begun_sheets : (i : ℕ) (make : ℕ → Make) (listed : List ℕ) (d : RequestContext) (device : ℕ → AbstractDevice) (p : JobState) (r : AbstractRequest) (challenge : Challenge) (fault : Option FailureCounts) → ContextRefines i make d device (session_by i device p) → IsTrueContext d → (make p.session.job.wants).steady ≡ true → AreSheets (serving i make listed device p r challenge fault).begun
 begun_sheets i make listed d device p r challenge fault h t steady =
     answer_sheets i (make p.session.job.wants) (device p.session.job.wants) p.session.transfer p.session.awaited (environment_of p.session listed challenge fault) r (λ held. held_sheets i make d device p h t steady held)
 

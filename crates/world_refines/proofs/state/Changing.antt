@@ -20,8 +20,8 @@ use Rattle.world_refines.specs.GhostStates.{Ghost, Wires}
 use Rattle.daemon_refines.specs.ContextRefinement.{TableRefines}
 use Rattle.world_refines.specs.WorldRefinement.{HaveDifferentNames, WiresMatch, HaveOwn, IsNobody, IsServed, AreListedBelow, EndpointRefines, EndpointRefinesAt, WorldRefines, numbers_from, slot_of_link, session_by, AreStartedViews}
 use Rattle.world_refines.proofs.state.ListEntries.{is_same, set_elsewhere, set_length, set_there}
-use Rattle.world_refines.proofs.state.EndpointSlots.{Reseats, seated_change}
-use Rattle.world_refines.proofs.state.Sees.{IsOther, Leaves, seat_stands, served_stands, table_stands}
+use Rattle.world_refines.proofs.state.EndpointSlots.{Replaces, slot_change}
+use Rattle.world_refines.proofs.state.Sees.{IsOther, Leaves, slot_stands, served_stands, table_stands}
 
 -- what never changes is the same, and so is all of every job but i
 pub record IsChange (i : ℕ) (t u : Ghost) : Type 0 where
@@ -46,7 +46,7 @@ pub record Change (i : ℕ) (t u : Ghost) (w : WorldCore) (p q : Endpoint) (e : 
   pub sits : EndpointRefinesAt u e i q
   -- its session is the one that it had, or was not opened before
   pub link : (id : SessionId) → q.link ≡ Some id → (p.link ≡ Some id) ⊎ ((w.daemon.opened ≤ id.number) × (id.number < e.opened))
-  pub reseats : Reseats p.link q.link w.daemon e
+  pub replaces : Replaces p.link q.link w.daemon e
   pub begun : AreStartedViews t.system.make (u.system.job i)
 
 abbrev changed : WorldCore → ℕ → Endpoint → Core → WorldCore
@@ -76,7 +76,7 @@ sits_same t u d e i j endpoint n c slot served h =
     (subst (λ (x : List JoinHistory). EndpointRefines t.users t.infos (t.jobs j) t.system.make u.system.device j (t.system.job j) (t.wires j) (t.history j) x e endpoint) (sym (c.pages j n))
     (record {
       job_is = h.job_is;
-      talks = h.talks;
+      exchanges = h.exchanges;
       carries = subst (λ (x : Option (SessionSlot DeviceState)). WiresMatch (t.wires j) x endpoint) (sym slot) h.carries;
       means = h.means;
       served = served;
@@ -90,7 +90,7 @@ other_sits t u w i j p q endpoint e h at c n there =
     let s = h.endpoints j endpoint there in
     let apart = other_apart t w i j p endpoint h n at there in
     sits_same t u w.daemon e i j endpoint n c.told
-    (seat_stands i t.system.make p.link endpoint.link w.daemon e t.system.device u.system.device apart c.leaves)
+    (slot_stands i t.system.make p.link endpoint.link w.daemon e t.system.device u.system.device apart c.leaves)
     (served_stands i j t.system.make p.link endpoint.link w.daemon e t.system.device u.system.device (t.system.job j) (t.system.job j).served n apart c.leaves s.served) s
 
 each_sits : (t u : Ghost) (w : WorldCore) (i j : ℕ) (p q endpoint : Endpoint) (e : Core) → WorldRefines t w → slice_get w.endpoints i ≡ Some p → Change i t u w p q e → (j ≡ i) ⊎ (j ≢ i) → slice_get (slice_set w.endpoints i q) j ≡ Some endpoint → EndpointRefinesAt u e j endpoint
@@ -171,7 +171,7 @@ stands_change t u w i p q e h at low c =
       own = λ j k a b x y at_j at_k is_x is_y same. own_stays t u w i j k p q a b e x y h at c is_x is_y same (link_of t u w i j p q a e at (is_same j i) at_j) (link_of t u w i k p q b e at (is_same k i) at_k);
       links = λ j endpoint id there is. link_below t u w i j p q endpoint e id h at c is (link_of t u w i j p q endpoint e at (is_same j i) there);
       slots = c.leaves.below;
-      slots_are = seated_change w.endpoints i p q w.daemon e at h.slots_are h.slots c.reseats;
+      slots_are = slot_change w.endpoints i p q w.daemon e at h.slots_are h.slots c.replaces;
       faithful = c.leaves.faithful;
       begun = λ j. begun_stays t u w i j p q e h c (is_same j i);
     }

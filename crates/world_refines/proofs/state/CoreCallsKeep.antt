@@ -12,7 +12,7 @@ use Rattle.dispatch.specs.declared.table.place.Slot.TheVariants.{In, Out, Gone}
 use Rattle.dispatch.specs.Table.{Table, after_give_back, awaits, with_slot}
 use Rattle.saned_requests.specs.declared.session.DataPhase.{DataPhase as WordCarriage}
 use Rattle.saned_requests.specs.declared.session.DataPhase.TheVariants as word
-use Rattle.saned_requests.specs.declared.session.Session.{Session as DeskSession}
+use Rattle.saned_requests.specs.declared.session.Session.{Session as RequestSession}
 use Rattle.saned_requests.specs.Holding.{with_lease_back, given_back}
 use Rattle.saned_core.specs.declared.session_slot.SessionSlot.{SessionSlot}
 use Rattle.saned_core.specs.declared.session_slot.SessionId.{SessionId}
@@ -38,7 +38,7 @@ use Rattle.daemon_refines.proofs.Leaves.{IsKept, changed, ends_leave, held_own, 
 use Rattle.daemon_refines.proofs.Moved.{put_elsewhere, put_there, unsome}
 use Rattle.daemon_refines.proofs.OtherSessions.{leaves_all, leaves_same}
 use Rattle.world_refines.specs.WorldRefinement.{AreFaithful, IsBelow, IsFaithfulLease, IsFaithfulSessionSlot, IsFaithfulSession, IsServed, info_at, session_by}
-use Rattle.world_refines.proofs.state.Faithful.{cancelled_word_true, let_go_true, on_seat_all, seat_all, session_true}
+use Rattle.world_refines.proofs.state.Faithful.{cancelled_word_true, let_go_true, on_slot_all, slot_all, session_true}
 use Rattle.world_refines.proofs.state.ListEntries.{is_same}
 use Rattle.world_refines.proofs.state.Sees.{Leaves}
 use Rattle.world_refines.proofs.state.Taking.{put_self, same_session}
@@ -64,7 +64,7 @@ pub given_infos : (t : Table) (held : Held) → map info_at (given_back t held) 
 given_infos t [] = refl
 given_infos t (lease ∷ held) = given_infos (with_lease_back t lease) held ∙ back_infos t lease
 
-let_go_infos : (t : Table) (session : Option (DeskSession DeviceState)) → map info_at (session_let_go t session) ≡ map info_at t
+let_go_infos : (t : Table) (session : Option (RequestSession DeviceState)) → map info_at (session_let_go t session) ≡ map info_at t
 let_go_infos t None = refl
 let_go_infos t (Some session) = given_infos t session.held
 
@@ -93,40 +93,40 @@ holds_wanted i make core n table p k h holds =
 
 -- ---- the session of a number, where it is changed
 
-found_by : (g : DeskSession DeviceState → DeskSession DeviceState) (n : ℕ) (x : Option (SessionSlot DeviceState)) (slots : List (Option (SessionSlot DeviceState))) (b : Bool) → is_slot_number n x ≡ b → session_slot_of (on_session_slot (on_session g) n slots) n ≡ option_and_then (on_session g) (session_slot_of slots n) →
+found_by : (g : RequestSession DeviceState → RequestSession DeviceState) (n : ℕ) (x : Option (SessionSlot DeviceState)) (slots : List (Option (SessionSlot DeviceState))) (b : Bool) → is_slot_number n x ≡ b → session_slot_of (on_session_slot (on_session g) n slots) n ≡ option_and_then (on_session g) (session_slot_of slots n) →
     session_slot_of (if b then option_and_then (on_session g) x ∷ slots else x ∷ on_session_slot (on_session g) n slots) n ≡ option_and_then (on_session g) (if b then x else session_slot_of slots n)
 unfolding session_slot_of
 found_by g n None slots true e more = absurd (let clash : false ≡ true = e in cc)
 found_by g n (Some slot) slots true e more = rw e refl
 found_by g n x slots false e more = rw e more
 
-pub found_on : (g : DeskSession DeviceState → DeskSession DeviceState) (n : ℕ) (slots : List (Option (SessionSlot DeviceState))) → session_slot_of (on_session_slot (on_session g) n slots) n ≡ option_and_then (on_session g) (session_slot_of slots n)
+pub found_on : (g : RequestSession DeviceState → RequestSession DeviceState) (n : ℕ) (slots : List (Option (SessionSlot DeviceState))) → session_slot_of (on_session_slot (on_session g) n slots) n ≡ option_and_then (on_session g) (session_slot_of slots n)
 unfolding session_slot_of on_session_slot
 found_on g n [] = refl
 found_on g n (x ∷ slots) = found_by g n x slots (is_slot_number n x) refl (found_on g n slots)
 
-same_input : (g : DeskSession DeviceState → DeskSession DeviceState) (o : Option (SessionSlot DeviceState)) → input_in (option_and_then (on_session g) o) ≡ input_in o
+same_input : (g : RequestSession DeviceState → RequestSession DeviceState) (o : Option (SessionSlot DeviceState)) → input_in (option_and_then (on_session g) o) ≡ input_in o
 same_input g None = refl
 same_input g (Some slot) = refl
 
-same_replies : (g : DeskSession DeviceState → DeskSession DeviceState) (o : Option (SessionSlot DeviceState)) → replies_in (option_and_then (on_session g) o) ≡ replies_in o
+same_replies : (g : RequestSession DeviceState → RequestSession DeviceState) (o : Option (SessionSlot DeviceState)) → replies_in (option_and_then (on_session g) o) ≡ replies_in o
 same_replies g None = refl
 same_replies g (Some slot) = refl
 
-over_still : (g : DeskSession DeviceState → DeskSession DeviceState) (o : Option (SessionSlot DeviceState)) → session_in o ≡ None → session_in (option_and_then (on_session g) o) ≡ None
+over_still : (g : RequestSession DeviceState → RequestSession DeviceState) (o : Option (SessionSlot DeviceState)) → session_in o ≡ None → session_in (option_and_then (on_session g) o) ≡ None
 over_still g None e = refl
 over_still g (Some slot) e = ap (option_map g) e
 
-pub input_on : (g : DeskSession DeviceState → DeskSession DeviceState) (n : ℕ) (slots : List (Option (SessionSlot DeviceState))) → input_in (session_slot_of (on_session_slot (on_session g) n slots) n) ≡ input_in (session_slot_of slots n)
+pub input_on : (g : RequestSession DeviceState → RequestSession DeviceState) (n : ℕ) (slots : List (Option (SessionSlot DeviceState))) → input_in (session_slot_of (on_session_slot (on_session g) n slots) n) ≡ input_in (session_slot_of slots n)
 input_on g n slots = ap input_in (found_on g n slots) ∙ same_input g (session_slot_of slots n)
 
-pub replies_on : (g : DeskSession DeviceState → DeskSession DeviceState) (n : ℕ) (slots : List (Option (SessionSlot DeviceState))) → replies_in (session_slot_of (on_session_slot (on_session g) n slots) n) ≡ replies_in (session_slot_of slots n)
+pub replies_on : (g : RequestSession DeviceState → RequestSession DeviceState) (n : ℕ) (slots : List (Option (SessionSlot DeviceState))) → replies_in (session_slot_of (on_session_slot (on_session g) n slots) n) ≡ replies_in (session_slot_of slots n)
 replies_on g n slots = ap replies_in (found_on g n slots) ∙ same_replies g (session_slot_of slots n)
 
-pub over_on : (g : DeskSession DeviceState → DeskSession DeviceState) (n : ℕ) (slots : List (Option (SessionSlot DeviceState))) → session_in (session_slot_of slots n) ≡ None → session_in (session_slot_of (on_session_slot (on_session g) n slots) n) ≡ None
+pub over_on : (g : RequestSession DeviceState → RequestSession DeviceState) (n : ℕ) (slots : List (Option (SessionSlot DeviceState))) → session_in (session_slot_of slots n) ≡ None → session_in (session_slot_of (on_session_slot (on_session g) n slots) n) ≡ None
 over_on g n slots e = ap session_in (found_on g n slots) ∙ over_still g (session_slot_of slots n) e
 
-pub on_number : (g : DeskSession DeviceState → DeskSession DeviceState) (slot new : SessionSlot DeviceState) → on_session g slot ≡ Some new → new.number ≡ slot.number
+pub on_number : (g : RequestSession DeviceState → RequestSession DeviceState) (slot new : SessionSlot DeviceState) → on_session g slot ≡ Some new → new.number ≡ slot.number
 on_number g slot new e = ap (λ (x : SessionSlot DeviceState). x.number) (sym (unsome (record slot { session = option_map g slot.session }) new e))
 
 -- ---- its end
@@ -173,10 +173,10 @@ leaves_ended i make d id served table p below faithful h =
       users = refl;
       infos = let_go_infos d.registry (session_of d id.number);
       opened = omega arith;
-      below = on_seat_all (IsBelow d.opened) no_more id.number d.slots tt (λ s b. tt) below;
+      below = on_slot_all (IsBelow d.opened) no_more id.number d.slots tt (λ s b. tt) below;
       faithful = record {
-        lying = let_go_true d.registry (session_of d id.number) (session_true (session_slot_of d.slots id.number) (seat_all IsFaithfulSessionSlot d.slots id.number tt faithful.lent)) faithful.lying;
-        lent = on_seat_all IsFaithfulSessionSlot no_more id.number d.slots tt (λ s b. tt) faithful.lent;
+        lying = let_go_true d.registry (session_of d id.number) (session_true (session_slot_of d.slots id.number) (slot_all IsFaithfulSessionSlot d.slots id.number tt faithful.lent)) faithful.lying;
+        lent = on_slot_all IsFaithfulSessionSlot no_more id.number d.slots tt (λ s b. tt) faithful.lent;
       };
       slots = λ m other low. apart d.slots no_more id.number m none_number (λ x. other (sym x));
       held = [];
@@ -194,29 +194,29 @@ shows_ended i make d id served table p h =
 -- ---- a call that changes its session alone
 
 -- what is so of slots, where one session is another
-on_below : (g : DeskSession DeviceState → DeskSession DeviceState) (n k : ℕ) (slots : List (Option (SessionSlot DeviceState))) → AllByRecursion (IsBelow k) slots → AllByRecursion (IsBelow k) (on_session_slot (on_session g) n slots)
-on_below g n k slots h = on_seat_all (IsBelow k) (on_session g) n slots tt (λ s b. b) h
+on_below : (g : RequestSession DeviceState → RequestSession DeviceState) (n k : ℕ) (slots : List (Option (SessionSlot DeviceState))) → AllByRecursion (IsBelow k) slots → AllByRecursion (IsBelow k) (on_session_slot (on_session g) n slots)
+on_below g n k slots h = on_slot_all (IsBelow k) (on_session g) n slots tt (λ s b. b) h
 
 -- what a session holds stays true
-lost_true : (c : WordCarriage) (session : DeskSession DeviceState) → AllByRecursion IsFaithfulLease session.held → AllByRecursion IsFaithfulLease (lost_from c session).held
+lost_true : (c : WordCarriage) (session : RequestSession DeviceState) → AllByRecursion IsFaithfulLease session.held → AllByRecursion IsFaithfulLease (lost_from c session).held
 lost_true word.Quiet session h = h
 lost_true (word.Waiting w) session h = h
 lost_true (word.Streaming w) session h = cancelled_word_true session.held w h
 lost_true word.Ending session h = h
 
-seat_true : (g : DeskSession DeviceState → DeskSession DeviceState) (o : Option (DeskSession DeviceState)) → ((session : DeskSession DeviceState) → AllByRecursion IsFaithfulLease session.held → AllByRecursion IsFaithfulLease (g session).held) → IsFaithfulSession o → IsFaithfulSession (option_map g o)
-seat_true g None keeps h = tt
-seat_true g (Some session) keeps h = keeps session h
+slot_true : (g : RequestSession DeviceState → RequestSession DeviceState) (o : Option (RequestSession DeviceState)) → ((session : RequestSession DeviceState) → AllByRecursion IsFaithfulLease session.held → AllByRecursion IsFaithfulLease (g session).held) → IsFaithfulSession o → IsFaithfulSession (option_map g o)
+slot_true g None keeps h = tt
+slot_true g (Some session) keeps h = keeps session h
 
-on_true : (g : DeskSession DeviceState → DeskSession DeviceState) (n : ℕ) (slots : List (Option (SessionSlot DeviceState))) → ((session : DeskSession DeviceState) → AllByRecursion IsFaithfulLease session.held → AllByRecursion IsFaithfulLease (g session).held) →
+on_true : (g : RequestSession DeviceState → RequestSession DeviceState) (n : ℕ) (slots : List (Option (SessionSlot DeviceState))) → ((session : RequestSession DeviceState) → AllByRecursion IsFaithfulLease session.held → AllByRecursion IsFaithfulLease (g session).held) →
     AllByRecursion IsFaithfulSessionSlot slots → AllByRecursion IsFaithfulSessionSlot (on_session_slot (on_session g) n slots)
-on_true g n slots keeps h = on_seat_all IsFaithfulSessionSlot (on_session g) n slots tt (λ s b. seat_true g s.session keeps b) h
+on_true g n slots keeps h = on_slot_all IsFaithfulSessionSlot (on_session g) n slots tt (λ s b. slot_true g s.session keeps b) h
 
 -- the daemon, whose session of that number is changed so
-abbrev pub on_core : (DeskSession DeviceState → DeskSession DeviceState) → Core → ℕ → Core
+abbrev pub on_core : (RequestSession DeviceState → RequestSession DeviceState) → Core → ℕ → Core
 on_core g d n = record d { slots = on_session_slot (on_session g) n d.slots }
 
-pub leaves_on : (g : DeskSession DeviceState → DeskSession DeviceState) (i : ℕ) (make : ℕ → Make) (d : Core) (id : SessionId) (table device : ℕ → AbstractDevice) → ((session : DeskSession DeviceState) → AllByRecursion IsFaithfulLease session.held → AllByRecursion IsFaithfulLease (g session).held) →
+pub leaves_on : (g : RequestSession DeviceState → RequestSession DeviceState) (i : ℕ) (make : ℕ → Make) (d : Core) (id : SessionId) (table device : ℕ → AbstractDevice) → ((session : RequestSession DeviceState) → AllByRecursion IsFaithfulLease session.held → AllByRecursion IsFaithfulLease (g session).held) →
     AllByRecursion (IsBelow d.opened) d.slots → AreFaithful d → (held : Held) → TableRefines i make held d.registry device → LeavesOthers i d.registry d.registry table device → Leaves i make (Some id) d (on_core g d id.number) table device
 leaves_on g i make d id table device keeps below faithful held shows others =
     record {

@@ -5,7 +5,7 @@ use Rattle.std.specs.List.{AllByRecursion}
 use Rattle.std.proofs.Common.{◌≡◌, ◌≢◌, ◌⊎◌, inl, inr, ◌∙◌, ℕ, zero, suc, ◌<◌, ◌≤◌, List, [], ◌∷◌, Option, Some, None, option_map, Bool, true, false, refl, sym, ap, subst, slice_get, slice_set, eqb-true, arith}
 use Rattle.std.proofs.lemmas.Bool.{eqb-false}
 use Rattle.device_api.specs.State.{DeviceState}
-use Rattle.saned_requests.specs.declared.session.Session.{Session as DeskSession}
+use Rattle.saned_requests.specs.declared.session.Session.{Session as RequestSession}
 use Rattle.saned_core.specs.declared.session_slot.SessionSlot.{SessionSlot}
 use Rattle.saned_core.specs.declared.session_slot.SessionId.{SessionId}
 use Rattle.saned_core.specs.DaemonStates.{Core, after_end_session, new_session_slot, is_slot_number, no_more, on_session_slot, on_session, after_open_session, with_session_slot, with_session}
@@ -14,14 +14,14 @@ use Rattle.scan_world.specs.declared.endpoint.Endpoint.{Endpoint}
 use Rattle.world_refines.specs.WorldRefinement.{SlotsAreOfEndpoints, IsBelow, IsLinked}
 use Rattle.world_refines.proofs.state.ListEntries.{is_same, set_elsewhere, set_there}
 
-abbrev Seats : Type 0
-Seats = List (Option (SessionSlot DeviceState))
+abbrev TakesSlot : Type 0
+TakesSlot = List (Option (SessionSlot DeviceState))
 
 abbrev KeepsNumber : (SessionSlot DeviceState → Option (SessionSlot DeviceState)) → Type 0
 KeepsNumber f = (slot new : SessionSlot DeviceState) → f slot ≡ Some new → new.number ≡ slot.number
 
 -- a slot of that number was there
-pub record WasSeat (slots : Seats) (k n : ℕ) : Type 0 where
+pub record WasSlot (slots : TakesSlot) (k n : ℕ) : Type 0 where
   pub slot : SessionSlot DeviceState
   pub at : slice_get slots k ≡ Some (Some slot)
   pub number : slot.number ≡ n
@@ -35,34 +35,34 @@ pub record IsNew (link : Option SessionId) (d : Core) (place k n : ℕ) : Type 0
   pub high : d.opened ≤ n
 
 -- what comes of the slots beside an endpoint that had one session and has another, or the same
-pub record Reseats (old new : Option SessionId) (d e : Core) : Type 0 where
+pub record Replaces (old new : Option SessionId) (d e : Core) : Type 0 where
   pub place : ℕ
-  pub each : (k : ℕ) (slot : SessionSlot DeviceState) → slice_get e.slots k ≡ Some (Some slot) → WasSeat d.slots k slot.number ⊎ IsNew new d place k slot.number
+  pub each : (k : ℕ) (slot : SessionSlot DeviceState) → slice_get e.slots k ≡ Some (Some slot) → WasSlot d.slots k slot.number ⊎ IsNew new d place k slot.number
   pub still : (id : SessionId) → old ≡ Some id → (new ≡ Some id) ⊎ ((k : ℕ) (slot : SessionSlot DeviceState) → slice_get e.slots k ≡ Some (Some slot) → slot.number ≢ id.number)
 
 -- ---- a slot that is changed or is no more
 
-was_by : (f : SessionSlot DeviceState → Option (SessionSlot DeviceState)) (n : ℕ) (x : Option (SessionSlot DeviceState)) (slots : Seats) (b : Bool) (k : ℕ) (s : SessionSlot DeviceState) → KeepsNumber f → ((j : ℕ) (r : SessionSlot DeviceState) → slice_get (on_session_slot f n slots) j ≡ Some (Some r) → WasSeat slots j r.number) →
-    slice_get (if b then option_and_then f x ∷ slots else x ∷ on_session_slot f n slots) k ≡ Some (Some s) → WasSeat (x ∷ slots) k s.number
+was_by : (f : SessionSlot DeviceState → Option (SessionSlot DeviceState)) (n : ℕ) (x : Option (SessionSlot DeviceState)) (slots : TakesSlot) (b : Bool) (k : ℕ) (s : SessionSlot DeviceState) → KeepsNumber f → ((j : ℕ) (r : SessionSlot DeviceState) → slice_get (on_session_slot f n slots) j ≡ Some (Some r) → WasSlot slots j r.number) →
+    slice_get (if b then option_and_then f x ∷ slots else x ∷ on_session_slot f n slots) k ≡ Some (Some s) → WasSlot (x ∷ slots) k s.number
 was_by f n None slots true zero s keeps more e = absurd (let clash : None ≡ Some s = unsome None (Some s) e in cc)
 was_by f n (Some r) slots true zero s keeps more e = record { slot = r; at = refl; number = sym (keeps r s (unsome (f r) (Some s) e)) }
 was_by f n x slots true (suc k) s keeps more e = record { slot = s; at = e; number = refl }
 was_by f n x slots false zero s keeps more e = record { slot = s; at = e; number = refl }
 was_by f n x slots false (suc k) s keeps more e = let w = more k s e in record { slot = w.slot; at = w.at; number = w.number }
 
-pub was_on : (f : SessionSlot DeviceState → Option (SessionSlot DeviceState)) (n : ℕ) (slots : Seats) → KeepsNumber f → (k : ℕ) (s : SessionSlot DeviceState) → slice_get (on_session_slot f n slots) k ≡ Some (Some s) → WasSeat slots k s.number
+pub was_on : (f : SessionSlot DeviceState → Option (SessionSlot DeviceState)) (n : ℕ) (slots : TakesSlot) → KeepsNumber f → (k : ℕ) (s : SessionSlot DeviceState) → slice_get (on_session_slot f n slots) k ≡ Some (Some s) → WasSlot slots k s.number
 unfolding on_session_slot
 was_on f n [] keeps k s e = absurd (let clash : None ≡ Some (Some s) = e in cc)
 was_on f n (x ∷ slots) keeps k s e = was_by f n x slots (is_slot_number n x) k s keeps (was_on f n slots keeps) e
 
 -- no two are of one number
-abbrev pub Single : Seats → Type 0
+abbrev pub Single : TakesSlot → Type 0
 Single slots = (j k : ℕ) (a b : SessionSlot DeviceState) → slice_get slots j ≡ Some (Some a) → slice_get slots k ≡ Some (Some b) → a.number ≡ b.number → j ≡ k
 
-pub later : (x : Option (SessionSlot DeviceState)) (slots : Seats) → Single (x ∷ slots) → Single slots
+pub later : (x : Option (SessionSlot DeviceState)) (slots : TakesSlot) → Single (x ∷ slots) → Single slots
 later x slots h j k a b at_j at_k same = let e : suc j ≡ suc k = h (suc j) (suc k) a b at_j at_k same in omega (arith, e)
 
-gone_by : (n : ℕ) (x : Option (SessionSlot DeviceState)) (slots : Seats) (b : Bool) (k : ℕ) (s : SessionSlot DeviceState) → is_slot_number n x ≡ b → Single (x ∷ slots) → ((j : ℕ) (r : SessionSlot DeviceState) → slice_get (on_session_slot no_more n slots) j ≡ Some (Some r) → r.number ≢ n) →
+gone_by : (n : ℕ) (x : Option (SessionSlot DeviceState)) (slots : TakesSlot) (b : Bool) (k : ℕ) (s : SessionSlot DeviceState) → is_slot_number n x ≡ b → Single (x ∷ slots) → ((j : ℕ) (r : SessionSlot DeviceState) → slice_get (on_session_slot no_more n slots) j ≡ Some (Some r) → r.number ≢ n) →
     slice_get (if b then option_and_then no_more x ∷ slots else x ∷ on_session_slot no_more n slots) k ≡ Some (Some s) → s.number ≢ n
 gone_by n None slots true k s is h more e = absurd (let clash : false ≡ true = is in cc)
 gone_by n (Some r) slots true zero s is h more e = absurd (let clash : None ≡ Some s = unsome None (Some s) e in cc)
@@ -70,36 +70,36 @@ gone_by n (Some r) slots true (suc k) s is h more e = λ same. let clash : zero 
 gone_by n x slots false zero s is h more e = eqb-false s.number n (sym (ap (is_slot_number n) (unsome x (Some s) e)) ∙ is)
 gone_by n x slots false (suc k) s is h more e = more k s e
 
-gone : (n : ℕ) (slots : Seats) → Single slots → (k : ℕ) (s : SessionSlot DeviceState) → slice_get (on_session_slot no_more n slots) k ≡ Some (Some s) → s.number ≢ n
+gone : (n : ℕ) (slots : TakesSlot) → Single slots → (k : ℕ) (s : SessionSlot DeviceState) → slice_get (on_session_slot no_more n slots) k ≡ Some (Some s) → s.number ≢ n
 unfolding on_session_slot
 gone n [] h k s e = absurd (let clash : None ≡ Some (Some s) = e in cc)
 gone n (x ∷ slots) h k s e = gone_by n x slots (is_slot_number n x) k s refl h (gone n slots (later x slots h)) e
 
-pub reseats_same : (link : Option SessionId) (d : Core) → Reseats link link d d
-reseats_same link d = record { place = 0; each = λ k s e. inl (record { slot = s; at = e; number = refl }); still = λ id e. inl e }
+pub replaces_same : (link : Option SessionId) (d : Core) → Replaces link link d d
+replaces_same link d = record { place = 0; each = λ k s e. inl (record { slot = s; at = e; number = refl }); still = λ id e. inl e }
 
-on_number : (g : DeskSession DeviceState → DeskSession DeviceState) → KeepsNumber (on_session g)
+on_number : (g : RequestSession DeviceState → RequestSession DeviceState) → KeepsNumber (on_session g)
 on_number g slot new e = ap (λ (x : SessionSlot DeviceState). x.number) (sym (unsome (record slot { session = option_map g slot.session }) new e))
 
 none_number : KeepsNumber no_more
 none_number slot new e = absurd (let clash : None ≡ Some new = e in cc)
 
 -- a slot that keeps its number, or goes
-pub reseats_kept : (f : SessionSlot DeviceState → Option (SessionSlot DeviceState)) (link : Option SessionId) (d : Core) (n : ℕ) → ((slot new : SessionSlot DeviceState) → f slot ≡ Some new → new.number ≡ slot.number) → Reseats link link d (record d { slots = on_session_slot f n d.slots })
-reseats_kept f link d n keeps = record { place = 0; each = λ k s e. inl (was_on f n d.slots keeps k s e); still = λ id e. inl e }
+pub replaces_kept : (f : SessionSlot DeviceState → Option (SessionSlot DeviceState)) (link : Option SessionId) (d : Core) (n : ℕ) → ((slot new : SessionSlot DeviceState) → f slot ≡ Some new → new.number ≡ slot.number) → Replaces link link d (record d { slots = on_session_slot f n d.slots })
+replaces_kept f link d n keeps = record { place = 0; each = λ k s e. inl (was_on f n d.slots keeps k s e); still = λ id e. inl e }
 
-pub reseats_on : (g : DeskSession DeviceState → DeskSession DeviceState) (link : Option SessionId) (d : Core) (n : ℕ) → Reseats link link d (record d { slots = on_session_slot (on_session g) n d.slots })
-reseats_on g link d n = reseats_kept (on_session g) link d n (on_number g)
+pub replaces_on : (g : RequestSession DeviceState → RequestSession DeviceState) (link : Option SessionId) (d : Core) (n : ℕ) → Replaces link link d (record d { slots = on_session_slot (on_session g) n d.slots })
+replaces_on g link d n = replaces_kept (on_session g) link d n (on_number g)
 
-pub with_number : (now : DeskSession DeviceState) → KeepsNumber (with_session now)
+pub with_number : (now : RequestSession DeviceState) → KeepsNumber (with_session now)
 with_number now slot new e = ap (λ (x : SessionSlot DeviceState). x.number) (sym (unsome (record slot { session = Some now }) new e))
 
-pub reseats_with : (now : DeskSession DeviceState) (link : Option SessionId) (d e : Core) (n : ℕ) → e.slots ≡ on_session_slot (with_session now) n d.slots → Reseats link link d e
-reseats_with now link d e n is =
-    record { place = 0; each = λ k s at. inl (was_on (with_session now) n d.slots (with_number now) k s (subst (λ (x : Seats). slice_get x k ≡ Some (Some s)) is at)); still = λ id o. inl o }
+pub replaces_with : (now : RequestSession DeviceState) (link : Option SessionId) (d e : Core) (n : ℕ) → e.slots ≡ on_session_slot (with_session now) n d.slots → Replaces link link d e
+replaces_with now link d e n is =
+    record { place = 0; each = λ k s at. inl (was_on (with_session now) n d.slots (with_number now) k s (subst (λ (x : TakesSlot). slice_get x k ≡ Some (Some s)) is at)); still = λ id o. inl o }
 
-pub reseats_ended : (d : Core) (id : SessionId) → Single d.slots → Reseats (Some id) None d (after_end_session d id.number)
-reseats_ended d id h =
+pub replaces_ended : (d : Core) (id : SessionId) → Single d.slots → Replaces (Some id) None d (after_end_session d id.number)
+replaces_ended d id h =
     record {
       place = 0;
       each = λ k s e. inl (was_on no_more id.number d.slots none_number k s e);
@@ -108,35 +108,35 @@ reseats_ended d id h =
 
 -- ---- a new one
 
-abbrev vacant : Seats → ℕ
+abbrev vacant : TakesSlot → ℕ
 vacant [] = 0
 vacant (None ∷ slots) = 0
 vacant (Some s ∷ slots) = suc (vacant slots)
 
-record IsFresh (slots : Seats) (new : SessionSlot DeviceState) (k : ℕ) (s : SessionSlot DeviceState) : Type 0 where
+record IsFresh (slots : TakesSlot) (new : SessionSlot DeviceState) (k : ℕ) (s : SessionSlot DeviceState) : Type 0 where
   pub there : k ≡ vacant slots
   pub is : s ≡ new
 
-next_seat : (r : SessionSlot DeviceState) (slots : Seats) (new : SessionSlot DeviceState) (k : ℕ) (s : SessionSlot DeviceState) → WasSeat slots k s.number ⊎ IsFresh slots new k s → WasSeat (Some r ∷ slots) (suc k) s.number ⊎ IsFresh (Some r ∷ slots) new (suc k) s
-next_seat r slots new k s (inl w) = inl (record { slot = w.slot; at = w.at; number = w.number })
-next_seat r slots new k s (inr f) = inr (record { there = ap suc f.there; is = f.is })
+next_slot : (r : SessionSlot DeviceState) (slots : TakesSlot) (new : SessionSlot DeviceState) (k : ℕ) (s : SessionSlot DeviceState) → WasSlot slots k s.number ⊎ IsFresh slots new k s → WasSlot (Some r ∷ slots) (suc k) s.number ⊎ IsFresh (Some r ∷ slots) new (suc k) s
+next_slot r slots new k s (inl w) = inl (record { slot = w.slot; at = w.at; number = w.number })
+next_slot r slots new k s (inr f) = inr (record { there = ap suc f.there; is = f.is })
 
-was_with : (slots : Seats) (new : SessionSlot DeviceState) (k : ℕ) (s : SessionSlot DeviceState) → slice_get (with_session_slot slots new) k ≡ Some (Some s) → WasSeat slots k s.number ⊎ IsFresh slots new k s
+was_with : (slots : TakesSlot) (new : SessionSlot DeviceState) (k : ℕ) (s : SessionSlot DeviceState) → slice_get (with_session_slot slots new) k ≡ Some (Some s) → WasSlot slots k s.number ⊎ IsFresh slots new k s
 unfolding with_session_slot
 was_with [] new k s e = absurd (let clash : None ≡ Some (Some s) = e in cc)
 was_with (None ∷ slots) new zero s e = inr (record { there = refl; is = sym (unsome new s (unsome (Some new) (Some s) e)) })
 was_with (None ∷ slots) new (suc k) s e = inl (record { slot = s; at = e; number = refl })
 was_with (Some r ∷ slots) new zero s e = inl (record { slot = s; at = e; number = refl })
-was_with (Some r ∷ slots) new (suc k) s e = next_seat r slots new k s (was_with slots new k s e)
+was_with (Some r ∷ slots) new (suc k) s e = next_slot r slots new k s (was_with slots new k s e)
 
-new_by : (d : Core) (port : ℕ) (id : SessionId) (k : ℕ) (s : SessionSlot DeviceState) → id.number ≡ d.opened → WasSeat d.slots k s.number ⊎ IsFresh d.slots (new_session_slot d.strings d.opened port) k s → WasSeat d.slots k s.number ⊎ IsNew (Some id) d (vacant d.slots) k s.number
+new_by : (d : Core) (port : ℕ) (id : SessionId) (k : ℕ) (s : SessionSlot DeviceState) → id.number ≡ d.opened → WasSlot d.slots k s.number ⊎ IsFresh d.slots (new_session_slot d.strings d.opened port) k s → WasSlot d.slots k s.number ⊎ IsNew (Some id) d (vacant d.slots) k s.number
 new_by d port id k s number (inl w) = inl w
 new_by d port id k s number (inr f) =
     let is : s.number ≡ d.opened = ap (λ (x : SessionSlot DeviceState). x.number) f.is in
     inr (record { there = f.there; id = id; link_is = refl; number = number ∙ sym is; high = omega (arith, is) })
 
-pub reseats_opened : (d : Core) (port : ℕ) (id : SessionId) → id.number ≡ d.opened → Reseats None (Some id) d (after_open_session d port)
-reseats_opened d port id number =
+pub replaces_opened : (d : Core) (port : ℕ) (id : SessionId) → id.number ≡ d.opened → Replaces None (Some id) d (after_open_session d port)
+replaces_opened d port id number =
     record {
       place = vacant d.slots;
       each = λ k s e. new_by d port id k s number (was_with d.slots (new_session_slot d.strings d.opened port) k s e);
@@ -145,7 +145,7 @@ reseats_opened d port id number =
 
 -- ---- the world
 
-below_at : (n : ℕ) (slots : Seats) (k : ℕ) (s : SessionSlot DeviceState) → AllByRecursion (IsBelow n) slots → slice_get slots k ≡ Some (Some s) → s.number < n
+below_at : (n : ℕ) (slots : TakesSlot) (k : ℕ) (s : SessionSlot DeviceState) → AllByRecursion (IsBelow n) slots → slice_get slots k ≡ Some (Some s) → s.number < n
 below_at n [] k s h e = absurd (let clash : None ≡ Some (Some s) = e in cc)
 below_at n (x ∷ slots) zero s h e = subst (λ (y : Option (SessionSlot DeviceState)). IsBelow n y) (unsome x (Some s) e) h.0
 below_at n (x ∷ slots) (suc k) s h e = below_at n slots k s h.1 e
@@ -160,25 +160,25 @@ links_still endpoints i n p q at l (inl same) still =
     by_link endpoints i n p q at l (inr other) = absurd (other (sym l.number))
 links_still endpoints i n p q at l (inr away) still = record { place = l.place; endpoint = l.endpoint; id = l.id; at = set_elsewhere endpoints i l.place q away ∙ l.at; link = l.link; number = l.number }
 
-still_at : (old new : Option SessionId) (d e : Core) (k : ℕ) (s : SessionSlot DeviceState) → Reseats old new d e → slice_get e.slots k ≡ Some (Some s) → (id : SessionId) → old ≡ Some id → (new ≡ Some id) ⊎ (s.number ≢ id.number)
+still_at : (old new : Option SessionId) (d e : Core) (k : ℕ) (s : SessionSlot DeviceState) → Replaces old new d e → slice_get e.slots k ≡ Some (Some s) → (id : SessionId) → old ≡ Some id → (new ≡ Some id) ⊎ (s.number ≢ id.number)
 still_at old new d e k s r at id is = by_still new e k s id at (r.still id is)
   where
     by_still : (new : Option SessionId) (e : Core) (k : ℕ) (s : SessionSlot DeviceState) (id : SessionId) → slice_get e.slots k ≡ Some (Some s) → (new ≡ Some id) ⊎ ((j : ℕ) (slot : SessionSlot DeviceState) → slice_get e.slots j ≡ Some (Some slot) → slot.number ≢ id.number) → (new ≡ Some id) ⊎ (s.number ≢ id.number)
     by_still new e k s id at (inl same) = inl same
     by_still new e k s id at (inr none) = inr (none k s at)
 
-linked_by : (endpoints : List Endpoint) (i : ℕ) (p q : Endpoint) (d e : Core) (place k : ℕ) (s : SessionSlot DeviceState) → SlotsAreOfEndpoints d.slots endpoints → slice_get endpoints i ≡ Some p → ((id : SessionId) → p.link ≡ Some id → (q.link ≡ Some id) ⊎ (s.number ≢ id.number)) → WasSeat d.slots k s.number ⊎ IsNew q.link d place k s.number → IsLinked (slice_set endpoints i q) s.number
+linked_by : (endpoints : List Endpoint) (i : ℕ) (p q : Endpoint) (d e : Core) (place k : ℕ) (s : SessionSlot DeviceState) → SlotsAreOfEndpoints d.slots endpoints → slice_get endpoints i ≡ Some p → ((id : SessionId) → p.link ≡ Some id → (q.link ≡ Some id) ⊎ (s.number ≢ id.number)) → WasSlot d.slots k s.number ⊎ IsNew q.link d place k s.number → IsLinked (slice_set endpoints i q) s.number
 linked_by endpoints i p q d e place k s h at still (inl w) = let l = subst (IsLinked endpoints) w.number (h.linked k w.slot w.at) in links_still endpoints i s.number p q at l (is_same l.place i) still
 linked_by endpoints i p q d e place k s h at still (inr n) = record { place = i; endpoint = q; id = n.id; at = set_there endpoints i q p at; link = n.link_is; number = n.number }
 
-apart_by : (endpoints : List Endpoint) (link : Option SessionId) (d : Core) (place j k n m : ℕ) → SlotsAreOfEndpoints d.slots endpoints → AllByRecursion (IsBelow d.opened) d.slots → n ≡ m → WasSeat d.slots j n ⊎ IsNew link d place j n → WasSeat d.slots k m ⊎ IsNew link d place k m → j ≡ k
+apart_by : (endpoints : List Endpoint) (link : Option SessionId) (d : Core) (place j k n m : ℕ) → SlotsAreOfEndpoints d.slots endpoints → AllByRecursion (IsBelow d.opened) d.slots → n ≡ m → WasSlot d.slots j n ⊎ IsNew link d place j n → WasSlot d.slots k m ⊎ IsNew link d place k m → j ≡ k
 apart_by endpoints link d place j k n m h below same (inl a) (inl b) = h.apart j k a.slot b.slot a.at b.at (a.number ∙ (same ∙ sym b.number))
 apart_by endpoints link d place j k n m h below same (inl a) (inr b) = let low = below_at d.opened d.slots j a.slot below a.at in let is = a.number in let high = b.high in absurd (omega (arith, low, is, high, same))
 apart_by endpoints link d place j k n m h below same (inr a) (inl b) = let low = below_at d.opened d.slots k b.slot below b.at in let is = b.number in let high = a.high in absurd (omega (arith, low, is, high, same))
 apart_by endpoints link d place j k n m h below same (inr a) (inr b) = a.there ∙ sym b.there
 
-pub seated_change : (endpoints : List Endpoint) (i : ℕ) (p q : Endpoint) (d e : Core) → slice_get endpoints i ≡ Some p → SlotsAreOfEndpoints d.slots endpoints → AllByRecursion (IsBelow d.opened) d.slots → Reseats p.link q.link d e → SlotsAreOfEndpoints e.slots (slice_set endpoints i q)
-seated_change endpoints i p q d e at h below r =
+pub slot_change : (endpoints : List Endpoint) (i : ℕ) (p q : Endpoint) (d e : Core) → slice_get endpoints i ≡ Some p → SlotsAreOfEndpoints d.slots endpoints → AllByRecursion (IsBelow d.opened) d.slots → Replaces p.link q.link d e → SlotsAreOfEndpoints e.slots (slice_set endpoints i q)
+slot_change endpoints i p q d e at h below r =
     record {
       linked = λ k s there. linked_by endpoints i p q d e r.place k s h at (still_at p.link q.link d e k s r there) (r.each k s there);
       apart = λ j k a b at_j at_k same. apart_by endpoints q.link d r.place j k a.number b.number h below same (r.each j a at_j) (r.each k b at_k);
@@ -188,14 +188,14 @@ abbrev IsEmpty : Option (SessionSlot DeviceState) → Type 0
 IsEmpty None = Unit {0}
 IsEmpty (Some s) = ⊥
 
-nobody : (slots : Seats) (k : ℕ) (s : SessionSlot DeviceState) → AllByRecursion IsEmpty slots → slice_get slots k ≡ Some (Some s) → ⊥
+nobody : (slots : TakesSlot) (k : ℕ) (s : SessionSlot DeviceState) → AllByRecursion IsEmpty slots → slice_get slots k ≡ Some (Some s) → ⊥
 nobody [] k s h e = let clash : None ≡ Some (Some s) = e in absurd (cc)
 nobody (x ∷ slots) zero s h e = subst IsEmpty (unsome x (Some s) e) h.0
 nobody (x ∷ slots) (suc k) s h e = nobody slots k s h.1 e
 
 -- nobody sits yet
-pub none_seated : (endpoints : List Endpoint) → SlotsAreOfEndpoints (None ∷ None ∷ None ∷ None ∷ None ∷ None ∷ None ∷ None ∷ []) endpoints
-none_seated endpoints =
-    let slots : Seats = None ∷ None ∷ None ∷ None ∷ None ∷ None ∷ None ∷ None ∷ [] in
+pub none_in_slot : (endpoints : List Endpoint) → SlotsAreOfEndpoints (None ∷ None ∷ None ∷ None ∷ None ∷ None ∷ None ∷ None ∷ []) endpoints
+none_in_slot endpoints =
+    let slots : TakesSlot = None ∷ None ∷ None ∷ None ∷ None ∷ None ∷ None ∷ None ∷ [] in
     let empty : AllByRecursion IsEmpty slots = (tt, (tt, (tt, (tt, (tt, (tt, (tt, (tt, tt)))))))) in
     record { linked = λ k s e. absurd (nobody slots k s empty e); apart = λ j k a b at_j at_k same. absurd (nobody slots j a empty at_j) }

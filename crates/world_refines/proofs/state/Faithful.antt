@@ -70,39 +70,39 @@ cancelled_word_true held w h = word_true cancelled_lease held w cancelled_lease_
 
 -- ---- slots
 
-abbrev pub Seats : Type 0
-Seats = List (Option (SessionSlot DeviceState))
+abbrev pub TakesSlot : Type 0
+TakesSlot = List (Option (SessionSlot DeviceState))
 
 -- what holds of a slot holds of what becomes of it
 becomes : (P : Option (SessionSlot DeviceState) → Type 0) (f : SessionSlot DeviceState → Option (SessionSlot DeviceState)) (slot : Option (SessionSlot DeviceState)) → P None → ((s : SessionSlot DeviceState) → P (Some s) → P (f s)) → P slot → P (option_and_then f slot)
 becomes P f None none keeps h = none
 becomes P f (Some s) none keeps h = keeps s h
 
-on_seat_by : (P : Option (SessionSlot DeviceState) → Type 0) (f : SessionSlot DeviceState → Option (SessionSlot DeviceState)) (n : ℕ) (slot : Option (SessionSlot DeviceState)) (slots : Seats) (b : Bool) → P None → ((s : SessionSlot DeviceState) → P (Some s) → P (f s)) → P slot → AllByRecursion P slots → AllByRecursion P (on_session_slot f n slots)
+on_slot_by : (P : Option (SessionSlot DeviceState) → Type 0) (f : SessionSlot DeviceState → Option (SessionSlot DeviceState)) (n : ℕ) (slot : Option (SessionSlot DeviceState)) (slots : TakesSlot) (b : Bool) → P None → ((s : SessionSlot DeviceState) → P (Some s) → P (f s)) → P slot → AllByRecursion P slots → AllByRecursion P (on_session_slot f n slots)
     → AllByRecursion P (if b then option_and_then f slot ∷ slots else slot ∷ on_session_slot f n slots)
-on_seat_by P f n slot slots true none keeps h more later = (becomes P f slot none keeps h, more)
-on_seat_by P f n slot slots false none keeps h more later = (h, later)
+on_slot_by P f n slot slots true none keeps h more later = (becomes P f slot none keeps h, more)
+on_slot_by P f n slot slots false none keeps h more later = (h, later)
 
-pub on_seat_all : (P : Option (SessionSlot DeviceState) → Type 0) (f : SessionSlot DeviceState → Option (SessionSlot DeviceState)) (n : ℕ) (slots : Seats) → P None → ((s : SessionSlot DeviceState) → P (Some s) → P (f s)) → AllByRecursion P slots → AllByRecursion P (on_session_slot f n slots)
+pub on_slot_all : (P : Option (SessionSlot DeviceState) → Type 0) (f : SessionSlot DeviceState → Option (SessionSlot DeviceState)) (n : ℕ) (slots : TakesSlot) → P None → ((s : SessionSlot DeviceState) → P (Some s) → P (f s)) → AllByRecursion P slots → AllByRecursion P (on_session_slot f n slots)
 unfolding on_session_slot
-on_seat_all P f n [] none keeps h = h
-on_seat_all P f n (slot ∷ slots) none keeps h = on_seat_by P f n slot slots (is_slot_number n slot) none keeps h.0 h.1 (on_seat_all P f n slots none keeps h.1)
+on_slot_all P f n [] none keeps h = h
+on_slot_all P f n (slot ∷ slots) none keeps h = on_slot_by P f n slot slots (is_slot_number n slot) none keeps h.0 h.1 (on_slot_all P f n slots none keeps h.1)
 
-pub with_seat_all : (P : Option (SessionSlot DeviceState) → Type 0) (slots : Seats) (new : SessionSlot DeviceState) → P (Some new) → AllByRecursion P slots → AllByRecursion P (with_session_slot slots new)
+pub with_slot_all : (P : Option (SessionSlot DeviceState) → Type 0) (slots : TakesSlot) (new : SessionSlot DeviceState) → P (Some new) → AllByRecursion P slots → AllByRecursion P (with_session_slot slots new)
 unfolding with_session_slot
-with_seat_all P [] new s h = h
-with_seat_all P (None ∷ slots) new s h = (s, h.1)
-with_seat_all P (Some slot ∷ slots) new s h = (h.0, with_seat_all P slots new s h.1)
+with_slot_all P [] new s h = h
+with_slot_all P (None ∷ slots) new s h = (s, h.1)
+with_slot_all P (Some slot ∷ slots) new s h = (h.0, with_slot_all P slots new s h.1)
 
 -- the slot of a number is one of them
 found_by : (P : Option (SessionSlot DeviceState) → Type 0) (x y : Option (SessionSlot DeviceState)) (b : Bool) → P x → P y → P (if b then x else y)
 found_by P x y true h k = h
 found_by P x y false h k = k
 
-pub seat_all : (P : Option (SessionSlot DeviceState) → Type 0) (slots : Seats) (n : ℕ) → P None → AllByRecursion P slots → P (session_slot_of slots n)
+pub slot_all : (P : Option (SessionSlot DeviceState) → Type 0) (slots : TakesSlot) (n : ℕ) → P None → AllByRecursion P slots → P (session_slot_of slots n)
 unfolding session_slot_of
-seat_all P [] n none h = none
-seat_all P (slot ∷ slots) n none h = found_by P slot (session_slot_of slots n) (is_slot_number n slot) h.0 (seat_all P slots n none h.1)
+slot_all P [] n none h = none
+slot_all P (slot ∷ slots) n none h = found_by P slot (session_slot_of slots n) (is_slot_number n slot) h.0 (slot_all P slots n none h.1)
 
 pub session_true : (slot : Option (SessionSlot DeviceState)) → IsFaithfulSessionSlot slot → IsFaithfulSession (session_in slot)
 session_true None h = tt
@@ -112,6 +112,6 @@ below_more : (n m : ℕ) (slot : Option (SessionSlot DeviceState)) → n ≤ m �
 below_more n m None l h = tt
 below_more n m (Some slot) l h = omega (arith, l, h)
 
-pub all_below_more : (n m : ℕ) (slots : Seats) → n ≤ m → AllByRecursion (IsBelow n) slots → AllByRecursion (IsBelow m) slots
+pub all_below_more : (n m : ℕ) (slots : TakesSlot) → n ≤ m → AllByRecursion (IsBelow n) slots → AllByRecursion (IsBelow m) slots
 all_below_more n m [] l h = tt
 all_below_more n m (slot ∷ slots) l h = (below_more n m slot l h.0, all_below_more n m slots l h.1)

@@ -196,8 +196,8 @@ held_after s (By i x) sound h may =
     let p = s.job i in
     let dev = device_for s i in
     let t = treats i k (listed_devices s) p dev x may in
-    let stands = kept i k (listed_devices s) p dev x may (sound.fit (wanted_place s i)) (sound.talks i) (sound.pages i) in
-    let own = own_by i k (listed_devices s) p dev x may (sound.talks i) (h i) stands.0 (under_or (job_after_action i k (listed_devices s) p dev x).client.stage) in
+    let stands = kept i k (listed_devices s) p dev x may (sound.fit (wanted_place s i)) (sound.exchanges i) (sound.pages i) in
+    let own = own_by i k (listed_devices s) p dev x may (sound.exchanges i) (h i) stands.0 (under_or (job_after_action i k (listed_devices s) p dev x).client.stage) in
     change_held s i (job_after_action i k (listed_devices s) p dev x) (device_after i k (listed_devices s) p dev x) (ap (λ (job : AbstractJob). job.wants) (same_job i k (listed_devices s) p dev x)) own h (λ l n. same_treated i l k dev _ n t)
 held_after s (Loads d page) sound h may = λ j. seen_by s d j (with_page_laid_in (s.make d) page (s.device d)) h (record { held = λ x. (x, refl, refl); free = λ x. x })
 held_after s (Unplugs d) sound h may = λ j. seen_by s d j (without_listing (s.device d)) h (record { held = λ x. (x, refl, refl); free = λ x. x })

@@ -9,7 +9,7 @@ use Rattle.device_api.specs.State.Phase.{AtRest, Between, Reading}
 use Rattle.dispatch.specs.declared.table.place.Lease.{Lease}
 use Rattle.saned_requests.specs.declared.session.DataPhase.{DataPhase as WordCarriage}
 use Rattle.saned_requests.specs.declared.session.DataPhase.TheVariants as word
-use Rattle.saned_requests.specs.declared.session.Session.{Session as DeskSession}
+use Rattle.saned_requests.specs.declared.session.Session.{Session as RequestSession}
 use Rattle.saned_requests.specs.Holding.{held_by, with_device}
 use Rattle.saned_core.specs.declared.session_slot.DataStep.{DataStep}
 use Rattle.saned_core.specs.Turns.{StreamsFrom, StreamsIn}
@@ -76,14 +76,14 @@ lease_at (o ∷ held) (suc w) h = lease_at held w h.1
 pub held_true : (held : List (Option (Lease DeviceState))) (w : ℕ) (l : Lease DeviceState) → held_by held w ≡ Some l → AllByRecursion IsFaithfulLease held → IsFaithful l.device
 held_true held w l e h = subst IsFaithfulLease e (lease_at held w h)
 
-from_true : (o : Option (Lease DeviceState)) (w : ℕ) (old new : DeskSession DeviceState) (step : DataStep) (buf : List ℕ) → IsFaithfulLease o → StreamsFrom o w old step new buf → AllByRecursion IsFaithfulLease old.held → AllByRecursion IsFaithfulLease new.held
-from_true None w old new step buf l g h = subst (λ (s : DeskSession DeviceState). AllByRecursion IsFaithfulLease s.held) (sym g.1) h
+from_true : (o : Option (Lease DeviceState)) (w : ℕ) (old new : RequestSession DeviceState) (step : DataStep) (buf : List ℕ) → IsFaithfulLease o → StreamsFrom o w old step new buf → AllByRecursion IsFaithfulLease old.held → AllByRecursion IsFaithfulLease new.held
+from_true None w old new step buf l g h = subst (λ (s : RequestSession DeviceState). AllByRecursion IsFaithfulLease s.held) (sym g.1) h
 from_true (Some lease) w old new step buf l g h =
-    subst (λ (s : DeskSession DeviceState). AllByRecursion IsFaithfulLease s.held) (sym g.new_is)
+    subst (λ (s : RequestSession DeviceState). AllByRecursion IsFaithfulLease s.held) (sym g.new_is)
     (word_true (λ _. with_device lease g.after) old.held w (λ o f. read_true lease.device g.after g.answer g.window g.reads l) h)
 
-pub stream_true : (c : WordCarriage) (old new : DeskSession DeviceState) (step : DataStep) (buf : List ℕ) → StreamsIn c old step new buf → AllByRecursion IsFaithfulLease old.held → AllByRecursion IsFaithfulLease new.held
-stream_true word.Quiet old new step buf g h = subst (λ (s : DeskSession DeviceState). AllByRecursion IsFaithfulLease s.held) (sym g.1) h
-stream_true (word.Waiting w) old new step buf g h = subst (λ (s : DeskSession DeviceState). AllByRecursion IsFaithfulLease s.held) (sym g.1) h
+pub stream_true : (c : WordCarriage) (old new : RequestSession DeviceState) (step : DataStep) (buf : List ℕ) → StreamsIn c old step new buf → AllByRecursion IsFaithfulLease old.held → AllByRecursion IsFaithfulLease new.held
+stream_true word.Quiet old new step buf g h = subst (λ (s : RequestSession DeviceState). AllByRecursion IsFaithfulLease s.held) (sym g.1) h
+stream_true (word.Waiting w) old new step buf g h = subst (λ (s : RequestSession DeviceState). AllByRecursion IsFaithfulLease s.held) (sym g.1) h
 stream_true (word.Streaming w) old new step buf g h = from_true (held_by old.held w) w old new step buf (lease_at old.held w h) g h
-stream_true word.Ending old new step buf g h = subst (λ (s : DeskSession DeviceState). AllByRecursion IsFaithfulLease s.held) (sym g.1) h
+stream_true word.Ending old new step buf g h = subst (λ (s : RequestSession DeviceState). AllByRecursion IsFaithfulLease s.held) (sym g.1) h

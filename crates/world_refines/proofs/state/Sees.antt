@@ -84,6 +84,6 @@ served_stands i j make link (Some id) d e table device p false n apart l h =
     let a = apart id refl in
     (ap session_in (l.slots id.number a.0 a.1) ∙ h.0, table_stands i j make l.held d.stream d.registry e.registry table device n l.shows l.others h.1)
 
-pub seat_stands : (i : ℕ) (make : ℕ → Make) (link own : Option SessionId) (d e : Core) (table device : ℕ → AbstractDevice) → ((id : SessionId) → own ≡ Some id → IsOther link id.number × (id.number < d.opened)) → Leaves i make link d e table device → slot_of_link e own ≡ slot_of_link d own
-seat_stands i make link None d e table device apart l = refl
-seat_stands i make link (Some id) d e table device apart l = let a = apart id refl in l.slots id.number a.0 a.1
+pub slot_stands : (i : ℕ) (make : ℕ → Make) (link own : Option SessionId) (d e : Core) (table device : ℕ → AbstractDevice) → ((id : SessionId) → own ≡ Some id → IsOther link id.number × (id.number < d.opened)) → Leaves i make link d e table device → slot_of_link e own ≡ slot_of_link d own
+slot_stands i make link None d e table device apart l = refl
+slot_stands i make link (Some id) d e table device apart l = let a = apart id refl in l.slots id.number a.0 a.1

@@ -35,13 +35,13 @@ same_map : (g : Session DeviceState → Session DeviceState) → ((s : Session D
 same_map g h None = tt
 same_map g h (Some s) = h s
 
-same_seat : (g : Session DeviceState → Session DeviceState) → ((s : Session DeviceState) → IsSame s (g s)) → (o : Option (SessionSlot DeviceState)) → AreSame (session_in o) (session_in (option_and_then (on_session g) o))
-same_seat g h None = tt
-same_seat g h (Some slot) = same_map g h slot.session
+same_slot : (g : Session DeviceState → Session DeviceState) → ((s : Session DeviceState) → IsSame s (g s)) → (o : Option (SessionSlot DeviceState)) → AreSame (session_in o) (session_in (option_and_then (on_session g) o))
+same_slot g h None = tt
+same_slot g h (Some slot) = same_map g h slot.session
 
 -- a call that changes the session of a number
 pub same_on : (g : Session DeviceState → Session DeviceState) → ((s : Session DeviceState) → IsSame s (g s)) → (n : ℕ) (slots : List (Option (SessionSlot DeviceState))) → AreSame (session_in (session_slot_of slots n)) (session_in (session_slot_of (on_session_slot (on_session g) n slots) n))
-same_on g h n slots = subst (λ (o : Option (SessionSlot DeviceState)). AreSame (session_in (session_slot_of slots n)) (session_in o)) (sym (found_on g n slots)) (same_seat g h (session_slot_of slots n))
+same_on g h n slots = subst (λ (o : Option (SessionSlot DeviceState)). AreSame (session_in (session_slot_of slots n)) (session_in o)) (sym (found_on g n slots)) (same_slot g h (session_slot_of slots n))
 
 pub same_connected : (s : Session DeviceState) → IsSame s (after_connected s)
 same_connected s = record { greeted = refl; awaited = refl }

@@ -37,14 +37,14 @@ use Rattle.world_refines.proofs.state.Faithful.{back_true, cancel_true, cancelle
 use Rattle.world_refines.proofs.state.ReadTrue.{failed_true, lease_at, same_true, stopped_true}
 
 -- all devices of a request context, in their places and lent
-pub record IsTrueDesk (d : RequestContext) : Type 0 where
+pub record IsTrueContext (d : RequestContext) : Type 0 where
   pub lying : AllByRecursion IsFaithfulPlace d.registry
   pub lent : AllByRecursion IsFaithfulLease d.session.held
 
 -- one becomes the other
 pub record Keeps (d new : RequestContext) : Type 0 where
   pub infos : map info_at new.registry ≡ map info_at d.registry
-  pub stays : IsTrueDesk d → IsTrueDesk new
+  pub stays : IsTrueContext d → IsTrueContext new
 
 keeps_same : (d new e : RequestContext) → new ≡ e → Keeps d e → Keeps d new
 keeps_same d new e is h = subst (Keeps d) (sym is) h

@@ -11,7 +11,7 @@ use Rattle.net_client.specs.ClientStates.{ClientState}
 use Rattle.scan_job.specs.declared.outcome.Outcome.{Outcome}
 use Rattle.scan_job.specs.declared.outcome.Outcome.TheVariants as outcomes
 use Rattle.system_model.specs.AbstractMessages.{AbstractRequest}
-use Rattle.system_model.specs.Client as rules
+use Rattle.system_model.specs.Client as model
 use Rattle.system_model.specs.Devices.{Make}
 use Rattle.system_model.specs.AbstractDevices.{AbstractDevice}
 use Rattle.system_model.specs.SystemStates.{JobState}
@@ -55,19 +55,19 @@ pub waits_lost : (c : ClientState) (todo : List AbstractRequest) → (is_running
 waits_lost c todo h = waits_over _ todo (over_if (is_running c.outcome) c refl h)
 
 -- a session that is over has no request of a job that runs
-ended_todo : (i : ℕ) (k : Make) (p : JobState) (dev : AbstractDevice) (st : rules.JobStage) → sound.StageInvariant i k p dev st → p.served ≡ false → IsUnderWay st → p.todo ≡ []
-ended_todo i k p dev rules.Idle h off u = h.1
-ended_todo i k p dev (rules.Running g) (inl h) off u = absurd (let clash : true ≡ false = sym h.served ∙ off in cc)
-ended_todo i k p dev (rules.Running g) (inr (inl h)) off u = h.todo
-ended_todo i k p dev (rules.Running g) (inr (inr h)) off u = h.todo
-ended_todo i k p dev rules.Done h off u = absurd u
-ended_todo i k p dev (rules.Ended status why) h off u = absurd u
+ended_todo : (i : ℕ) (k : Make) (p : JobState) (dev : AbstractDevice) (st : model.JobStage) → sound.StageInvariant i k p dev st → p.served ≡ false → IsUnderWay st → p.todo ≡ []
+ended_todo i k p dev model.Idle h off u = h.1
+ended_todo i k p dev (model.Running g) (inl h) off u = absurd (let clash : true ≡ false = sym h.served ∙ off in cc)
+ended_todo i k p dev (model.Running g) (inr (inl h)) off u = h.todo
+ended_todo i k p dev (model.Running g) (inr (inr h)) off u = h.todo
+ended_todo i k p dev model.Done h off u = absurd u
+ended_todo i k p dev (model.Ended status why) h off u = absurd u
 
 pub waits_ended : (i : ℕ) (k : Make) (p : JobState) (dev : AbstractDevice) (progress : Progress) (todo : List AbstractRequest) → sound.StageInvariant i k p dev p.client.stage → p.served ≡ false → (progress ≡ stages.Over) ⊎ IsUnderWay p.client.stage → WaitsQuietly progress todo → WaitsQuietly progress p.todo
 waits_ended i k p dev progress todo h off (inl over) w = waits_over progress p.todo over
 waits_ended i k p dev progress todo h off (inr u) w = waits_none progress todo p.todo (ended_todo i k p dev p.client.stage h off u) w
 
-pub way_or : (o : Outcome) (progress : Progress) (st : rules.JobStage) (b : Bool) → is_running o ≡ b → (is_running o ≡ false → progress ≡ stages.Over) → (is_running o ≡ true → IsUnderWay st) → (progress ≡ stages.Over) ⊎ IsUnderWay st
+pub way_or : (o : Outcome) (progress : Progress) (st : model.JobStage) (b : Bool) → is_running o ≡ b → (is_running o ≡ false → progress ≡ stages.Over) → (is_running o ≡ true → IsUnderWay st) → (progress ≡ stages.Over) ⊎ IsUnderWay st
 way_or o progress st true e over under = inr (under e)
 way_or o progress st false e over under = inl (over e)
 
@@ -85,13 +85,13 @@ waits_first progress todo is =
       silent = λ e. absurd (let clash : stages.Greeting ≡ stages.Reopening = sym is ∙ e in cc);
     }
 
-pub waits_greeting : (job : rules.AbstractJob) (progress : Progress) (notes : Notes) (past : JoinHistory) (m : rules.ClientView) (todo : List AbstractRequest) → WaitsAs job progress notes past m → m.stage ≡ rules.Running rules.Greeting → WaitsQuietly progress todo
+pub waits_greeting : (job : model.AbstractJob) (progress : Progress) (notes : Notes) (past : JoinHistory) (m : model.ClientView) (todo : List AbstractRequest) → WaitsAs job progress notes past m → m.stage ≡ model.Running model.Greeting → WaitsQuietly progress todo
 waits_greeting job progress notes past m todo w is =
     record {
-      unturned = λ e. let turning = subst (λ (p : Progress). WaitsAs job p notes past m) e w in let clash : rules.Running rules.Greeting ≡ rules.Running rules.Starting = sym is ∙ turning.0 in absurd (cc);
+      unturned = λ e. let turning = subst (λ (p : Progress). WaitsAs job p notes past m) e w in let clash : model.Running model.Greeting ≡ model.Running model.Starting = sym is ∙ turning.0 in absurd (cc);
       silent = λ e.
           let again = subst (λ (p : Progress). WaitsAs job p notes past m) e w in
-          absurd (let clash : rules.Running rules.Greeting ≡ rules.Running (rules.Allowing again.0.0) = sym is ∙ again.0.1 in cc);
+          absurd (let clash : model.Running model.Greeting ≡ model.Running (model.Allowing again.0.0) = sym is ∙ again.0.1 in cc);
     }
 
 -- for the data of a frame whose connection is made

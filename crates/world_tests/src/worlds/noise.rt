@@ -78,7 +78,7 @@ fn some_action(world: &World, dice: &mut Dice, i: usize) -> PlainAction {
             Some(PlainAction::ToDaemon(_)) => PlainAction::ToDaemon(size.saturating_add(1)),
             Some(PlainAction::ToClient(_)) => PlainAction::ToClient(size.saturating_add(1)),
             Some(PlainAction::DataToClient(_)) => PlainAction::DataToClient(size.saturating_add(1)),
-            Some(deed) => deed,
+            Some(action) => action,
             None => PlainAction::Connect,
         },
     }
@@ -118,16 +118,16 @@ fn follow(
     world: &mut World,
     plain: &mut Plain,
     i: usize,
-    deed: PlainAction,
+    action: PlainAction,
 ) {
     let before = all_runs(rt, world);
     let mut party = *plain.parties.get(i).expect(rt, "a job");
     let mut place = *plain.places.get(party.aim.place).expect(rt, "a device");
-    let can = party.can(deed);
-    happens(rt, alloc, world, event_of(i, deed));
+    let can = party.can(action);
+    happens(rt, alloc, world, event_of(i, action));
     if can {
         let goes_on = matches!(next_action(world, i), Some(PlainAction::ToClient(_)));
-        party.goes(i, &mut place, deed, !goes_on);
+        party.goes(i, &mut place, action, !goes_on);
         plain.set_state(i, party, place);
     }
     expect_over(rt, world, i, party.over);
@@ -165,8 +165,8 @@ fn run_out(rt: &impl Abort, alloc: Global, world: &mut World, plain: &mut Plain)
     for _ in 0..EVERY {
         let mut goes_on = false;
         for i in 0..JOBS {
-            if let Some(deed) = next_action(world, i) {
-                follow(rt, alloc, world, plain, i, deed);
+            if let Some(action) = next_action(world, i) {
+                follow(rt, alloc, world, plain, i, action);
                 goes_on = true;
             }
         }
@@ -214,8 +214,8 @@ pub fn noise(rt: &impl Abort, alloc: Global, world: &mut World, seed: u64) {
             shift(rt, alloc, world, &mut plain, &mut dice);
         }
         let i = dice.below(JOBS as u64) as usize;
-        let deed = some_action(world, &mut dice, i);
-        follow(rt, alloc, world, &mut plain, i, deed);
+        let action = some_action(world, &mut dice, i);
+        follow(rt, alloc, world, &mut plain, i, action);
     }
     run_out(rt, alloc, world, &mut plain);
     for (i, party) in plain.parties.iter().enumerate() {

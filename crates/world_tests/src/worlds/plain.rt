@@ -65,8 +65,8 @@ pub enum PlainAction {
 }
 
 /// The event that is this action of a job.
-pub fn event_of(i: usize, deed: PlainAction) -> Event {
-    match deed {
+pub fn event_of(i: usize, action: PlainAction) -> Event {
+    match action {
         PlainAction::Connect => Event::Connect(i),
         PlainAction::ToDaemon(n) => Event::ToDaemon(i, n),
         PlainAction::ToClient(n) => Event::ToClient(i, n),
@@ -240,8 +240,8 @@ impl PlainJob {
     }
 
     /// Whether the model lets the action happen now.
-    pub fn can(&self, deed: PlainAction) -> bool {
-        match deed {
+    pub fn can(&self, action: PlainAction) -> bool {
+        match action {
             PlainAction::Connect => self.is_running() && !self.was_connected,
             PlainAction::ToDaemon(n) => self.linked && !matches!(self.out, [None, ..]) && n > 0,
             PlainAction::ToClient(n) => self.linked && self.due.is_some() && n > 0,
@@ -273,9 +273,9 @@ impl PlainJob {
             PlainAction::DataToClient(4096),
             PlainAction::DataTurn,
         ];
-        for deed in moves {
-            if self.is_running() && self.can(deed) {
-                return Some(deed);
+        for action in moves {
+            if self.is_running() && self.can(action) {
+                return Some(action);
             }
         }
         None
@@ -521,8 +521,8 @@ impl PlainJob {
     }
 
     /// It happens to job i, which can, and where a reply came, whether it is whole.
-    pub fn goes(&mut self, i: usize, place: &mut PlainPlace, deed: PlainAction, is_whole: bool) {
-        match deed {
+    pub fn goes(&mut self, i: usize, place: &mut PlainPlace, action: PlainAction, is_whole: bool) {
+        match action {
             PlainAction::Connect => {
                 self.was_connected = true;
                 self.linked = true;

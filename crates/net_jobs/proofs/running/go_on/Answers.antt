@@ -38,5 +38,5 @@ returns-then-looks_again-clause-moved g c =
 pub returns-clause-moved : goal.returns-clause-moved
 returns-clause-moved g c =
     let taken = c.take_turn.ensures.taken c.if-not-take_turn.false in
-    turn_from (views_of g.C.Read.remaining g.C.Write.contents g.D.Dial.ports g.D.Dial.prepared) (left_ahead g.D.Conn.Read.remaining) c.talk.result c.args.client.now (record { control = c.args.control.now; dial = c.args.dial.now }) (g.D.Dial.coming c.args.dial.now) (ahead_of c.args.stream.now c.args.ahead.now) c.args.tally.now.loss c.take_turn.new.self.loss c.args.tally.now.write_failed c.take_turn.new.self.write_failed _
-    (ap (λ (t : CallTally). t.loss) taken) (ap (λ (t : CallTally). t.write_failed) taken) c.talk.ensures.moved
+    turn_from (views_of g.C.Read.remaining g.C.Write.contents g.D.Dial.ports g.D.Dial.prepared) (left_ahead g.D.Conn.Read.remaining) c.exchange.result c.args.client.now (record { control = c.args.control.now; dial = c.args.dial.now }) (g.D.Dial.coming c.args.dial.now) (ahead_of c.args.stream.now c.args.ahead.now) c.args.tally.now.loss c.take_turn.new.self.loss c.args.tally.now.write_failed c.take_turn.new.self.write_failed _
+    (ap (λ (t : CallTally). t.loss) taken) (ap (λ (t : CallTally). t.write_failed) taken) c.exchange.ensures.moved

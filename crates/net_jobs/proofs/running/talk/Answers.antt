@@ -6,7 +6,7 @@ use Rattle.client_replies.specs.ProtocolStates.{is_running}
 use Rattle.net_client.specs.ClientStates.{ClientState}
 use Rattle.net_client.specs.ToldPorts.{port_told}
 use Rattle.net_jobs.proofs.Turning.{asks_behind, asks_told, dials_held, never_came, turn_writes, turn_fails, turn_dials, turn_hears, turn_prepares}
-use Rattle.net_jobs.proofs.running.talk.Goals as goal
+use Rattle.net_jobs.proofs.running.exchange.Goals as goal
 
 pub returns-then-not-write_out-clause-moved : goal.returns-then-not-write_out-clause-moved
 returns-then-not-write_out-clause-moved g c =

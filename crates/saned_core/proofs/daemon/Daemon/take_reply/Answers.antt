@@ -12,4 +12,4 @@ pub returns-clause-bytes : goal.returns-clause-bytes
 returns-clause-bytes g c = rw (← c.self.view_is) c.take_at.ensures.bytes
 
 pub returns-clause-after : goal.returns-clause-after
-returns-clause-after g c = rw (← c.self.view_is) (hall_is (core g.D.Device.state (record { slots = c.self.inside.sessions.slots; registry = c.self.inside.sessions.registry; users = c.self.inside.users; strings = c.self.inside.strings; stream = c.self.inside.challenger; opened = c.self.inside.opened })) _ _ _ _ c.take_at.ensures.seats c.take_at.ensures.registry)
+returns-clause-after g c = rw (← c.self.view_is) (hall_is (core g.D.Device.state (record { slots = c.self.inside.sessions.slots; registry = c.self.inside.sessions.registry; users = c.self.inside.users; strings = c.self.inside.strings; stream = c.self.inside.challenger; opened = c.self.inside.opened })) _ _ _ _ c.take_at.ensures.slots c.take_at.ensures.registry)
