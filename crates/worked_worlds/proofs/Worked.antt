@@ -208,7 +208,7 @@ page_is : (name : List ℕ) (page : PageView) (users : List Entry) (job : Job) (
 page_is name page users job new c held (FromFirst device there named among) =
     let same : flatbed_with name page ≡ device = only_one (flatbed_with name page) device there in
     only_one (held_from (memory_source page)) held (subst (λ (d : DeviceState). Contains d.pages held) (sym same) among)
-page_is name page users job new c held (AsItRan laid at ran is) = absurd (c.unladen job.device laid (in_list c.events (Load job.device laid) (in_split c.events at.front at.back (Load job.device laid) at.split)))
+page_is name page users job new c held (AsItRan laid happened is) = absurd (c.unladen job.device laid (in_list c.events (Load job.device laid) (in_split c.events happened.0.front happened.0.back (Load job.device laid) happened.0.split)))
 
 pub was_unlisted : (name : List ℕ) (page : PageView) (users : List Entry) (job : Job) (new : WorldCore) → Came (flatbed_with name page ∷ []) users job new → SaysAnswered new statuses.Inval → job.settings.items ≡ [] → job.device ≡ name → meaning_of page (defaults Flatbed Little).scene ≢ None → (from : LedFrom (flatbed_with name page ∷ []) users job) × IsUnlisted from.history from.world 0 job
 was_unlisted name page users job new c told none named meant = (led_from (flatbed_with name page ∷ []) users job new c, by_case (answered Flatbed name (memory_source page ∷ []) users job new statuses.Inval c told none))
@@ -232,10 +232,10 @@ steady_in (page ∷ pages) held (inl same) = ap (λ (x : HeldPage). x.steady) sa
 steady_in (page ∷ pages) held (inr among) = steady_in pages held among
 
 steady_tray : (name : List ℕ) (pages : List PageView) (users : List Entry) (job : Job) (new : WorldCore) (c : Came (feeder_with name pages ∷ []) users job new) → IsSteady (history_of (feeder_with name pages ∷ []) users job new c) new 0 job.device
-steady_tray name pages users job new c held (FromFirst device there named among) taken =
+steady_tray name pages users job new c held (FromFirst device there named among) =
     let same : feeder_with name pages ≡ device = only_one (feeder_with name pages) device there in
     steady_in pages held (in_list (map held_from (map memory_source pages)) held (subst (λ (d : DeviceState). Contains d.pages held) (sym same) among))
-steady_tray name pages users job new c held (AsItRan laid at ran is) taken = absurd (c.unladen job.device laid (in_list c.events (Load job.device laid) (in_split c.events at.front at.back (Load job.device laid) at.split)))
+steady_tray name pages users job new c held (AsItRan laid happened is) = absurd (c.unladen job.device laid (in_list c.events (Load job.device laid) (in_split c.events happened.0.front happened.0.back (Load job.device laid) happened.0.split)))
 
 pub are_scans : (name : List ℕ) (pages : List PageView) (users : List Entry) (job : Job) (new : WorldCore) (first second : List ℕ) → Moved (feeder_with name pages ∷ []) users job new → KeepsPage new 0 1 (Some first) → KeepsPage new 0 2 (Some second) → AreScans (feeder_with name pages ∷ []) users job first second
 are_scans name pages users job new first second m one two =
@@ -248,7 +248,7 @@ are_scans name pages users job new first second m one two =
 -- ---- a scan that surely gives a file
 
 steady_flatbed : (name : List ℕ) (page : PageView) (users : List Entry) (job : Job) (new : WorldCore) (c : Came (flatbed_with name page ∷ []) users job new) → IsSteady (history_of (flatbed_with name page ∷ []) users job new c) new 0 job.device
-steady_flatbed name page users job new c held came taken = ap (λ (x : HeldPage). x.steady) (sym (page_is name page users job new c held came))
+steady_flatbed name page users job new c held came = ap (λ (x : HeldPage). x.steady) (sym (page_is name page users job new c held came))
 
 pub scan_of : (name : List ℕ) (page : PageView) (users : List Entry) (job : Job) (new : WorldCore) (reports : Reports) (bytes : List ℕ) → Moved (flatbed_with name page ∷ []) users job new → ForEach new 0 (λ h job. (o : Outcome) → outcome_at new 0 ≡ Some o → FileIsKept h new 0 job (starved_at new 0) o (Some bytes)) → outcome_at new 0 ≡ Some (Done reports) → job.task ≡ tasks.Scan → IsScanOf page job bytes
 scan_of name page users job new reports bytes m file is scan =

@@ -21,7 +21,7 @@ use Rattle.scan_world.specs.Endpoints.{finished_page}
 use Rattle.scan_world.specs.declared.endpoint.Endpoint.{Endpoint}
 use Rattle.scan_world.specs.Worlds.{IsFitJob, WorldCore}
 use Rattle.world_contract.specs.Histories.{History, history_up_to}
-use Rattle.world_contract.specs.Page.{AreInForce, IsScan, IsSteady, Settled}
+use Rattle.world_contract.specs.Page.{IsScan, IsSteady, Settled}
 use Rattle.world_contract.specs.Endings.{HadNoPage}
 use Rattle.world_contract.specs.Promise.{CountIsKept, FileIsKept, MoveIsKept, MovesAreKept, OutcomeIsKept, PageIsKept}
 use Rattle.world_contract.specs.Laws.{Below}
@@ -51,6 +51,7 @@ use Rattle.world_contract.proofs.moments.Listed.{list_kept}
 use Rattle.world_contract.proofs.moments.Unfiled.{empty_file}
 use Rattle.client_replies.specs.ProtocolStates.{scans}
 use Rattle.device_api.specs.State.{DeviceState}
+use Rattle.device_api.specs.Values.{defaults}
 use Rattle.client_refines.specs.ClientRefinement.{requested_setting, task_of}
 use Rattle.system_model.specs.Devices.{Make, descriptors_in_force, readable_value}
 use Rattle.system_model.specs.AbstractInForce as ruled
@@ -63,6 +64,8 @@ use Rattle.world_refines.specs.GhostStates.{Ghost, job_state, place_named, abstr
 use Rattle.world_refines.specs.MainTheorem.{PromisesAreKept}
 use Rattle.world_refines.specs.WorldPromises.{IsOutcome, KeepsPromise}
 use Rattle.world_contract.specs.Reports.{AreOptionsShown, AreSettingsReported}
+use Rattle.world_contract.specs.Settings.{AreSettingsPut}
+use Rattle.world_contract.proofs.Shown.{all_shown}
 use Rattle.world_contract.proofs.Along.{forced_there}
 use Rattle.world_contract.proofs.Nearest.{nearest_for}
 use Rattle.world_contract.proofs.Lists.{contains_at}
@@ -153,7 +156,7 @@ pub record OnDevice (h : History) (job : Job) : Type 0 where
   pub device : DeviceState
   pub at : slice_get h.devices (place_named (infos_of h) job.device) ≡ Some device
 
-settled_on : (h : History) (job : Job) (on : OnDevice h job) (setup : Setup) (placed : List Placement) → AreInForce on.device job placed setup → Settled h job
+settled_on : (h : History) (job : Job) (on : OnDevice h job) (setup : Setup) (placed : List Placement) → AreSettingsPut (defaults on.device.setup.scene.kind on.device.setup.order) job.settings.items placed setup → Settled h job
 settled_on h job on setup placed forced = record {
   device = on.device;
   is_there = contains_at h.devices (place_named (infos_of h) job.device) on.device on.at;
@@ -210,7 +213,7 @@ shown_kept below h w i job endpoint reports j done show on =
     subst (λ (m : Make). ruled.abstract_in_force m (map requested_setting job.settings.items) ≡ Some made) make
     (ap (λ (x : RuledJob). ruled.abstract_in_force (make_for u.system i) x.settings) (sym (ruled_there below h w i job endpoint j k)) ∙ s.settled.forced) in
     let put = nearest_for device.setup.scene.kind device.setup.order job.settings.items s.in_force (sym (forced_there below.same (make_of b (Some device)) job) ∙ ap (option_map (λ (x : ruled.SettingsResult). x.options)) forced) in
-    (settled_on h job on s.in_force put.0 put.1, s.filled)
+    (settled_on h job on s.in_force put.0 put.1, all_shown s.in_force reports.options s.filled)
 
 -- ---- the file of a job that is no scan
 

@@ -10,7 +10,6 @@ use Rattle.system_model.specs.SystemStates.{JobState, SystemState, listed_device
 use Rattle.system_model.specs.Actions
 use Rattle.system_model.specs.Actions.{Action, answer_next, job_after_action}
 use Rattle.system_model.specs.Transitions.{By, Loads, Transition, Unplugs, after_transition, after_all}
-use Rattle.system_model.specs.Marks.{marks}
 use Rattle.daemon_refines.proofs.Moved.{own}
 
 -- ---- a job stays what it is

@@ -1,5 +1,5 @@
 -- A job in whose way nothing stands is done, or is told as out of memory, or its session broke off.
-use Rattle.std.specs.Prelude.{Contains, map, option_map, slice_get, ◌<◌}
+use Rattle.std.specs.Prelude.{Contains, map, option_map, slice_get}
 use Rattle.std.specs.List.{AllByRecursion}
 use Rattle.std.proofs.Common.{◌≡◌, ◌≢◌, ◌∙◌, ◌⊎◌, ℕ, List, [], ◌∷◌, ◌++◌, Bool, true, false, Option, Some, None, inl, inr, refl, sym, ap, subst}
 use Rattle.page_picture.specs.SourceView.{source_state}
@@ -109,7 +109,7 @@ settled_more h es job s = record { device = s.device; is_there = s.is_there; nam
 -- a page that came as a job ran came
 came_ever : (h : History) (w : WorldCore) (i : ℕ) (name : List ℕ) (held : HeldPage) → CameInTime h w i name held → CameFor h name held
 came_ever h w i name held (FromFirst device there named among) = AtFirst device there named among
-came_ever h w i name held (AsItRan source at ran is) = WithEvent source (in_split h.events at.front at.back (Load name source) at.split) is
+came_ever h w i name held (AsItRan source happened is) = WithEvent source (in_split h.events happened.0.front happened.0.back (Load name source) happened.0.split) is
 
 came_back : (h : History) (es : List Event) → AreOld h es → (name : List ℕ) (held : HeldPage) → CameFor (history_up_to h es) name held → CameFor h name held
 came_back h es old name held (AtFirst device there named among) = AtFirst device there named among

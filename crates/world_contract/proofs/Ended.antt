@@ -38,26 +38,28 @@ use Rattle.scan_world.specs.declared.event.Event.TheVariants.{LoseControl}
 use Rattle.scan_world.specs.JobMoves.{IsNextMove}
 use Rattle.scan_world.specs.Worlds.{WorldCore}
 use Rattle.world_refines.specs.FailedSources.{AllAlong}
-use Rattle.world_refines.specs.GhostStates.{job_state, place_of_info, abstract_job}
+use Rattle.page_picture.specs.SourceView.{source_state}
+use Rattle.world_refines.specs.GhostStates.{Ghost, job_state, place_of_info, abstract_job}
+use Rattle.world_refines.specs.MainTheorem.{AreFittingLoads}
 use Rattle.world_refines.specs.NewWorlds.{HaveSourcesAt, PageSources, make_of}
 use Rattle.world_refines.specs.WorldRefinement.{client_at_greeting}
 use Rattle.world_contract.specs.Calls.{HadUnsaidReply}
 use Rattle.world_contract.specs.Endings.{IsUnforced, NamesStatus}
-use Rattle.world_contract.specs.Histories.{History, LedTo, Moment, history_up_to}
+use Rattle.world_contract.specs.Histories.{History, LedTo, history_up_to}
 use Rattle.world_contract.specs.Laws.{Below}
-use Rattle.world_contract.proofs.Along.{Here, Laws, NotForced, Own, device_named, forced_there}
+use Rattle.world_contract.proofs.Along.{Fine, Here, Laws, NotForced, Own, device_named, forced_there}
 use Rattle.world_contract.proofs.Jobs.{IsJob}
-use Rattle.world_contract.proofs.Lists.{all_each, in_list, in_split}
+use Rattle.world_contract.proofs.Lists.{all_each}
 use Rattle.world_contract.proofs.Nearest.{none_nearest}
 use Rattle.world_contract.proofs.OfJobs.{all_of_jobs}
 use Rattle.world_contract.proofs.Rows.{AnswerEver, EndingEver}
 use Rattle.world_contract.proofs.Pages.{IsOfOne, all_of_one, first_slot}
 use Rattle.world_contract.proofs.Scanned.{at_first, ghost_by, infos_of, untouched_by}
-use Rattle.world_contract.proofs.Sources.{can_fail_at, event_fits, have_sources, make_at, sources_of}
-use Rattle.world_contract.proofs.Taken.{FitsTaken, OnRun, fits_all, on_all}
-use Rattle.world_contract.proofs.Traced.{IsOfSome, each_of, traced}
+use Rattle.world_contract.proofs.Changing.{came_among, changing_among, changing_in}
+use Rattle.world_contract.proofs.Sources.{CanFail, all_fit, can_fail_at, have_sources, loads_fit, sources_of}
+use Rattle.world_contract.proofs.Traced.{each_of, traced}
 use Rattle.world_contract.proofs.moments.Judged.{EndedBy, Evid, Judged, JudgedAt, all_judged, among_met}
-use Rattle.world_contract.proofs.moments.Moments.{AnsweredSo, Comes, HappenedSo, come, in_part}
+use Rattle.world_contract.proofs.moments.Moments.{AnsweredSo, Comes, HappenedSo, come}
 
 -- ---- the words of the rules, and those of the clients
 
@@ -146,42 +148,42 @@ unforced h i job o none s =
 
 -- ---- the table
 
-explained_as : (h : History) (w : WorldCore) (i : ℕ) (job : Job) (starved : Bool) (status : Code) (why as_why : Reason) → why ≡ as_why → EndingEver h w i job starved status as_why → EndingEver h w i job starved status why
-explained_as h w i job starved status why as_why e x = subst (EndingEver h w i job starved status) (sym e) x
+explained_as : (h : History) (w : WorldCore) (changing : List Event) (i : ℕ) (job : Job) (starved : Bool) (status : Code) (why as_why : Reason) → why ≡ as_why → EndingEver h w changing i job starved status as_why → EndingEver h w changing i job starved status why
+explained_as h w changing i job starved status why as_why e x = subst (EndingEver h w changing i job starved status) (sym e) x
 
-answered_as : (h : History) (w : WorldCore) (i : ℕ) (job : Job) (starved : Bool) (status as_status : Code) (why : Reason) → (status ≡ as_status) × (why ≡ whys.Answer) → AnswerEver h w i job as_status → EndingEver h w i job starved status why
-answered_as h w i job starved status as_status why e x = explained_as h w i job starved status why whys.Answer e.1 (inr (subst (AnswerEver h w i job) (sym e.0) x))
+answered_as : (h : History) (w : WorldCore) (changing : List Event) (i : ℕ) (job : Job) (starved : Bool) (status as_status : Code) (why : Reason) → (status ≡ as_status) × (why ≡ whys.Answer) → AnswerEver h w changing i job as_status → EndingEver h w changing i job starved status why
+answered_as h w changing i job starved status as_status why e x = explained_as h w changing i job starved status why whys.Answer e.1 (inr (subst (AnswerEver h w changing i job) (sym e.0) x))
 
-row : (h : History) (w : WorldCore) (i : ℕ) (job : Job) (starved : Bool) (status : Code) (why : Reason) (v : Why) (c : Cause) → why_of why ≡ Some v → (c ≡ LinkOutOfMemory → starved ≡ true) → Evid h w i job c → Explains c (abstract_status status) v → EndingEver h w i job starved status why
-row h w i job starved status why v GaveUp is z e x = let b = both_are status why words.GivenUp words.Cancelled v is x in explained_as h w i job starved status why whys.Cancelled b.1 (b.0, e)
-row h w i job starved status why v LinkLost is z e x = let b = both_are status why words.IoError words.Lost v is x in explained_as h w i job starved status why whys.Lost b.1 (b.0, inl e)
-row h w i job starved status why v WasUnsaid is z e x = absurd x
-row h w i job starved status why v LinkOutOfMemory is z e x = let b = both_are status why words.IoError words.Lost v is x in explained_as h w i job starved status why whys.Lost b.1 (b.0, inr (z refl))
-row h w i job starved status why v SourceFailed is z e x = answered_as h w i job starved status codes.IoError why (both_are status why words.IoError words.Answer v is x) e
-row h w i job starved status why v NamesEof is z e x =
+row : (h : History) (w : WorldCore) (changing : List Event) (i : ℕ) (job : Job) (starved : Bool) (status : Code) (why : Reason) (v : Why) (c : Cause) → why_of why ≡ Some v → (c ≡ LinkOutOfMemory → starved ≡ true) → Evid h w changing i job c → Explains c (abstract_status status) v → EndingEver h w changing i job starved status why
+row h w changing i job starved status why v GaveUp is z e x = let b = both_are status why words.GivenUp words.Cancelled v is x in explained_as h w changing i job starved status why whys.Cancelled b.1 (b.0, e)
+row h w changing i job starved status why v LinkLost is z e x = let b = both_are status why words.IoError words.Lost v is x in explained_as h w changing i job starved status why whys.Lost b.1 (b.0, inl e)
+row h w changing i job starved status why v WasUnsaid is z e x = absurd x
+row h w changing i job starved status why v LinkOutOfMemory is z e x = let b = both_are status why words.IoError words.Lost v is x in explained_as h w changing i job starved status why whys.Lost b.1 (b.0, inr (z refl))
+row h w changing i job starved status why v SourceFailed is z e x = answered_as h w changing i job starved status codes.IoError why (both_are status why words.IoError words.Answer v is x) e
+row h w changing i job starved status why v NamesEof is z e x =
     let b = both_are status why words.IoError words.Short v is x in
-    explained_as h w i job starved status why whys.Short b.1 (b.0, (e.0, e.1, (e.2.0, code_in e.2.0.setup.told words.Eof e.2.1)))
-row h w i job starved status why v (Names s) is z e x =
+    explained_as h w changing i job starved status why whys.Short b.1 (b.0, (e.0, e.1, (e.2.0, code_in e.2.0.setup.told words.Eof e.2.1)))
+row h w changing i job starved status why v (Names s) is z e x =
     let named : NamesStatus h w i job status = (e.0, e.1, (e.2.0, code_in e.2.0.setup.told s e.2.1 ∙ ap (λ (y : Code). Some y) (sym (code_is status s x.0)))) in
     let other : status ≢ codes.Eof = λ eof. x.1 (sym x.0 ∙ ap abstract_status eof) in
-    explained_as h w i job starved status why whys.Answer (why_is why words.Answer (is ∙ ap (λ (y : Why). Some y) x.2)) (inl (other, named))
-row h w i job starved status why v Unforced is z e x = absurd e
-row h w i job starved status why v WasUnlisted is z e x = answered_as h w i job starved status codes.Inval why (both_are status why words.Inval words.Answer v is x) (inr (inl e))
-row h w i job starved status why v HadNoPicture is z e x = answered_as h w i job starved status codes.Inval why (both_are status why words.Inval words.Answer v is x) (inr (inr e))
-row h w i job starved status why v WasHeld is z e x = answered_as h w i job starved status codes.DeviceBusy why (both_are status why words.Busy words.Answer v is x) e
-row h w i job starved status why v Disallowed is z e x = answered_as h w i job starved status codes.AccessDenied why (both_are status why words.AccessDenied words.Answer v is x) e
-row h w i job starved status why v TrayWasEmpty is z e x = answered_as h w i job starved status codes.NoDocs why (both_are status why words.NoDocs words.Answer v is x) e
-row h w i job starved status why v TrayRanOut is z e x = absurd x
-row h w i job starved status why v ClientOutOfMemory is z e x = let b = both_are status why words.NoMem words.Memory v is x in explained_as h w i job starved status why whys.Memory b.1 (b.0, e)
+    explained_as h w changing i job starved status why whys.Answer (why_is why words.Answer (is ∙ ap (λ (y : Why). Some y) x.2)) (inl (other, named))
+row h w changing i job starved status why v Unforced is z e x = absurd e
+row h w changing i job starved status why v WasUnlisted is z e x = answered_as h w changing i job starved status codes.Inval why (both_are status why words.Inval words.Answer v is x) (inr (inl e))
+row h w changing i job starved status why v HadNoPicture is z e x = answered_as h w changing i job starved status codes.Inval why (both_are status why words.Inval words.Answer v is x) (inr (inr e))
+row h w changing i job starved status why v WasHeld is z e x = answered_as h w changing i job starved status codes.DeviceBusy why (both_are status why words.Busy words.Answer v is x) e
+row h w changing i job starved status why v Disallowed is z e x = answered_as h w changing i job starved status codes.AccessDenied why (both_are status why words.AccessDenied words.Answer v is x) e
+row h w changing i job starved status why v TrayWasEmpty is z e x = answered_as h w changing i job starved status codes.NoDocs why (both_are status why words.NoDocs words.Answer v is x) e
+row h w changing i job starved status why v TrayRanOut is z e x = absurd x
+row h w changing i job starved status why v ClientOutOfMemory is z e x = let b = both_are status why words.NoMem words.Memory v is x in explained_as h w changing i job starved status why whys.Memory b.1 (b.0, e)
 
 -- settings that cannot be in force
-unforced_row : (h : History) (w : WorldCore) (i : ℕ) (job : Job) (starved : Bool) (status : Code) (why : Reason) (v : Why) → status ≡ codes.Inval → why_of why ≡ Some v → (v ≡ words.Setting) ⊎ (v ≡ words.Answer) → IsUnforced h job → EndingEver h w i job starved status why
-unforced_row h w i job starved status why v inval is (inl e) none = explained_as h w i job starved status why whys.Setting (why_is why words.Setting (is ∙ ap (λ (x : Why). Some x) e)) (inval, none)
-unforced_row h w i job starved status why v inval is (inr e) none = answered_as h w i job starved status codes.Inval why (inval, why_is why words.Answer (is ∙ ap (λ (x : Why). Some x) e)) (inl none)
+unforced_row : (h : History) (w : WorldCore) (changing : List Event) (i : ℕ) (job : Job) (starved : Bool) (status : Code) (why : Reason) (v : Why) → status ≡ codes.Inval → why_of why ≡ Some v → (v ≡ words.Setting) ⊎ (v ≡ words.Answer) → IsUnforced h job → EndingEver h w changing i job starved status why
+unforced_row h w changing i job starved status why v inval is (inl e) none = explained_as h w changing i job starved status why whys.Setting (why_is why words.Setting (is ∙ ap (λ (x : Why). Some x) e)) (inval, none)
+unforced_row h w changing i job starved status why v inval is (inr e) none = answered_as h w changing i job starved status codes.Inval why (inval, why_is why words.Answer (is ∙ ap (λ (x : Why). Some x) e)) (inl none)
 
-table : (h : History) (w : WorldCore) (i : ℕ) (job : Job) (starved : Bool) (met : List Cause) (status : Code) (why : Reason) (v : Why) → Own h i job → why_of why ≡ Some v → (IsCauseAmong LinkOutOfMemory met → starved ≡ true) → EndedBy h w i job met (abstract_status status) v → EndingEver h w i job starved status why
-table h w i job starved met status why v o is z (inl (c, e, m, x)) = row h w i job starved status why v c is (λ same. z (subst (λ (y : Cause). IsCauseAmong y met) same m)) e x
-table h w i job starved met status why v o is z (inr n) = unforced_row h w i job starved status why v (code_is status words.Inval n.1.0) is n.1.1 (unforced h i job o n.0)
+table : (h : History) (w : WorldCore) (changing : List Event) (i : ℕ) (job : Job) (starved : Bool) (met : List Cause) (status : Code) (why : Reason) (v : Why) → Own h i job → why_of why ≡ Some v → (IsCauseAmong LinkOutOfMemory met → starved ≡ true) → EndedBy h w changing i job met (abstract_status status) v → EndingEver h w changing i job starved status why
+table h w changing i job starved met status why v o is z (inl (c, e, m, x)) = row h w changing i job starved status why v c is (λ same. z (subst (λ (y : Cause). IsCauseAmong y met) same m)) e x
+table h w changing i job starved met status why v o is z (inr n) = unforced_row h w changing i job starved status why v (code_is status words.Inval n.1.0) is n.1.1 (unforced h i job o n.0)
 
 -- ---- the job at its end
 
@@ -202,81 +204,115 @@ both_along P Q s (x ∷ xs) a b = ((a.0, b.0), both_along P Q (after_transition 
 abbrev pub make_by : History → (ℕ → PageSources) → ℕ → Make
 make_by h sources d = make_of (sources d) (slice_get h.devices d)
 
--- all steps, each with the moment of its event, where so much is known of the pages that the daemon takes in them
-pub comes_by : (below : Below) (h : History) (w : WorldCore) (job : Job) (l : LedTo h w) (sources : ℕ → PageSources) (Is : WorldCore → Type 0) → HaveSourcesAt sources h.devices → ((e : Event) (m : Moment h w e) → Is m.before → FitsTaken (infos_of h) (make_by h sources) e m.before) → OnRun Is h.events l.first w l.runs → Comes h w job h.events (ghost_by h w job l sources)
-comes_by below h w job l sources Is haves fits ran =
+-- the steps of the events that change the world, where so much is known of the pages that come with these
+pub comes_by : (below : Below) (h : History) (w : WorldCore) (job : Job) (l : LedTo h w) (sources : ℕ → PageSources) → HaveSourcesAt sources h.devices → AreFittingLoads source_state (infos_of h) (make_by h sources) (changing_in h w l) → Comes h w job (changing_in h w l) (ghost_by h w job l sources)
+comes_by below h w job l sources haves fits =
     let t = ghost_by h w job l sources in
     let new = below.new sources h.jobs job h.devices l.first l.endpoints l.daemon l.names l.limits haves l.fit in
     let first : LedTo (history_up_to h []) l.first = record { first = l.first; endpoints = l.endpoints; daemon = l.daemon; users_are = l.users_are; names = l.names; limits = l.limits; fit = l.fit; loads = tt; runs = refl } in
-    come below.follows below.histories below.last below.kept h w job (make_by h sources) Is fits h.events [] t l.first refl first l.loads l.runs ran new (ap (λ (users : List Entry). (users, infos_of h, length h.jobs, λ (k : ℕ). slice_index_or h.jobs k job)) l.users_are) refl
+    come below.follows below.histories below.last below.kept h w job (make_by h sources) h.events [] t l.first refl first l.loads l.runs fits new (ap (λ (users : List Entry). (users, infos_of h, length h.jobs, λ (k : ℕ). slice_index_or h.jobs k job)) l.users_are) refl
 
-pub comes_there : (below : Below) (h : History) (w : WorldCore) (job : Job) (l : LedTo h w) → Comes h w job h.events (at_first h w job l)
-comes_there below h w job l =
-    comes_by below h w job l (sources_of h) (λ (u : WorldCore). Unit {0}) (have_sources h)
-    (λ e m is. fits_all (infos_of h) (make_at h) e m.before (event_fits h e (in_list h.events e (in_split h.events m.front m.back e m.split))))
-    (on_all (λ (u : WorldCore). Unit {0}) (λ u. tt) h.events l.first w l.runs)
+pub comes_there : (below : Below) (h : History) (w : WorldCore) (job : Job) (l : LedTo h w) → Comes h w job (changing_in h w l) (at_first h w job l)
+comes_there below h w job l = comes_by below h w job l (sources_of h) (have_sources h) (all_fit h (changing_in h w l) (changing_among h w l))
+
+-- of devices of which no more is known than what came with these
+abbrev pub of_changing : (h : History) (w : WorldCore) → LedTo h w → History
+of_changing h w l = history_up_to h (changing_in h w l)
+
+abbrev pub changed_first : (h : History) (w : WorldCore) (job : Job) → LedTo h w → Ghost
+changed_first h w job l = ghost_by h w job l (sources_of (of_changing h w l))
+
+pub comes_changing : (below : Below) (h : History) (w : WorldCore) (job : Job) (l : LedTo h w) → Comes h w job (changing_in h w l) (changed_first h w job l)
+comes_changing below h w job l = comes_by below h w job l (sources_of (of_changing h w l)) (have_sources (of_changing h w l)) (loads_fit (of_changing h w l))
 
 pub laws_of : Below → Laws
 laws_of below = record { legal = below.marks; sound = below.histories; last = below.last; grounds = below.grounds }
 
+-- a page that can fail comes for a device whose source may
+abbrev pub FailuresCame : History → History → (ℕ → PageSources) → Type 0
+FailuresCame h g sources = (d : ℕ) → (sources d).fallible ≡ true → (device : DeviceState) → slice_get h.devices d ≡ Some device → CanFail g device.info.name
+
+pub failures_more : (h : History) (w : WorldCore) (l : LedTo h w) (sources : ℕ → PageSources) → FailuresCame h (of_changing h w l) sources → FailuresCame h h sources
+failures_more h w l sources fails d able device at =
+    let r = fails d able device at in
+    (r.0, came_among h (changing_in h w l) (changing_among h w l) device.info.name r.0 r.1, r.2)
+
+pub failures_changing : (h : History) (w : WorldCore) (l : LedTo h w) → FailuresCame h (of_changing h w l) (sources_of (of_changing h w l))
+failures_changing h w l d able device at = can_fail_at (of_changing h w l) d device at able
+
 -- what the first step of it needs
-pub first_by : (below : Below) (h : History) (w : WorldCore) (i : ℕ) (job : Job) (l : LedTo h w) (sources : ℕ → PageSources) → HaveSourcesAt sources h.devices → ((d : ℕ) → (sources d).fallible ≡ (sources_of h d).fallible) → slice_get h.jobs i ≡ Some job → Here h i job (ghost_by h w job l sources).system
+pub fine_first : (h : History) (w : WorldCore) (job : Job) (l : LedTo h w) (sources : ℕ → PageSources) (changing : List Event) → FailuresCame h (history_up_to h changing) sources → Fine (history_up_to h changing) job (ghost_by h w job l sources).system
+fine_first h w job l sources changing fails = record {
+  makes = λ d. record { sources = sources d; is = refl; fails = fails d };
+  places = λ n. refl;
+  slots = λ d. first_slot (history_up_to h changing) ((ghost_by h w job l sources).system.make d) d;
+}
+
+pub first_by : (below : Below) (h : History) (w : WorldCore) (i : ℕ) (job : Job) (l : LedTo h w) (sources : ℕ → PageSources) → HaveSourcesAt sources h.devices → FailuresCame h h sources → slice_get h.jobs i ≡ Some job → Here h i job (ghost_by h w job l sources).system
 first_by below h w i job l sources haves fails job_at =
     let t = ghost_by h w job l sources in
     let new = below.new sources h.jobs job h.devices l.first l.endpoints l.daemon l.names l.limits haves l.fit in
     record {
       own_job = record { at = job_at; apart = new.is_of.apart; same = below.same };
-      fine = record { makes = λ d. record { sources = sources d; is = refl; fails = λ able device at. can_fail_at h d device at (sym (fails d) ∙ able) }; places = λ n. refl; slots = λ d. first_slot h (t.system.make d) d };
+      fine = record { makes = λ d. record { sources = sources d; is = refl; fails = fails d }; places = λ n. refl; slots = λ d. first_slot h (t.system.make d) d };
       is = ap (λ (users : List Entry). abstract_job users (infos_of h) (slice_index_or h.jobs i job)) l.users_are ∙ ap (λ (x : Job). abstract_job h.users (infos_of h) x) (get_or_from_slice_get h.jobs i job job job_at);
       asks = λ c is. absurd (let clash : None ≡ Some c = is in cc);
       sound = new.sound;
     }
 
 pub first_here : (below : Below) (h : History) (w : WorldCore) (i : ℕ) (job : Job) (l : LedTo h w) → slice_get h.jobs i ≡ Some job → Here h i job (at_first h w job l).system
-first_here below h w i job l job_at = first_by below h w i job l (sources_of h) (have_sources h) (λ d. refl) job_at
+first_here below h w i job l job_at = first_by below h w i job l (sources_of h) (have_sources h) (λ d able device at. can_fail_at h d device at able) job_at
 
-pub steps_by : (h : History) (w : WorldCore) (job : Job) (l : LedTo h w) (sources : ℕ → PageSources) (k : Comes h w job h.events (ghost_by h w job l sources)) → AllByRecursion (IsOfOne h) k.steps
-steps_by h w job l sources k =
+pub steps_of_changing : (h : History) (w : WorldCore) (job : Job) (l : LedTo h w) (sources : ℕ → PageSources) (k : Comes h w job (changing_in h w l) (ghost_by h w job l sources)) → AllByRecursion (IsOfOne (of_changing h w l)) k.steps
+steps_of_changing h w job l sources k =
     let t = ghost_by h w job l sources in
-    let of = each_of (infos_of h) k.kept k.steps (traced k.kept t k.steps k.ghost_then k.comes) in
-    all_of_one h k.steps
-    (all_each (IsOfSome (infos_of h) k.kept) (IsOfSome (infos_of h) h.events) k.steps (λ x o. record { event = o.event; among = in_part k.kept h.events o.event k.part o.among; is = o.is }) of)
-    (all_of_jobs k.kept t k.steps k.ghost_then (untouched_by h w job l sources) k.comes)
+    all_of_one (of_changing h w l) k.steps
+    (each_of (infos_of h) (changing_in h w l) k.steps (traced (changing_in h w l) t k.steps k.ghost_then k.comes))
+    (all_of_jobs (changing_in h w l) t k.steps k.ghost_then (untouched_by h w job l sources) k.comes)
+
+pub steps_by : (h : History) (w : WorldCore) (job : Job) (l : LedTo h w) (sources : ℕ → PageSources) (k : Comes h w job (changing_in h w l) (ghost_by h w job l sources)) → AllByRecursion (IsOfOne h) k.steps
+steps_by h w job l sources k =
+    all_each (IsOfOne (of_changing h w l)) (IsOfOne h) k.steps (λ x o. record { event = o.event; among = changing_among h w l o.event o.among; is = o.is; there = o.there })
+    (steps_of_changing h w job l sources k)
 
 pub steps_of_one : (below : Below) (h : History) (w : WorldCore) (job : Job) (l : LedTo h w) → AllByRecursion (IsOfOne h) (comes_there below h w job l).steps
 steps_of_one below h w job l = steps_by h w job l (sources_of h) (comes_there below h w job l)
 
 -- each cause that a job met that is under way has its evidence, and its ending has its own
-pub judged_there : (below : Below) (h : History) (w : WorldCore) (i : ℕ) (job : Job) (l : LedTo h w) → slice_get h.jobs i ≡ Some job → JudgedAt h w i job (comes_there below h w job l).ghost_then.system
+pub judged_there : (below : Below) (h : History) (w : WorldCore) (i : ℕ) (job : Job) (l : LedTo h w) → slice_get h.jobs i ≡ Some job → JudgedAt h w (changing_in h w l) i job (comes_changing below h w job l).ghost_then.system
 judged_there below h w i job l job_at =
-    let k = comes_there below h w job l in
-    let t = at_first h w job l in
-    subst (JudgedAt h w i job) (sym k.rules_are) (all_judged (laws_of below) h w i job k.steps t.system (first_here below h w i job l job_at) (steps_of_one below h w job l) (both_along (AnsweredSo h w job) (HappenedSo h w job) t.system k.steps k.answered k.happened) k.legal tt)
+    let g = of_changing h w l in
+    let k = comes_changing below h w job l in
+    let t = changed_first h w job l in
+    let here = first_by below h w i job l (sources_of g) (have_sources g) (failures_more h w l (sources_of g) (failures_changing h w l)) job_at in
+    let fine = fine_first h w job l (sources_of g) (changing_in h w l) (failures_changing h w l) in
+    subst (JudgedAt h w (changing_in h w l) i job) (sym k.rules_are)
+    (all_judged (laws_of below) h w (changing_in h w l) i job k.steps t.system here fine (steps_by h w job l (sources_of g) k) (steps_of_changing h w job l (sources_of g) k) (both_along (AnsweredSo h w job) (HappenedSo h w job) t.system k.steps k.answered k.happened) k.legal tt)
 
-pub at_end : Below → (h : History) (w : WorldCore) (i : ℕ) (job : Job) (endpoint : Endpoint) (status : Code) (why : Reason) → IsJob h w i job endpoint → endpoint.client.outcome ≡ outcomes.Ended status why → EndingEver h w i job endpoint.out_of_memory status why
+pub at_end : Below → (h : History) (w : WorldCore) (i : ℕ) (job : Job) (endpoint : Endpoint) (status : Code) (why : Reason) → (j : IsJob h w i job endpoint) → endpoint.client.outcome ≡ outcomes.Ended status why → EndingEver h w (changing_in h w j.led) i job endpoint.out_of_memory status why
 at_end below h w i job endpoint status why j is =
-    let k = comes_there below h w job j.led in
+    let k = comes_changing below h w job j.led in
     let u = k.ghost_then in
     let o = (first_here below h w i job j.led j.job_at).own_job in
     let sits = k.stands.endpoints i endpoint j.endpoint_at in
     let d = ended_reads (place_of_info u.infos) (target_of (u.jobs i)) (job_state u i).session.job (map (λ (q : JoinHistory). q.ended) (u.pages i)) endpoint.client.outcome endpoint.client.progress endpoint.client.notes (u.history i) (client_at_greeting (job_state u i).client.stage (job_state u i).client) status why sits.exchanges.reads.stands is in
     let stage = woken_ended (job_state u i).client.stage (job_state u i).client (abstract_status status) d.0 refl d.1.1 in
-    let judged = subst (Judged h w i job (job_state u i).session.met (job_state u i).client.pages) stage (judged_there below h w i job j.led j.job_at) in
-    table h w i job endpoint.out_of_memory (job_state u i).session.met status why d.0 o d.1.0 sits.means.starved judged
+    let judged = subst (Judged h w (changing_in h w j.led) i job (job_state u i).session.met (job_state u i).client.pages) stage (judged_there below h w i job j.led j.job_at) in
+    table h w (changing_in h w j.led) i job endpoint.out_of_memory (job_state u i).session.met status why d.0 o d.1.0 sits.means.starved judged
 
 -- ---- a reply that could not be said
 
-unsaid_judged : (h : History) (w : WorldCore) (i : ℕ) (job : Job) (met : List Cause) (pages : List (List Frame)) (stage : JobStage) → IsUnderWay stage → Judged h w i job met pages stage → IsCauseAmong WasUnsaid met → HadUnsaidReply h w i job
-unsaid_judged h w i job met pages Idle on a m = among_met h w i job WasUnsaid met a m
-unsaid_judged h w i job met pages (Running g) on a m = among_met h w i job WasUnsaid met a m
-unsaid_judged h w i job met pages Done on a m = absurd on
-unsaid_judged h w i job met pages (Ended status why) on a m = absurd on
+unsaid_judged : (h : History) (w : WorldCore) (changing : List Event) (i : ℕ) (job : Job) (met : List Cause) (pages : List (List Frame)) (stage : JobStage) → IsUnderWay stage → Judged h w changing i job met pages stage → IsCauseAmong WasUnsaid met → HadUnsaidReply h w i job
+unsaid_judged h w changing i job met pages Idle on a m = among_met h w changing i job WasUnsaid met a m
+unsaid_judged h w changing i job met pages (Running g) on a m = among_met h w changing i job WasUnsaid met a m
+unsaid_judged h w changing i job met pages Done on a m = absurd on
+unsaid_judged h w changing i job met pages (Ended status why) on a m = absurd on
 
 pub loss_kept : (below : Below) (h : History) (w : WorldCore) (i : ℕ) (job : Job) (endpoint : Endpoint) → IsJob h w i job endpoint → IsNextMove w.daemon i endpoint (Some (LoseControl i)) → (endpoint.out_of_memory ≡ true) ⊎ HadUnsaidReply h w i job
 loss_kept below h w i job endpoint j next =
-    let k = comes_there below h w job j.led in
+    let k = comes_changing below h w job j.led in
     let u = k.ghost_then in
     elim (below.losses u w i endpoint k.stands j.endpoint_at next) [
       | inl out ↦ inl out
-      | inr met ↦ inr (unsaid_judged h w i job (job_state u i).session.met (job_state u i).client.pages (job_state u i).client.stage met.0 (judged_there below h w i job j.led j.job_at) met.1)
+      | inr met ↦ inr (unsaid_judged h w (changing_in h w j.led) i job (job_state u i).session.met (job_state u i).client.pages (job_state u i).client.stage met.0 (judged_there below h w i job j.led j.job_at) met.1)
     ]

@@ -28,7 +28,7 @@ use Rattle.scan_world.specs.JobEvents.{is_done}
 use Rattle.scan_world.specs.Worlds.{WorldCore}
 use Rattle.world_contract.specs.Histories.{History, LedTo, and_then, begun}
 use Rattle.world_contract.specs.Settings.{AreSettingsPut}
-use Rattle.world_contract.specs.Page.{AreInForce, CameInTime, IsScan, IsSteady}
+use Rattle.world_contract.specs.Page.{CameInTime, IsScan, IsSteady}
 use Rattle.world_contract.specs.Page.CameInTime.{FromFirst, AsItRan}
 use Rattle.world_contract.specs.Promise.{FileIsKept, OutcomeIsKept}
 use Rattle.world_contract.specs.Calls.{ForEach, IsJobAt, RunsOut, file_answered, outcome_at, starved_at}
@@ -86,9 +86,9 @@ page_is : (h : History) (w : WorldCore) (i : ℕ) (name other : List ℕ) (sourc
 page_is h w i name other source held only quiet (FromFirst device there named among) =
     let same : new_scanner Flatbed name source Little ≡ device = only device there named in
     contains_one (held_from source) held (subst (λ (d : DeviceState). Contains d.pages held) (sym same) among)
-page_is h w i name other source held only quiet (AsItRan laid at ran is) = absurd (no_load h.events other laid quiet (in_split h.events at.front at.back (Load other laid) at.split))
+page_is h w i name other source held only quiet (AsItRan laid happened is) = absurd (no_load h.events other laid quiet (in_split h.events happened.0.front happened.0.back (Load other laid) happened.0.split))
 
-on_flatbed : (name : List ℕ) (source : SourceState) (placed : List Placement) (setup : Setup) (job : Job) → AreInForce (new_scanner Flatbed name source Little) job placed setup → AreSettingsPut (defaults Flatbed Little) job.settings.items placed setup
+on_flatbed : (name : List ℕ) (source : SourceState) (placed : List Placement) (setup : Setup) (job : Job) → AreSettingsPut (defaults (new_scanner Flatbed name source Little).setup.scene.kind (new_scanner Flatbed name source Little).setup.order) job.settings.items placed setup → AreSettingsPut (defaults Flatbed Little) job.settings.items placed setup
 unfolding defaults
 on_flatbed name source placed setup job h = h
 
@@ -100,7 +100,7 @@ scan_of_one h w i count job bytes name source only quiet scan =
     record {
       setup = s.setup;
       placed = s.placed;
-      in_force = on_flatbed name source s.placed s.setup job (subst (λ (d : DeviceState). AreInForce d job s.placed s.setup) (sym same) s.in_force);
+      in_force = on_flatbed name source s.placed s.setup job (subst (λ (d : DeviceState). AreSettingsPut (defaults d.setup.scene.kind d.setup.order) job.settings.items s.placed s.setup) (sym same) s.in_force);
       picture = scan.picture;
       meant = subst (λ (p : PageView). meaning_of p s.setup.scene ≡ Some scan.picture) (sym page) scan.meant;
       denotes = scan.denotes;
@@ -113,7 +113,7 @@ done_reports (Ended status why) e = absurd (let clash : false ≡ true = e in cc
 
 -- the pages of the flatbed, where events bring none, are that of its source
 steady_for_all : (h : History) (w : WorldCore) (i : ℕ) (name other : List ℕ) (source : SourceState) → IsOnly h.devices name source other → source.steady ≡ true → AllByRecursion LoadsNothing h.events → IsSteady h w i other
-steady_for_all h w i name other source only steady quiet held came taken = ap (λ (x : HeldPage). x.steady) (sym (page_is h w i name other source held only quiet came)) ∙ steady
+steady_for_all h w i name other source only steady quiet held came = ap (λ (x : HeldPage). x.steady) (sym (page_is h w i name other source held only quiet came)) ∙ steady
 
 both_quiet : (events : List Event) → events ≡ until_busy → AllByRecursion LoadsNothing events
 both_quiet events are = subst (AllByRecursion LoadsNothing) (sym are) (tt, (tt, (tt, (tt, (tt, (tt, (tt, (tt, (tt, tt)))))))))

@@ -35,7 +35,7 @@ use Rattle.world_refines.specs.FailedSources.{FailedIn}
 use Rattle.world_refines.specs.MainTheorem.{AllIsKept, AreTrueLoads}
 use Rattle.world_refines.specs.WorldPromises.{IsOutcome}
 use Rattle.world_contract.specs.Calls.{IsJobAt, JobStays, outcome_at}
-use Rattle.world_contract.specs.Endings.{AnswerIsExplained, CanFail, DeviceFailed, HadFailed, HadNoPicture, HasPassed, IsEndingExplained, NamesStatus, SendsFailure}
+use Rattle.world_contract.specs.Endings.{AnswerIsExplained, DeviceFailed, HadFailed, HadNoPicture, HasPassed, IsEndingExplained, NamesStatus, SendsFailure}
 use Rattle.world_contract.specs.Histories.{History, LedTo, Moment, history_up_to}
 use Rattle.world_contract.specs.Laws.{Below}
 use Rattle.world_contract.specs.Page.{CameFor, CameInTime, IsScan, IsSteady, Settled, StartedOn}
@@ -49,8 +49,8 @@ use Rattle.world_contract.proofs.Lists.{In, in_list}
 use Rattle.world_contract.proofs.Over.{at_own, lost_runs, over_stays}
 use Rattle.world_contract.proofs.Rows.{AnswerEver, EndingEver, HadNoPictureEver, IsScanEver, MayHaveFailed, RunsAt, SendsOrLoses, image_at}
 use Rattle.world_contract.proofs.Scanned.{kept_by}
-use Rattle.world_contract.proofs.Sources as rows
-use Rattle.world_contract.proofs.Taken.{OnRun}
+use Rattle.world_contract.proofs.Sources.{CanFail}
+use Rattle.world_contract.proofs.Changing.{LoadChanges, changes_or_same, changing_in, changing_of, with_changing}
 use Rattle.world_contract.proofs.There.{endpoint_there}
 use Rattle.world_contract.proofs.moments.Entries.{set_here, unsome}
 use Rattle.world_contract.proofs.moments.Filed.{SteadyRun}
@@ -58,9 +58,9 @@ use Rattle.world_contract.proofs.moments.ImageLost.{counts_there}
 
 -- ---- up to the event behind which the job is over
 
--- each page that is laid in by these came as the job ran
+-- each page that is laid in by these came as the job ran and changed the world
 abbrev pub CameSo : History → WorldCore → ℕ → List Event → Type 0
-CameSo h w i es = (name : List ℕ) (source : Source) → In (Load name source) es → (at : Moment h w (Load name source)) × RunsAt at.before i
+CameSo h w i es = (name : List ℕ) (source : Source) → In (Load name source) es → Happened h w i (Load name source)
 
 pub record Until (h : History) (w : WorldCore) (i : ℕ) : Type 0 where
   pub front : List Event
@@ -68,11 +68,9 @@ pub record Until (h : History) (w : WorldCore) (i : ℕ) : Type 0 where
   pub split : h.events ≡ front ++ back
   pub at : WorldCore
   pub led : LedTo (history_up_to h front) at
-  -- it ran in front of each of them
-  pub ran : OnRun (λ (u : WorldCore). RunsAt u i) front led.first at led.runs
   pub rest : Runs source_state back at w
   pub stays : JobStays at w i
-  pub came : CameSo h w i front
+  pub came : CameSo h w i (changing_in (history_up_to h front) at led)
 
 stays_same : (w : WorldCore) (i : ℕ) → JobStays w w i
 stays_same w i = record { outcome = refl; file = refl; finished = refl; pages = λ k. refl }
@@ -85,23 +83,23 @@ record From (h : History) (w : WorldCore) (i : ℕ) (es : List Event) (u : World
   at : WorldCore
   loads : AreTrueLoads source_state front
   run : Runs source_state front u at
-  ran : OnRun (λ (x : WorldCore). RunsAt x i) front u at run
   rest : Runs source_state back at w
   stays : JobStays at w i
-  came : CameSo h w i front
+  came : CameSo h w i (changing_of front u at run)
 
-came_more : (h : History) (w : WorldCore) (i : ℕ) (e : Event) (es : List Event) (m : Moment h w e) → RunsAt m.before i → CameSo h w i es → CameSo h w i (e ∷ es)
-came_more h w i e es m ran came name source (inl is) = subst (λ (x : Event). (at : Moment h w x) × RunsAt at.before i) (sym is) (m, ran)
-came_more h w i e es m ran came name source (inr there) = came name source there
+came_more : (h : History) (w : WorldCore) (i : ℕ) (e : Event) (m : Moment h w e) → RunsAt m.before i → (c : LoadChanges e m.before m.behind ⊎ (m.behind ≡ m.before)) (es : List Event) → CameSo h w i es → CameSo h w i (with_changing c e es)
+came_more h w i e m ran (inl changes) es came name source (inl is) = subst (λ (x : Event). (at : Moment h w x) × (RunsAt at.before i × LoadChanges x at.before at.behind)) (sym is) (m, (ran, changes))
+came_more h w i e m ran (inl changes) es came name source (inr there) = came name source there
+came_more h w i e m ran (inr same) es came name source there = came name source there
 
 outcome_is : (w : WorldCore) (i : ℕ) (p : Endpoint) (o : Outcome) → slice_get w.endpoints i ≡ Some p → p.client.outcome ≡ o → outcome_at w i ≡ Some o
 outcome_is w i p o at is = ap (option_map (λ (q : Endpoint). q.client.outcome)) at ∙ ap (λ (x : Outcome). Some x) is
 
 here_over : (h : History) (w u : WorldCore) (i : ℕ) (es : List Event) (o : Outcome) → Runs source_state es u w → outcome_at u i ≡ Some o → o ≢ Running → From h w i es u
-here_over h w u i es o run is over = record { front = []; back = es; split = refl; at = u; loads = tt; run = refl; ran = tt; rest = run; stays = over_stays es u w run i o is over; came = λ name source none. absurd none }
+here_over h w u i es o run is over = record { front = []; back = es; split = refl; at = u; loads = tt; run = refl; rest = run; stays = over_stays es u w run i o is over; came = λ name source none. absurd none }
 
 from_here : Below → (h : History) (w : WorldCore) (i : ℕ) (job : Job) → slice_get h.jobs i ≡ Some job → (es seen : List Event) (u : WorldCore) → h.events ≡ seen ++ es → LedTo (history_up_to h seen) u → AreTrueLoads source_state es → Runs source_state es u w → (p : Endpoint) → slice_get u.endpoints i ≡ Some p → (o : Outcome) → p.client.outcome ≡ o → From h w i es u
-from_here below h w i job at [] seen u split led loads run p there o is = record { front = []; back = []; split = refl; at = u; loads = tt; run = refl; ran = tt; rest = run; stays = subst (λ (x : WorldCore). JobStays u x i) (sym run) (stays_same u i); came = λ name source none. absurd none }
+from_here below h w i job at [] seen u split led loads run p there o is = record { front = []; back = []; split = refl; at = u; loads = tt; run = refl; rest = run; stays = subst (λ (x : WorldCore). JobStays u x i) (sym run) (stays_same u i); came = λ name source none. absurd none }
 from_here below h w i job at (e ∷ es) seen u split led loads run p there (Done reports) is = here_over h w u i (e ∷ es) (Done reports) run (outcome_is u i p (Done reports) there is) (λ r. cc)
 from_here below h w i job at (e ∷ es) seen u split led loads run p there (Ended status why) is = here_over h w u i (e ∷ es) (Ended status why) run (outcome_is u i p (Ended status why) there is) (λ r. cc)
 from_here below h w i job at (e ∷ es) seen u split led loads (v, leads, rest) p there Running is =
@@ -116,10 +114,9 @@ from_here below h w i job at (e ∷ es) seen u split led loads (v, leads, rest) 
       at = r.at;
       loads = (loads.0, r.loads);
       run = (v, leads, r.run);
-      ran = ((p, there, is), r.ran);
       rest = r.rest;
       stays = r.stays;
-      came = came_more h w i e r.front m (p, there, is) r.came;
+      came = came_more h w i e m (p, there, is) (changes_or_same e u v leads) (changing_of r.front v r.at r.run) r.came;
     }
 
 pub until_there : Below → (h : History) (w : WorldCore) (i : ℕ) (job : Job) → IsJobAt h w i job → Until h w i
@@ -134,7 +131,6 @@ until_there below h w i job at =
       split = r.split;
       at = r.at;
       led = record { first = l.first; endpoints = l.endpoints; daemon = l.daemon; users_are = l.users_are; names = l.names; limits = l.limits; fit = l.fit; loads = r.loads; runs = r.run };
-      ran = r.ran;
       rest = r.rest;
       stays = r.stays;
       came = r.came;
@@ -194,21 +190,24 @@ settled_to h es job s = record { device = s.device; is_there = s.is_there; named
 passed_on : (h : History) (es : List Event) (before : WorldCore) (i : ℕ) (job : Job) (allowed : Bool) → HasPassed (history_up_to h es) before i job allowed → HasPassed h before i job allowed
 passed_on h es before i job allowed p = record { session = p.session; stands = p.stands; sent = p.sent; awaited = p.awaited; guarded = p.guarded; is = p.is }
 
-came_on : (h : History) (w : WorldCore) (i : ℕ) (u : Until h w i) (name : List ℕ) (held : HeldPage) → CameFor (history_up_to h u.front) name held → CameInTime h w i name held
-came_on h w i u name held (AtFirst device there named among) = FromFirst device there named among
-came_on h w i u name held (WithEvent source among is) = let m = u.came name source (in_list u.front (Load name source) among) in AsItRan source m.0 m.1 is
+-- of the events up to it those that change the world
+abbrev pub changing_to : (h : History) (w : WorldCore) (i : ℕ) → Until h w i → List Event
+changing_to h w i u = changing_in (history_up_to h u.front) u.at u.led
 
-pub steady_on : (h : History) (w : WorldCore) (i : ℕ) (u : Until h w i) (job : Job) → IsSteady h w i job.device → SteadyRun (history_up_to h u.front) u.at i job u.led
+came_on : (h : History) (w : WorldCore) (i : ℕ) (u : Until h w i) (name : List ℕ) (held : HeldPage) → CameFor (history_up_to h (changing_to h w i u)) name held → CameInTime h w i name held
+came_on h w i u name held (AtFirst device there named among) = FromFirst device there named among
+came_on h w i u name held (WithEvent source among is) = AsItRan source (u.came name source (in_list (changing_to h w i u) (Load name source) among)) is
+
+pub steady_on : (h : History) (w : WorldCore) (i : ℕ) (u : Until h w i) (job : Job) → IsSteady h w i job.device → SteadyRun (history_up_to h u.front) u.at job u.led
 steady_on h w i u job steady = record {
-  ran = u.ran;
-  first = λ device there named held among. steady held (FromFirst device there named among) tt;
-  later = λ source m ran taken. steady (held_from (source_state source)) (AsItRan source (moment_on h w i u (Load job.device source) m) ran refl) taken;
+  first = λ device there named held among. steady held (FromFirst device there named among);
+  later = λ source among. steady (held_from (source_state source)) (AsItRan source (u.came job.device source among) refl);
 }
 
 started_on : (h : History) (w : WorldCore) (i : ℕ) (u : Until h w i) (job : Job) (count : ℕ) (page : PageView) → StartedOn (history_up_to h u.front) u.at i job count page → StartedOn h w i job count page
 started_on h w i u job count page s = record { asked = asked_on h w i u _ s.asked; finished = s.finished; device = s.device; has = s.has; rests = s.rests; first = s.first }
 
-pub scan_on : (h : History) (w : WorldCore) (i : ℕ) (u : Until h w i) (job : Job) (count : ℕ) (file : List ℕ) → IsScanEver (history_up_to h u.front) u.at i job count file → IsScan h w i job count file
+pub scan_on : (h : History) (w : WorldCore) (i : ℕ) (u : Until h w i) (job : Job) (count : ℕ) (file : List ℕ) → IsScanEver (history_up_to h u.front) u.at (changing_to h w i u) i job count file → IsScan h w i job count file
 scan_on h w i u job count file s = record {
   settled = settled_on h u.front job s.settled;
   held = s.held;
@@ -219,7 +218,7 @@ scan_on h w i u job count file s = record {
   denotes = s.denotes;
 }
 
-picture_on : (h : History) (w : WorldCore) (i : ℕ) (u : Until h w i) (job : Job) → HadNoPictureEver (history_up_to h u.front) u.at i job → HadNoPicture h w i job
+picture_on : (h : History) (w : WorldCore) (i : ℕ) (u : Until h w i) (job : Job) → HadNoPictureEver (history_up_to h u.front) u.at (changing_to h w i u) i job → HadNoPicture h w i job
 picture_on h w i u job n = record {
   scanning = n.scanning;
   asked = asked_on h w i u _ n.asked;
@@ -318,10 +317,10 @@ sends_by all h other w i status m ran ended (sent, was, inr none) =
     let stays = (over_stays m.back m.behind w m.rest i (Ended statuses.IoError whys.Lost) lost (λ r. cc)).outcome in
     absurd (let clash : ◌≡◌ {A = Option Outcome} (Some (Ended status whys.Answer)) (Some (Ended statuses.IoError whys.Lost)) = sym ended ∙ (stays ∙ lost) in cc)
 
-can_on : (h : History) (w : WorldCore) (i : ℕ) (u : Until h w i) (job : Job) → rows.CanFail (history_up_to h u.front) job.device → CanFail h w i job
+can_on : (h : History) (w : WorldCore) (i : ℕ) (u : Until h w i) (job : Job) → CanFail (history_up_to h (changing_to h w i u)) job.device → (held : HeldPage) × CameInTime h w i job.device held × (held.infallible ≡ false)
 can_on h w i u job (held, came, able) = (held, came_on h w i u job.device held came, able)
 
-failed_on : AllIsKept → (h : History) (w : WorldCore) (i : ℕ) (u : Until h w i) (job : Job) (status : Status) → outcome_at u.at i ≡ Some (Ended status whys.Answer) → MayHaveFailed (history_up_to h u.front) u.at i job → HadFailed h w i job
+failed_on : AllIsKept → (h : History) (w : WorldCore) (i : ℕ) (u : Until h w i) (job : Job) (status : Status) → outcome_at u.at i ≡ Some (Ended status whys.Answer) → MayHaveFailed (history_up_to h u.front) u.at (changing_to h w i u) i job → HadFailed h w i job
 failed_on all h w i u job status ended (scanning, can, inl (asked, failed)) = (scanning, can_on h w i u job can, inl (asked_on h w i u _ asked, device_failed asked.at.before asked.at.behind i job.device failed))
 failed_on all h w i u job status ended (scanning, can, inr (turn, failed, sent)) = (
   scanning,
@@ -331,7 +330,7 @@ failed_on all h w i u job status ended (scanning, can, inr (turn, failed, sent))
 
 -- ---- the table
 
-answer_on : AllIsKept → (h : History) (w : WorldCore) (i : ℕ) (u : Until h w i) (job : Job) (said : Status) → outcome_at u.at i ≡ Some (Ended said whys.Answer) → (status : Status) → AnswerEver (history_up_to h u.front) u.at i job status → AnswerIsExplained h w i job status
+answer_on : AllIsKept → (h : History) (w : WorldCore) (i : ℕ) (u : Until h w i) (job : Job) (said : Status) → outcome_at u.at i ≡ Some (Ended said whys.Answer) → (status : Status) → AnswerEver (history_up_to h u.front) u.at (changing_to h w i u) i job status → AnswerIsExplained h w i job status
 answer_on all h w i u job said ended statuses.Good x = x
 answer_on all h w i u job said ended statuses.Unsupported x = x
 answer_on all h w i u job said ended statuses.Cancelled x = x
@@ -347,24 +346,24 @@ answer_on all h w i u job said ended statuses.IoError x = failed_on all h w i u 
 answer_on all h w i u job said ended statuses.NoMem x = x
 answer_on all h w i u job said ended statuses.AccessDenied (asked, judged) = (asked_on h w i u _ asked, passed_on h u.front asked.at.before i job false judged)
 
-answered_on : AllIsKept → (h : History) (w : WorldCore) (i : ℕ) (u : Until h w i) (job : Job) (b c : Bool) (status : Status) → outcome_at u.at i ≡ Some (Ended status whys.Answer) → EndingEver (history_up_to h u.front) u.at i job b status whys.Answer → IsEndingExplained h w i job c status whys.Answer
+answered_on : AllIsKept → (h : History) (w : WorldCore) (i : ℕ) (u : Until h w i) (job : Job) (b c : Bool) (status : Status) → outcome_at u.at i ≡ Some (Ended status whys.Answer) → EndingEver (history_up_to h u.front) u.at (changing_to h w i u) i job b status whys.Answer → IsEndingExplained h w i job c status whys.Answer
 answered_on all h w i u job b c status ended (inl (other, named)) = inl (other, named_on h w i u job status named)
 answered_on all h w i u job b c status ended (inr x) = inr (answer_on all h w i u job status ended status x)
 
-by_why : (h : History) (w : WorldCore) (i : ℕ) (job : Job) (starved : Bool) (status : Status) (why : Why) → EndingEver h w i job starved status why → (why ≡ whys.Answer → IsEndingExplained h w i job starved status whys.Answer) → IsEndingExplained h w i job starved status why
-by_why h w i job starved status whys.Answer x answered = answered refl
-by_why h w i job starved status whys.Cancelled x answered = x
-by_why h w i job starved status whys.Lost x answered = x
-by_why h w i job starved status whys.Malformed x answered = x
-by_why h w i job starved status whys.Short x answered = x
-by_why h w i job starved status whys.Long x answered = x
-by_why h w i job starved status whys.Setting x answered = x
-by_why h w i job starved status whys.Plain x answered = x
-by_why h w i job starved status whys.Memory x answered = x
-by_why h w i job starved status whys.Sink x answered = x
+by_why : (h : History) (w : WorldCore) (changing : List Event) (i : ℕ) (job : Job) (starved : Bool) (status : Status) (why : Why) → EndingEver h w changing i job starved status why → (why ≡ whys.Answer → IsEndingExplained h w i job starved status whys.Answer) → IsEndingExplained h w i job starved status why
+by_why h w changing i job starved status whys.Answer x answered = answered refl
+by_why h w changing i job starved status whys.Cancelled x answered = x
+by_why h w changing i job starved status whys.Lost x answered = x
+by_why h w changing i job starved status whys.Malformed x answered = x
+by_why h w changing i job starved status whys.Short x answered = x
+by_why h w changing i job starved status whys.Long x answered = x
+by_why h w changing i job starved status whys.Setting x answered = x
+by_why h w changing i job starved status whys.Plain x answered = x
+by_why h w changing i job starved status whys.Memory x answered = x
+by_why h w changing i job starved status whys.Sink x answered = x
 
 pub explained_in_time : Below → (h : History) (w : WorldCore) (i : ℕ) (job : Job) (p : Endpoint) (status : Status) (why : Why) → IsJob h w i job p → p.client.outcome ≡ Ended status why → IsEndingExplained h w i job p.out_of_memory status why
-explained_in_time below h w i job p status why j is = by_why h w i job p.out_of_memory status why (at_end below h w i job p status why j is) (λ answer.
+explained_in_time below h w i job p status why j is = by_why h w (changing_in h w j.led) i job p.out_of_memory status why (at_end below h w i job p status why j is) (λ answer.
     let e = end_there below h w i job p j in
     let ended : e.endpoint.client.outcome ≡ Ended status whys.Answer = end_outcome h w i job p j e ∙ (is ∙ ap (λ (y : Why). Ended status y) answer) in
     answered_on below.kept h w i e.until job e.endpoint.out_of_memory p.out_of_memory status (outcome_is e.until.at i e.endpoint (Ended status whys.Answer) e.endpoint_at ended)

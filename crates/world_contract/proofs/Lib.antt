@@ -12,6 +12,7 @@ pub mod Pages
 pub mod Sources
 pub mod Settings
 pub mod Taken
+pub mod Changing
 pub mod Nearest
 pub mod Scanned
 pub mod Options
@@ -22,6 +23,7 @@ pub mod Along
 pub mod Ended
 pub mod Placed
 pub mod Reported
+pub mod Shown
 pub mod There
 pub mod InTime
 pub mod AllKept

@@ -1,7 +1,7 @@
 -- The tray of a feeder that one job alone names: what the job has started are its first pages, and what is left lies in it.
-use Rattle.std.specs.Prelude.{◌<◌, ◌≤◌, ◌≢◌, cond, eqb, length, map, slice_get}
+use Rattle.std.specs.Prelude.{◌<◌, cond, eqb, length, map, slice_get}
 use Rattle.std.specs.List.{AllByRecursion}
-use Rattle.std.proofs.Common.{◌≡◌, ◌∙◌, ◌⊎◌, ℕ, List, [], ◌∷◌, ◌++◌, Bool, true, false, Option, Some, refl, sym, ap, subst, append_assoc, eqb-true}
+use Rattle.std.proofs.Common.{◌≡◌, ◌∙◌, ℕ, List, [], ◌∷◌, ◌++◌, Bool, true, false, Option, Some, refl, sym, ap, subst, append_assoc, eqb-true}
 use Rattle.std.proofs.lemmas.List.{append-nil}
 use Rattle.std.proofs.lemmas.Option.{get_or_from_slice_get}
 use Rattle.page_picture.specs.Page.{PageView}

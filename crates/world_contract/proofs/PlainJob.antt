@@ -1,5 +1,5 @@
 -- A job without settings, alone on a flatbed or on a feeder, in whose way nothing stands.
-use Rattle.std.specs.Prelude.{All, Contains, map, slice_get, ◌<◌, ◌≢◌}
+use Rattle.std.specs.Prelude.{All, Contains, map, slice_get, ◌≢◌}
 use Rattle.std.specs.List.{AllByRecursion}
 use Rattle.std.proofs.Common.{◌≡◌, ◌∙◌, ℕ, zero, suc, List, [], ◌∷◌, true, false, Some, None, inl, inr, refl, sym, ap, subst, arith}
 use Rattle.sane_fixed.specs.declared.byte_order.ByteOrder.TheVariants.{Little}
@@ -15,7 +15,6 @@ use Rattle.device_api.specs.Values.{defaults}
 use Rattle.virtual_scanner.specs.New.{new_device}
 use Rattle.client_replies.specs.ProtocolStates.{scans}
 use Rattle.scan_job.specs.declared.job.Job.{Job}
-use Rattle.scan_world.specs.declared.event.Event.{Event}
 use Rattle.scan_world.specs.declared.event.Event.TheVariants.{Load}
 use Rattle.world_contract.specs.Clear.{FeederIsClear, IsAllowedAlways, IsClear, IsSupplied, PlainIsClear}
 use Rattle.world_contract.specs.Histories.{History, begun}

@@ -7,13 +7,11 @@ use Rattle.page_picture.specs.Page.{PageView}
 use Rattle.device_api.specs.State.{HeldPage}
 use Rattle.sane_fixed.specs.declared.status.Status.{Status}
 use Rattle.sane_fixed.specs.declared.status.Status.TheVariants as statuses
-use Rattle.option_desc.specs.declared.descriptor.Descriptor.{Descriptor}
-use Rattle.option_desc.specs.declared.value.Value.{Value}
 use Rattle.page_picture.specs.declared.scene.DeviceKind.{DeviceKind}
 use Rattle.page_picture.specs.declared.scene.DeviceKind.TheVariants.{Flatbed, Hand, ThreePass, Feeder}
 use Rattle.scan_frames.specs.declared.setup.Setup.{Setup}
 use Rattle.device_api.specs.InForce.{Placement}
-use Rattle.device_api.specs.Options.{descriptor_of, options_of}
+use Rattle.device_api.specs.Options.{options_of}
 use Rattle.scan_laws.specs.SetInfo.{has_bit}
 use Rattle.scan_job.specs.declared.report.Report.{Report}
 use Rattle.world_refines.specs.GhostStates.{backend_of, is_guarded}
@@ -26,7 +24,7 @@ use Rattle.scan_job.specs.declared.outcome.Why.TheVariants as whys
 use Rattle.scan_world.specs.declared.endpoint.Endpoint.{Endpoint}
 use Rattle.scan_world.specs.declared.event.Event.{Event}
 use Rattle.scan_world.specs.declared.event.Event.TheVariants as events
-use Rattle.scan_world.specs.declared.event.Event.TheVariants.{Cancel, ToDaemon}
+use Rattle.scan_world.specs.declared.event.Event.TheVariants.{Cancel, Load, ToDaemon}
 use Rattle.scan_world.specs.declared.event.JobEvent.{JobEvent}
 use Rattle.scan_world.specs.declared.event.JobEvent.TheVariants as moves
 use Rattle.scan_world.specs.JobEvents.{job_event_of}
@@ -36,11 +34,13 @@ use Rattle.client_replies.specs.ProtocolStates.{is_running, scans}
 use Rattle.world_contract.specs.Calls.{AreNextMoves, HadUnsaidReply, MovesNext, outcome_at, starved_at}
 use Rattle.world_contract.specs.Clear.{BothBusyIsNoLie, ComesTo, CameRefused, NeitherIsNoLie, RefusedIsNoLie, StoppedIsNoLie, TurnedAwayIsNoLie}
 use Rattle.world_contract.specs.Page.CameInTime.{FromFirst, AsItRan}
+use Rattle.world_contract.proofs.Led.{first_runs}
+use Rattle.world_contract.proofs.Taken.{refused_same}
 use Rattle.world_contract.proofs.moments.Entries.{unsome}
 use Rattle.world_contract.specs.Endings.{AnswerIsExplained, HadNoPage, HasPassed, NamesStatus}
 use Rattle.world_contract.specs.Histories.{History, and_then}
 use Rattle.world_contract.specs.Reports.{AreSettingsReported, IsSettingReported, told_option}
-use Rattle.world_contract.specs.Lies.{AllowedIsNoLie, BusyIsNoLie, CancelledIsNoLie, CountIsNoLie, DeniedIsNoLie, EmptyIsNoLie, FailedIsNoLie, FewIsNoLie, FileIsNoLie, FirmIsNoLie, GivenUpIsNoLie, GoneOnIsNoLie, HiddenIsNoLie, IdleIsNoLie, InvalIsNoLie, JammedIsNoLie, ListIsNoLie, LossIsNoLie, LostIsNoLie, MemoryIsNoLie, MissingIsNoLie, MovedIsNoLie, NamesNothing, NowhereIsNoLie, PageIsNoLie, RefusedStandAside, RoundedIsNoLie, SharedIsNoLie, ShownIsNoLie, SilentIsNoLie, StillRunsIsNoLie, StuckIsNoLie, SwappedIsNoLie, TrayPageIsNoLie, UnscannedIsNoLie, WholeIsNoLie}
+use Rattle.world_contract.specs.Lies.{AllowedIsNoLie, BusyIsNoLie, CancelledIsNoLie, CountIsNoLie, DeniedIsNoLie, EmptyIsNoLie, FailedIsNoLie, FewIsNoLie, FileIsNoLie, FirmIsNoLie, GivenUpIsNoLie, GoneOnIsNoLie, HiddenIsNoLie, IdleIsNoLie, InvalIsNoLie, JammedIsNoLie, ListIsNoLie, LossIsNoLie, LostIsNoLie, MemoryIsNoLie, MissingIsNoLie, MovedIsNoLie, NamesNothing, NowhereIsNoLie, PageIsNoLie, RefusedStandAside, RoundedIsNoLie, SharedIsNoLie, ShownIsNoLie, SilentIsNoLie, StillRunsIsNoLie, StuckIsNoLie, SwappedIsNoLie, TrayPageIsNoLie, UnchangedStandAside, UnscannedIsNoLie, WholeIsNoLie}
 
 -- ---- endings
 
@@ -110,19 +110,19 @@ listed h w i job reports infos list always other done =
     let r = done.listed list in
     other (r.1 ∙ always r.0.n r.0.at)
 
-none_is : {A : Type 0} (x : A) → ◌≡◌ {A = Option A} None (Some x) → ⊥
-none_is {A = A} x e = let clash : ◌≡◌ {A = Option A} None (Some x) = e in cc
+not_empty : {A : Type 0} (x : A) (xs : List A) → [] ≡ x ∷ xs → ⊥
+not_empty x xs e = let clash : [] ≡ x ∷ xs = e in cc
 
-first_option : (setup : Setup) (k : DeviceKind) → None ≡ option_map (told_option setup 0) (slice_get (map (descriptor_of setup) (options_of k)) 0) → ⊥
-first_option setup Flatbed e = none_is _ e
-first_option setup Feeder e = none_is _ e
-first_option setup Hand e = none_is _ e
-first_option setup ThreePass e = none_is _ e
+first_option : (setup : Setup) (k : DeviceKind) → [] ≡ map (told_option setup) (options_of k) → ⊥
+first_option setup Flatbed e = not_empty _ _ e
+first_option setup Feeder e = not_empty _ _ e
+first_option setup Hand e = not_empty _ _ e
+first_option setup ThreePass e = not_empty _ _ e
 
 pub shown : ShownIsNoLie
 shown h w i job reports show empty done =
     let s = done.shown show in
-    first_option s.0.setup s.0.setup.scene.kind (sym (ap (λ (o : List (Descriptor × Option Value)). slice_get o 0) empty) ∙ s.1 0)
+    first_option s.0.setup s.0.setup.scene.kind (sym empty ∙ s.1)
 
 pub counted : CountIsNoLie
 counted h w i job reports count finished batch other some kept = by_case (kept count reports batch refl)
@@ -183,12 +183,18 @@ filed h w i job starved reports bytes steady scan never kept =
     let s = kept.scanned reports bytes steady scan refl refl in
     never s.started.asked.n s.started.asked.at s.started.device s.settled s.picture s.started.has (ap (λ (p : PageView). meaning_of p s.settled.setup.scene) s.started.first ∙ s.meant) s.denotes
 
-pub aside : RefusedStandAside
-aside h w i name first later held (FromFirst device there named among) taken = first device there named held among
-aside h w i name first later held (AsItRan source at ran is) taken = elim (later source at) [
+pub unchanged : UnchangedStandAside
+unchanged h w i name first later held (FromFirst device there named among) = first device there named held among
+unchanged h w i name first later held (AsItRan source happened is) = elim (later source happened.0) [
   | inl steady ↦ subst (λ (x : HeldPage). x.steady ≡ true) is steady
-  | inr refused ↦ absurd (refused taken)
+  | inr same ↦ absurd (happened.1.1 same)
 ]
+
+pub aside : RefusedStandAside
+aside h w i name first later = unchanged h w i name first (λ source at. elim (later source at) [
+  | inl steady ↦ inl steady
+  | inr refused ↦ inr (first_runs (λ (v : WorldCore). v ≡ at.before) (Load name source) [] at.before at.behind at.leads (λ u leads rest. rest ∙ refused_same name source at.before u refused leads))
+])
 
 pub paged : PageIsNoLie
 paged h w i job starved finished k bytes steady never kept =

@@ -15,8 +15,8 @@ use Rattle.system_model.specs.AbstractMessages as words
 use Rattle.system_model.specs.Devices.{Make, OptionsInForce}
 use Rattle.system_model.specs.AbstractInForce as ruled
 use Rattle.world_refines.specs.NewWorlds.{make_of, PageSources}
-use Rattle.world_contract.specs.Page.{AreInForce}
 use Rattle.world_contract.specs.Reports.{AreSettingsReported, IsSettingReported}
+use Rattle.world_contract.specs.Settings.{AreSettingsPut}
 use Rattle.world_contract.proofs.Settings.{all_put}
 use Rattle.world_contract.proofs.Placed.{View, given_at, given_by, same_given, view_in, view_of}
 use Rattle.world_contract.proofs.Along.{same_pairs}
@@ -56,7 +56,7 @@ viewed None o given e = absurd (let clash : Some (o, given) ≡ None = e in cc)
 viewed (Some x) o given e = let both : Some (o, given) ≡ Some (x.0, map given_at x.1) = e in let same : (o, given) ≡ (x.0, map given_at x.1) = cc in (x, refl, sym (ap (λ (v : View). v.1) same))
 
 pub answered : (b : PageSources) (device : DeviceState) (job : Job) (options : OptionsInForce) (rs : List words.Report) (qs : List Report) → ruled.abstract_in_force (make_of b (Some device)) (map requested_setting job.settings.items) ≡ Some (record { options = options; reports = rs }) → map common_abstract_report rs ≡ map common_report qs →
-    ruled.AreAnswered (make_of b (Some device)) (map requested_setting job.settings.items) rs → (r : Setup × List Placement) × AreInForce device job r.1 r.0 × AreSettingsReported job.settings.items r.1 qs
+    ruled.AreAnswered (make_of b (Some device)) (map requested_setting job.settings.items) rs → (r : Setup × List Placement) × AreSettingsPut (defaults device.setup.scene.kind device.setup.order) job.settings.items r.1 r.0 × AreSettingsReported job.settings.items r.1 qs
 answered b device job options rs qs forced are a =
     let k = make_of b (Some device) in
     let settings = job.settings.items in

@@ -19,12 +19,13 @@ use Rattle.scan_job.specs.declared.outcome.Why.TheVariants as whys
 use Rattle.scan_job.specs.declared.outcome.Outcome.TheVariants.{Running}
 use Rattle.scan_world.specs.declared.endpoint.Endpoint.{Endpoint}
 use Rattle.scan_world.specs.declared.endpoint.Image.{Image}
+use Rattle.scan_world.specs.declared.event.Event.{Event}
 use Rattle.scan_world.specs.declared.event.Event.TheVariants.{Cancel, ToClient, DataTurn, DataToClient, LoseControl, LoseImage}
 use Rattle.scan_world.specs.Worlds.{WorldCore}
 use Rattle.std.specs.Prelude.{Contains}
 use Rattle.world_refines.specs.FailedSources.{FailedIn}
 use Rattle.world_contract.specs.Endings.{HadNoPage, HasPassed, IsUnforced, NamesStatus}
-use Rattle.world_contract.specs.Histories.{History}
+use Rattle.world_contract.specs.Histories.{History, history_up_to}
 use Rattle.world_contract.specs.Page.{CameFor, Settled, StartedOn}
 use Rattle.world_contract.proofs.Sources.{CanFail}
 use Rattle.world_contract.specs.Sessions.{Asked, AtJob, Happened, Has, IsAtOpen, IsAtStart}
@@ -40,12 +41,12 @@ HasFinished w i count = AtJob w i (λ p. p.finished ≡ count)
 abbrev pub RunsAt : WorldCore → ℕ → Type 0
 RunsAt w i = AtJob w i (λ p. p.client.outcome ≡ Running)
 
--- ---- pages, whenever they came
+-- ---- pages, with these events
 
-pub record IsScanEver (h : History) (w : WorldCore) (i : ℕ) (job : Job) (count : ℕ) (file : List ℕ) : Type 0 where
+pub record IsScanEver (h : History) (w : WorldCore) (changing : List Event) (i : ℕ) (job : Job) (count : ℕ) (file : List ℕ) : Type 0 where
   pub settled : Settled h job
   pub held : HeldPage
-  pub came : CameFor h job.device held
+  pub came : CameFor (history_up_to h changing) job.device held
   pub started : StartedOn h w i job count held.page
   pub picture : Picture
   pub meant : meaning_of held.page settled.setup.scene ≡ Some picture
@@ -68,7 +69,7 @@ WasHeld h w i job = (asked : Asked h w i IsAtOpen) × (j : ℕ) × (d : DeviceSt
 abbrev pub WasDisallowed : History → WorldCore → ℕ → Job → Type 0
 WasDisallowed h w i job = (asked : Asked h w i IsAtOpen) × HasPassed h asked.at.before i job false
 
-pub record HadNoPictureEver (h : History) (w : WorldCore) (i : ℕ) (job : Job) : Type 0 where
+pub record HadNoPictureEver (h : History) (w : WorldCore) (changing : List Event) (i : ℕ) (job : Job) : Type 0 where
   pub scanning : scans job.task ≡ true
   pub asked : Asked h w i IsAtStart
   pub device : DeviceState
@@ -76,7 +77,7 @@ pub record HadNoPictureEver (h : History) (w : WorldCore) (i : ℕ) (job : Job) 
   pub settled : Settled h job
   pub options : settled.setup ≡ device.setup
   pub held : HeldPage
-  pub came : CameFor h job.device held
+  pub came : CameFor (history_up_to h changing) job.device held
   pub first : held.page ≡ page_of device
   pub none : meaning_of held.page settled.setup.scene ≡ None
 
@@ -90,25 +91,25 @@ SendsOrLoses before behind i =
     (sent : List ℕ) × (image_at before i ≡ Some sent)
     × ((image_at behind i ≡ Some (sent ++ end_record (status_code IoError))) ⊎ (image_at behind i ≡ None))
 
-abbrev pub MayHaveFailed : History → WorldCore → ℕ → Job → Type 0
-MayHaveFailed h w i job = (scans job.task ≡ true) × CanFail h job.device
+abbrev pub MayHaveFailed : History → WorldCore → List Event → ℕ → Job → Type 0
+MayHaveFailed h w changing i job = (scans job.task ≡ true) × CanFail (history_up_to h changing) job.device
     × (((asked : Asked h w i IsAtStart) × FailedIn asked.at.before asked.at.behind.daemon i job.device)
     ⊎ ((turn : Happened h w i (DataTurn i)) × FailedIn turn.0.before turn.0.behind.daemon i job.device
     × SendsOrLoses turn.0.before turn.0.behind i))
 
-abbrev pub AnswerEver : History → WorldCore → ℕ → Job → Status → Type 0
-AnswerEver h w i job Inval = IsUnforced h job ⊎ (WasUnlisted h w i job ⊎ HadNoPictureEver h w i job)
-AnswerEver h w i job DeviceBusy = WasHeld h w i job
-AnswerEver h w i job AccessDenied = WasDisallowed h w i job
-AnswerEver h w i job NoDocs = HadNoPage h w i job 0
-AnswerEver h w i job IoError = MayHaveFailed h w i job
-AnswerEver h w i job status = ⊥
+abbrev pub AnswerEver : History → WorldCore → List Event → ℕ → Job → Status → Type 0
+AnswerEver h w changing i job Inval = IsUnforced h job ⊎ (WasUnlisted h w i job ⊎ HadNoPictureEver h w changing i job)
+AnswerEver h w changing i job DeviceBusy = WasHeld h w i job
+AnswerEver h w changing i job AccessDenied = WasDisallowed h w i job
+AnswerEver h w changing i job NoDocs = HadNoPage h w i job 0
+AnswerEver h w changing i job IoError = MayHaveFailed h w changing i job
+AnswerEver h w changing i job status = ⊥
 
-abbrev pub EndingEver : History → WorldCore → ℕ → Job → Bool → Status → Why → Type 0
-EndingEver h w i job starved status whys.Cancelled = (status ≡ Cancelled) × Contains h.events (Cancel i)
-EndingEver h w i job starved status whys.Lost = (status ≡ IoError) × (WasLost h w i ⊎ (starved ≡ true))
-EndingEver h w i job starved status whys.Short = (status ≡ IoError) × NamesStatus h w i job Eof
-EndingEver h w i job starved status whys.Setting = (status ≡ Inval) × IsUnforced h job
-EndingEver h w i job starved status whys.Memory = (status ≡ NoMem) × WasStarved h w i
-EndingEver h w i job starved status whys.Answer = ((status ≢ Eof) × NamesStatus h w i job status) ⊎ AnswerEver h w i job status
-EndingEver h w i job starved status why = ⊥
+abbrev pub EndingEver : History → WorldCore → List Event → ℕ → Job → Bool → Status → Why → Type 0
+EndingEver h w changing i job starved status whys.Cancelled = (status ≡ Cancelled) × Contains h.events (Cancel i)
+EndingEver h w changing i job starved status whys.Lost = (status ≡ IoError) × (WasLost h w i ⊎ (starved ≡ true))
+EndingEver h w changing i job starved status whys.Short = (status ≡ IoError) × NamesStatus h w i job Eof
+EndingEver h w changing i job starved status whys.Setting = (status ≡ Inval) × IsUnforced h job
+EndingEver h w changing i job starved status whys.Memory = (status ≡ NoMem) × WasStarved h w i
+EndingEver h w changing i job starved status whys.Answer = ((status ≢ Eof) × NamesStatus h w i job status) ⊎ AnswerEver h w changing i job status
+EndingEver h w changing i job starved status why = ⊥

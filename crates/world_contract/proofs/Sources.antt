@@ -8,6 +8,7 @@ use Rattle.std.proofs.lemmas.Slice.Eq.{bytes_eq-Decides}
 use Rattle.page_picture.specs.SourceView.{source_state}
 use Rattle.page_picture.specs.declared.sources.kinds.Source.{Source}
 use Rattle.device_api.specs.State.{DeviceState, HeldPage, held_from}
+use Rattle.sane_fixed.specs.declared.device_info.DeviceInfo.{DeviceInfo}
 use Rattle.system_model.specs.Devices.{Make}
 use Rattle.daemon_refines.specs.ContextRefinement.{HasSource, HaveSources}
 use Rattle.scan_world.specs.declared.event.Event.{Event}
@@ -154,9 +155,12 @@ event_fits h (Cancel i) among = tt
 event_fits h (Load name source) among = λ k named. load_fits h name source among k named
 event_fits h (Unplug name) among = tt
 
-all_fit : (h : History) (events : List Event) → ((event : Event) → In event events → In event h.events) → AreFittingLoads source_state (map info_of_state h.devices) (make_at h) events
-all_fit h [] within = tt
-all_fit h (e ∷ es) within = (event_fits h e (within e (inl refl)), all_fit h es (λ x among. within x (inr among)))
+pub each_fits : (infos : List DeviceInfo) (make : ℕ → Make) (events : List Event) → ((event : Event) → In event events → IsFittingLoad source_state infos make event) → AreFittingLoads source_state infos make events
+each_fits infos make [] fits = tt
+each_fits infos make (e ∷ es) fits = (fits e (inl refl), each_fits infos make es (λ x among. fits x (inr among)))
+
+pub all_fit : (h : History) (events : List Event) → ((event : Event) → In event events → In event h.events) → AreFittingLoads source_state (map info_of_state h.devices) (make_at h) events
+all_fit h events within = each_fits (map info_of_state h.devices) (make_at h) events (λ e among. event_fits h e (within e among))
 
 pub loads_fit : (h : History) → AreFittingLoads source_state (map info_of_state h.devices) (make_at h) h.events
 loads_fit h = all_fit h h.events (λ event among. among)

@@ -1,10 +1,10 @@
--- A page that the daemon does not take changes nothing; so of those pages alone that it takes one must know the source.
+-- A page that the daemon refuses changes nothing.
 use Rattle.std.specs.Prelude.{◌||◌, Err, Ok, Result, if◌then◌else◌, slice_get}
 use Rattle.std.specs.List.{list_any}
-use Rattle.std.proofs.Common.{◌≡◌, ◌∙◌, ◌⊎◌, ℕ, zero, suc, List, [], ◌∷◌, Bool, true, false, Option, Some, None, inl, inr, refl, sym, ap}
+use Rattle.std.proofs.Common.{◌≡◌, ◌≢◌, ◌∙◌, ℕ, zero, suc, List, [], ◌∷◌, Bool, true, false, Option, Some, None, refl, sym, ap}
 use Rattle.page_picture.specs.Source.{SourceState}
 use Rattle.page_picture.specs.SourceView.{source_state}
-use Rattle.sane_fixed.specs.declared.device_info.DeviceInfo.{DeviceInfo}
+use Rattle.page_picture.specs.declared.sources.kinds.Source.{Source}
 use Rattle.sane_fixed.specs.declared.status.Status.{Status}
 use Rattle.sane_fixed.specs.declared.status.Status.TheVariants.{DeviceBusy, Inval}
 use Rattle.device_api.specs.State.{DeviceState, after_load, takes_page}
@@ -16,12 +16,8 @@ use Rattle.saned_core.specs.declared.session_slot.SessionSlot.{SessionSlot}
 use Rattle.saned_core.specs.DaemonStates.{Core}
 use Rattle.saned_core.specs.Loading.{core_after_load, daemon_load_answer, first_answer_of, holds, is_lease_named, lease_load, lease_with, on_first, session_load, session_with, slot_load_answer, slot_with_page}
 use Rattle.saned_requests.specs.declared.session.Session.{Session}
-use Rattle.system_model.specs.Devices.{Make}
-use Rattle.scan_world.specs.declared.event.Event.{Event}
-use Rattle.scan_world.specs.declared.event.Event.TheVariants.{Connect, ToDaemon, ToClient, DataConnect, DataTurn, DataToClient, LoseControl, LoseImage, Cancel, Load, Unplug}
-use Rattle.scan_world.specs.Worlds.{Leads, Runs, WorldCore}
-use Rattle.world_refines.specs.GhostEvents.{MayHaveSource}
-use Rattle.world_refines.specs.MainTheorem.{IsFittingLoad}
+use Rattle.scan_world.specs.declared.event.Event.TheVariants.{Load}
+use Rattle.scan_world.specs.Worlds.{Leads, WorldCore}
 
 abbrev Answer : Type 0
 Answer = Result Unit Status
@@ -107,74 +103,12 @@ by_held d name source e false any is =
     ap (λ (b : Bool). if b then record d { slots = on_first (holds name) (slot_with_page name source) d.slots } else record d { registry = table_after_load d.registry name source }) any
     ∙ ap (λ (t : Table). record d { registry = t }) (of_table d.registry name source e (sym (none_first (holds name) (slot_load_answer name) d.slots (load_answer d.registry name) any) ∙ is))
 
--- ---- an event
+-- ---- an event that brings a page
 
--- it brings a page that the daemon does not take
-abbrev pub IsUntaken : Event → WorldCore → Type 0
-IsUntaken (Load name source) u = (e : Status) × (daemon_load_answer u.daemon name ≡ Err e)
-IsUntaken event u = ⊥
+by_answer : (name : List ℕ) (source : Source) (u v : WorldCore) (r : Answer) → daemon_load_answer u.daemon name ≡ r → r ≢ Ok tt → Leads source_state (Load name source) u v → v ≡ u
+by_answer name source u v (Ok tt) is refused leads = absurd (refused refl)
+by_answer name source u v (Err e) is refused leads = leads ∙ ap (λ (d : Core). record u { daemon = d }) (by_held u.daemon name (source_state source) e (list_any (holds name) u.daemon.slots) refl is)
 
-pub refused_same : (event : Event) (u v : WorldCore) → IsUntaken event u → Leads source_state event u v → v ≡ u
-refused_same (Connect i) u v untaken leads = absurd untaken
-refused_same (ToDaemon i n) u v untaken leads = absurd untaken
-refused_same (ToClient i n) u v untaken leads = absurd untaken
-refused_same (DataConnect i) u v untaken leads = absurd untaken
-refused_same (DataTurn i) u v untaken leads = absurd untaken
-refused_same (DataToClient i n) u v untaken leads = absurd untaken
-refused_same (LoseControl i) u v untaken leads = absurd untaken
-refused_same (LoseImage i) u v untaken leads = absurd untaken
-refused_same (Cancel i) u v untaken leads = absurd untaken
-refused_same (Load name source) u v (e, is) leads = leads ∙ ap (λ (d : Core). record u { daemon = d }) (by_held u.daemon name (source_state source) e (list_any (holds name) u.daemon.slots) refl is)
-refused_same (Unplug name) u v untaken leads = absurd untaken
-
--- it is of a source that is known, where it brings a page that the daemon takes
-abbrev pub FitsTaken : List DeviceInfo → (ℕ → Make) → Event → WorldCore → Type 0
-FitsTaken infos make (Load name source) u = daemon_load_answer u.daemon name ≡ Ok tt → MayHaveSource infos make name (source_state source)
-FitsTaken infos make event u = Unit {0}
-
-by_answer : (infos : List DeviceInfo) (make : ℕ → Make) (name : List ℕ) (source : _) (u : WorldCore) (r : Answer) → daemon_load_answer u.daemon name ≡ r → FitsTaken infos make (Load name source) u → IsFittingLoad source_state infos make (Load name source) ⊎ IsUntaken (Load name source) u
-by_answer infos make name source u (Ok tt) is fits = inl (fits is)
-by_answer infos make name source u (Err e) is fits = inr (e, is)
-
-pub fits_or_refused : (infos : List DeviceInfo) (make : ℕ → Make) (event : Event) (u : WorldCore) → FitsTaken infos make event u → IsFittingLoad source_state infos make event ⊎ IsUntaken event u
-fits_or_refused infos make (Connect i) u fits = inl tt
-fits_or_refused infos make (ToDaemon i n) u fits = inl tt
-fits_or_refused infos make (ToClient i n) u fits = inl tt
-fits_or_refused infos make (DataConnect i) u fits = inl tt
-fits_or_refused infos make (DataTurn i) u fits = inl tt
-fits_or_refused infos make (DataToClient i n) u fits = inl tt
-fits_or_refused infos make (LoseControl i) u fits = inl tt
-fits_or_refused infos make (LoseImage i) u fits = inl tt
-fits_or_refused infos make (Cancel i) u fits = inl tt
-fits_or_refused infos make (Load name source) u fits = by_answer infos make name source u (daemon_load_answer u.daemon name) refl fits
-fits_or_refused infos make (Unplug name) u fits = inl tt
-
--- what is known of each page is known of those that are taken
-pub fits_all : (infos : List DeviceInfo) (make : ℕ → Make) (event : Event) (u : WorldCore) → IsFittingLoad source_state infos make event → FitsTaken infos make event u
-fits_all infos make (Connect i) u fits = tt
-fits_all infos make (ToDaemon i n) u fits = tt
-fits_all infos make (ToClient i n) u fits = tt
-fits_all infos make (DataConnect i) u fits = tt
-fits_all infos make (DataTurn i) u fits = tt
-fits_all infos make (DataToClient i n) u fits = tt
-fits_all infos make (LoseControl i) u fits = tt
-fits_all infos make (LoseImage i) u fits = tt
-fits_all infos make (Cancel i) u fits = tt
-fits_all infos make (Load name source) u fits = λ taken. fits
-fits_all infos make (Unplug name) u fits = tt
-
--- ---- events of a run
-
--- this is so of each world that one of them comes to
-abbrev pub OnRun : (Is : WorldCore → Type 0) (es : List Event) (u w : WorldCore) → Runs source_state es u w → Type 0
-OnRun Is [] u w run = Unit {0}
-OnRun Is (e ∷ es) u w (v, leads, rest) = Is u × OnRun Is es v w rest
-
-pub on_all : (Is : WorldCore → Type 0) → ((u : WorldCore) → Is u) → (es : List Event) (u w : WorldCore) (run : Runs source_state es u w) → OnRun Is es u w run
-on_all Is all [] u w run = tt
-on_all Is all (e ∷ es) u w (v, leads, rest) = (all u, on_all Is all es v w rest)
-
--- some of them, in their order
-abbrev pub ArePart : List Event → List Event → Type 0
-ArePart kept [] = kept ≡ []
-ArePart kept (e ∷ es) = ((more : List Event) × (kept ≡ e ∷ more) × ArePart more es) ⊎ ArePart kept es
+-- where the daemon refuses it, the world is the same behind it
+pub refused_same : (name : List ℕ) (source : Source) (u v : WorldCore) → daemon_load_answer u.daemon name ≢ Ok tt → Leads source_state (Load name source) u v → v ≡ u
+refused_same name source u v refused leads = by_answer name source u v (daemon_load_answer u.daemon name) refl refused leads

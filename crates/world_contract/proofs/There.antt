@@ -1,6 +1,6 @@
 -- The endpoint of a job in a world, and its outcome.
 use Rattle.std.specs.Prelude.{length, option_map, slice_get, ◌<◌}
-use Rattle.std.proofs.Common.{◌≡◌, ◌∙◌, ℕ, List, Option, Some, sym, ap, subst}
+use Rattle.std.proofs.Common.{◌≡◌, ◌∙◌, ℕ, List, Some, sym, ap, subst}
 use Rattle.std.proofs.lemmas.Option.{slice_get_within}
 use Rattle.page_picture.specs.SourceView.{source_state}
 use Rattle.scan_job.specs.declared.job.Job.{Job}

@@ -11,7 +11,6 @@ use Rattle.saned_core.specs.DaemonStates.{Core}
 use Rattle.client_replies.specs.declared.progress.Progress.{Progress}
 use Rattle.client_replies.specs.declared.progress.Progress.TheVariants as stages
 use Rattle.scan_job.specs.declared.job.Job.{Job}
-use Rattle.scan_job.specs.declared.job.Task.TheVariants as tasks
 use Rattle.scan_job.specs.declared.outcome.Outcome.TheVariants.{Done, Running}
 use Rattle.daemon_refines.specs.ContextRefinement.{abstract_device, page_views, pages_to_come}
 use Rattle.daemon_refines.proofs.Scanning.{rests}

@@ -77,18 +77,14 @@ pub record DeviceFailed (before behind : WorldCore) (i : ℕ) (name : List ℕ) 
 
 -- behind the bytes of a frame's data that were on the way to job i came the end with the number of IO_ERROR
 abbrev pub SendsFailure : WorldCore → WorldCore → ℕ → Type 0
-SendsFailure before behind i =
-    (old new : Image) × AtJob before i (λ p. p.image ≡ Some old) × AtJob behind i (λ p. p.image ≡ Some new)
-    × (new.bytes ≡ old.bytes ++ end_record 9)
-
--- a page whose source can fail came for its device
-abbrev pub CanFail : History → WorldCore → ℕ → Job → Type 0
-CanFail h w i job = (held : HeldPage) × CameInTime h w i job.device held × (held.infallible ≡ false)
+SendsFailure before behind i = (old new : Image) × AtJob before i (λ p. p.image ≡ Some old)
+    × AtJob behind i (λ p. p.image ≡ Some new) × (new.bytes ≡ old.bytes ++ end_record 9)
 
 -- it scans, a page that can fail came for its device, and the source of its first page failed in that, or in a turn of
 -- the frame
 abbrev pub HadFailed : History → WorldCore → ℕ → Job → Type 0
-HadFailed h w i job = (scans job.task ≡ true) × CanFail h w i job
+HadFailed h w i job =
+    (scans job.task ≡ true) × ((held : HeldPage) × CameInTime h w i job.device held × (held.infallible ≡ false))
     × (((asked : Asked h w i IsAtStart) × DeviceFailed asked.at.before asked.at.behind i job.device)
     ⊎ ((turn : Happened h w i (DataTurn i)) × DeviceFailed turn.0.before turn.0.behind i job.device
     × SendsFailure turn.0.before turn.0.behind i))
@@ -105,7 +101,7 @@ AnswerIsExplained h w i job NoDocs = HadNoPage h w i job 0
 AnswerIsExplained h w i job IoError = HadFailed h w i job
 AnswerIsExplained h w i job status = ⊥
 
--- **caused (`IsEndingExplained`, `AnswerIsExplained`, `HadNoPage`, `HadNoPicture`, `HadFailed`, `CanFail`,
+-- **caused (`IsEndingExplained`, `AnswerIsExplained`, `HadNoPage`, `HadNoPicture`, `HadFailed`,
 -- `DeviceFailed`, `SendsFailure`, `NamesStatus`, `IsUnforced`)**: the table of endings: a status and a why, with what
 -- explains it: an event of the job, which came to it as it ran, and what stood in the world in front of it. Another
 -- session had the device; it was not listed; the user's password is not allowed for the challenge that was sent; the

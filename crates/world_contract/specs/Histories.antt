@@ -57,7 +57,7 @@ pub record Moment (h : History) (w : WorldCore) (e : Event) : Type 0 where
   pub back : List Event
   pub split : h.events ≡ front ++ e ∷ back
   pub before : WorldCore
-  pub led_before : LedTo (history_up_to h front) before
+  pub led_before : LedTo (record h { events = front }) before
   pub behind : WorldCore
   pub leads : Runs source_state (e ∷ []) before behind
   pub rest : Runs source_state back behind w

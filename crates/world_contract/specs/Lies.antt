@@ -45,15 +45,14 @@ use Rattle.world_contract.specs.Trays.{CountsPages, IsOfTray, OwnTray, first_tra
 -- **lies (`BusyIsNoLie`, `InvalIsNoLie`, `DeniedIsNoLie`, `EmptyIsNoLie`, `FailedIsNoLie`, `LostIsNoLie`,
 -- `MemoryIsNoLie`, `JammedIsNoLie`, `UnscannedIsNoLie`, `FirmIsNoLie`, `CancelledIsNoLie`, `ListIsNoLie`,
 -- `NowhereIsNoLie`, `HiddenIsNoLie`, `AllowedIsNoLie`, `SilentIsNoLie`, `RoundedIsNoLie`, `FileIsNoLie`,
--- `RefusedStandAside`, `PageIsNoLie`, `FewIsNoLie`, `TrayPageIsNoLie`, `WholeIsNoLie`, `MissingIsNoLie`,
--- `StuckIsNoLie`, `MovedIsNoLie`, `LossIsNoLie`, `IdleIsNoLie`, `GoneOnIsNoLie`, `GivenUpIsNoLie`, `StillRunsIsNoLie`,
--- `SharedIsNoLie`, `SwappedIsNoLie`, `Always`, `NamesNothing`, `DenotesNone`)**: the smallest lies, each with the part
--- of the promise that refuses it: an ending of each kind without what explains it; a list of other devices; settings
--- on no device, or not told; a file of another page, or whole too soon, or none; a move too few, too many, or a loss
--- where nothing is wrong; a run that does nothing, a cancel that ends nothing, a `run_all` that gives a job up; a
--- device of two holders, and another page in mid-scan.
--- `Always` says what was so in front of each delivery of a job's requests, and `NamesNothing` that its options name no
--- status.
+-- `UnchangedStandAside`, `RefusedStandAside`, `PageIsNoLie`, `FewIsNoLie`, `TrayPageIsNoLie`, `WholeIsNoLie`,
+-- `MissingIsNoLie`, `StuckIsNoLie`, `MovedIsNoLie`, `LossIsNoLie`, `IdleIsNoLie`, `GoneOnIsNoLie`, `GivenUpIsNoLie`,
+-- `StillRunsIsNoLie`, `SharedIsNoLie`, `SwappedIsNoLie`, `Always`, `NamesNothing`, `DenotesNone`)**: the smallest lies,
+-- each with the part of the promise that refuses it: an ending of each kind without what explains it; a list of other
+-- devices; settings on no device, or not told; a file of another page, or whole too soon, or none; a move too few, too
+-- many, or a loss where nothing is wrong; a run that does nothing, a cancel that ends nothing, a `run_all` that gives a
+-- job up; a device of two holders, and another page in mid-scan. `Always` says what was so in front of each delivery of
+-- a job's requests, and `NamesNothing` that its options name no status.
 --
 -- this is so in front of each delivery of the job's requests
 abbrev pub Always : History → WorldCore → ℕ → (WorldCore → Type 0) → Type 0
@@ -230,7 +229,16 @@ FileIsNoLie =
     → IsSteady h w i job.device → job.task ≡ tasks.Scan → Always h w i (DenotesNone h i job bytes)
     → FileIsKept h w i job starved (Done reports) (Some bytes) → ⊥
 
--- pages that the daemon refused, as those of a full tray, are none of those that must be steady
+-- pages whose event changed nothing are none of those that must be steady
+abbrev pub UnchangedStandAside : Type 0
+UnchangedStandAside =
+    (h : History) (w : WorldCore) (i : ℕ) (name : List ℕ)
+    → ((device : DeviceState) → Contains h.devices device → device.info.name ≡ name
+    → (held : HeldPage) → Contains device.pages held → held.steady ≡ true)
+    → ((source : Source) (at : Moment h w (Load name source))
+    → ((source_state source).steady ≡ true) ⊎ (at.behind ≡ at.before)) → IsSteady h w i name
+
+-- nor are pages that the daemon refused, as those for a full tray
 abbrev pub RefusedStandAside : Type 0
 RefusedStandAside =
     (h : History) (w : WorldCore) (i : ℕ) (name : List ℕ)

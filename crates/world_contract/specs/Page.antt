@@ -1,5 +1,5 @@
 -- WHAT IS PROMISED of a job that was handed to a world.
-use Rattle.std.specs.Prelude.{ℕ, ◌≡◌, true, Some, Ok, List, Contains}
+use Rattle.std.specs.Prelude.{ℕ, ◌≡◌, true, Some, List, Contains}
 use Rattle.netpbm.specs.Picture.{Picture}
 use Rattle.netpbm.specs.Pnm.{Denotes}
 use Rattle.page_picture.specs.Meaning.{meaning_of}
@@ -10,52 +10,38 @@ use Rattle.page_picture.specs.Page.{PageView}
 use Rattle.device_api.specs.State.{DeviceState, HeldPage, held_from, is_at_rest, page_of}
 use Rattle.device_api.specs.InForce.{Placement}
 use Rattle.device_api.specs.Values.{defaults}
-use Rattle.saned_core.specs.Loading.{daemon_load_answer}
 use Rattle.scan_job.specs.declared.job.Job.{Job}
-use Rattle.scan_job.specs.declared.outcome.Outcome.TheVariants.{Running}
 use Rattle.scan_world.specs.declared.event.Event.TheVariants.{Load}
 use Rattle.scan_world.specs.Worlds.{WorldCore}
-use Rattle.world_contract.specs.Histories.{History, Moment}
-use Rattle.world_contract.specs.Sessions.{Asked, AtJob, Has, IsAtStart}
+use Rattle.world_contract.specs.Histories.{History}
+use Rattle.world_contract.specs.Sessions.{Asked, AtJob, Happened, Has, IsAtStart}
 use Rattle.world_contract.specs.Settings.{AreSettingsPut}
 
--- **scan (`CameInTime`, `WasTaken`, `IsSteady`, `AreInForce`, `Settled`, `StartedOn`, `IsScan`)**: a page that was in a
--- device of a name as the world was made, or came for one, taken or not, as the job ran; that each of them which the
--- daemon took is steady, so not of one that a full tray refused; the settings of
--- a job in force on a device, each given the nearest admitted value; the device that a job names, with the options that
--- its settings put in force there; that a job asked for a start while so many of its pages were finished, on this page,
--- which the device that its session had at rest had first; a file that denotes exactly what the settings mean on such a
--- page, that of such a start.
+-- **scan (`CameInTime`, `IsSteady`, `Settled`, `StartedOn`, `IsScan`)**: a page that was in a device of a name as the
+-- world was made, or came for one as the job ran and changed the world, so none that the daemon refused, as one for a
+-- full tray; that each of them is steady; the device that a job names, with the options that its settings put in force
+-- there, each given the nearest admitted value; that a job asked for a start while so many of its pages were finished,
+-- on this page, which the device that its session had at rest had first; a file that denotes exactly what the settings
+-- mean on such a page, that of such a start.
 pub data CameInTime (h : History) (w : WorldCore) (i : ℕ) (name : List ℕ) (held : HeldPage) : Type 0 where
   FromFirst : (device : DeviceState) → Contains h.devices device → device.info.name ≡ name → Contains device.pages held
       → CameInTime h w i name held
-  AsItRan : (source : Source) (at : Moment h w (Load name source)) → AtJob at.before i (λ p. p.client.outcome ≡ Running)
-      → held_from (source_state source) ≡ held → CameInTime h w i name held
+  AsItRan : (source : Source) → Happened h w i (Load name source) → held_from (source_state source) ≡ held
+      → CameInTime h w i name held
 
--- one that came as the job ran was taken by the daemon
-abbrev pub WasTaken : (h : History) (w : WorldCore) (i : ℕ) (name : List ℕ) (held : HeldPage)
-    → CameInTime h w i name held → Type 0
-WasTaken h w i name held (FromFirst device there named among) = Unit {0}
-WasTaken h w i name held (AsItRan source at ran is) = daemon_load_answer at.before.daemon name ≡ Ok tt
-
--- each of them that was taken is of a source that gives the page's rows at each pass
+-- each of them is of a source that gives the page's rows at each pass
 abbrev pub IsSteady : History → WorldCore → ℕ → List ℕ → Type 0
-IsSteady h w i name =
-    (held : HeldPage) (came : CameInTime h w i name held) → WasTaken h w i name held came → held.steady ≡ true
+IsSteady h w i name = (held : HeldPage) → CameInTime h w i name held → held.steady ≡ true
 
--- the job's settings are in force on a device: from its defaults on, each in turn was given the nearest admitted value
-abbrev pub AreInForce : DeviceState → Job → List Placement → Setup → Type 0
-AreInForce d job placed setup =
-    AreSettingsPut (defaults d.setup.scene.kind d.setup.order) job.settings.items placed setup
-
--- the device that the job names, and the options that its settings put in force there
+-- the device that the job names, and the options that its settings put in force there: from its defaults on, each in
+-- turn was given the nearest admitted value
 pub record Settled (h : History) (job : Job) : Type 0 where
   pub device : DeviceState
   pub is_there : Contains h.devices device
   pub named : device.info.name ≡ job.device
   pub setup : Setup
   pub placed : List Placement
-  pub in_force : AreInForce device job placed setup
+  pub in_force : AreSettingsPut (defaults device.setup.scene.kind device.setup.order) job.settings.items placed setup
 
 -- Job i asked for a start as so many pages of it were finished, and its session had the device at rest, with this
 -- page first.

@@ -66,9 +66,8 @@ pub record PageIsKept (h : History) (w : WorldCore) (i : ℕ) (job : Job) (starv
 -- `finished`: a batch that is done has all its pages, or fewer, one at least, and then its device had no more as it
 -- asked for a start behind just these
 abbrev pub CountIsKept : History → WorldCore → ℕ → Job → Outcome → ℕ → Type 0
-CountIsKept h w i job outcome finished =
-    (count : ℕ) (reports : Reports) → job.task ≡ tasks.Batch count → outcome ≡ Done reports
-    → (finished ≡ count) ⊎ ((0 < finished) × (finished < count) × HadNoPage h w i job finished)
+CountIsKept h w i job outcome finished = (count : ℕ) (reports : Reports) → job.task ≡ tasks.Batch count
+    → outcome ≡ Done reports → (finished ≡ count) ⊎ ((0 < finished) × (finished < count) × HadNoPage h w i job finished)
 
 -- `next_move`: a job has one just where it runs
 pub record MoveIsKept (outcome : Outcome) (next : Option Event) : Type 0 where

@@ -1,7 +1,7 @@
 //! Of each part of the promise, that it refuses the smallest lies.
 
 ghost use Rattle.world_contract.specs.Clear.{BothBusyIsNoLie, NeitherIsNoLie, RefusedIsNoLie, StoppedIsNoLie, TurnedAwayIsNoLie};
-ghost use Rattle.world_contract.specs.Lies.{AllowedIsNoLie, BusyIsNoLie, CancelledIsNoLie, CountIsNoLie, DeniedIsNoLie, EmptyIsNoLie, FailedIsNoLie, FewIsNoLie, FileIsNoLie, FirmIsNoLie, GivenUpIsNoLie, GoneOnIsNoLie, HiddenIsNoLie, IdleIsNoLie, InvalIsNoLie, JammedIsNoLie, ListIsNoLie, LossIsNoLie, LostIsNoLie, MemoryIsNoLie, MissingIsNoLie, MovedIsNoLie, NowhereIsNoLie, PageIsNoLie, RefusedStandAside, RoundedIsNoLie, SharedIsNoLie, ShownIsNoLie, SilentIsNoLie, StillRunsIsNoLie, StuckIsNoLie, SwappedIsNoLie, TrayPageIsNoLie, UnscannedIsNoLie, WholeIsNoLie};
+ghost use Rattle.world_contract.specs.Lies.{AllowedIsNoLie, BusyIsNoLie, CancelledIsNoLie, CountIsNoLie, DeniedIsNoLie, EmptyIsNoLie, FailedIsNoLie, FewIsNoLie, FileIsNoLie, FirmIsNoLie, GivenUpIsNoLie, GoneOnIsNoLie, HiddenIsNoLie, IdleIsNoLie, InvalIsNoLie, JammedIsNoLie, ListIsNoLie, LossIsNoLie, LostIsNoLie, MemoryIsNoLie, MissingIsNoLie, MovedIsNoLie, NowhereIsNoLie, PageIsNoLie, RefusedStandAside, RoundedIsNoLie, SharedIsNoLie, ShownIsNoLie, SilentIsNoLie, StillRunsIsNoLie, StuckIsNoLie, SwappedIsNoLie, TrayPageIsNoLie, UnchangedStandAside, UnscannedIsNoLie, WholeIsNoLie};
 
 /// The table of endings explains none that nothing stood for.
 #[tactic(none)]
@@ -64,7 +64,10 @@ pub fn a_file_is_no_lie()
     /// Carried by: `filed`, `paged` of `a_file_is_no_lie`
     ensures filed { FileIsNoLie }
     ensures paged { PageIsNoLie }
-    /// Pages that the daemon refused, as those of a full tray, are none of those that must be steady.
+    /// Pages whose event changed nothing are none of those that must be steady, as those that the daemon refused for a
+    /// full tray.
+    /// Carried by: `unchanged`, `aside` of `a_file_is_no_lie`
+    ensures unchanged { UnchangedStandAside }
     ensures aside { RefusedStandAside }
     ensures tray { TrayPageIsNoLie }
     /// No file is whole of a job that is not done, and none is missing of one that is not told as out of memory.

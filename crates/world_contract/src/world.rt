@@ -290,7 +290,7 @@ impl World {
         /// Else IO_ERROR was answered only to a job that scans, where a page that can fail came for its device, and the
         /// source of the first page failed as it asked for a start, or in a turn of its frame: its session had the device,
         /// and behind the event that is stopped, and the failure counted.
-        /// Carried by: `HadFailed`, `CanFail`, `DeviceFailed` of `IsEndingExplained`
+        /// Carried by: `HadFailed`, `DeviceFailed` of `IsEndingExplained`
         ///
         /// In a turn the end with IO_ERROR came behind the bytes of the frame; so the end of a page that a feeder gave
         /// whole is none, though it lets go of that page with its count.
@@ -320,8 +320,8 @@ impl World {
         ensures is { let w = seen_world ⟦<Box<dyn Device> as Device>⟧.state self.now.inner in
             option_map (λ f. f.now) result ≡ file_answered w i }
         /// The file of a scan that is done denotes exactly the picture that the job's settings mean on a page that came
-        /// for the device that it names, where all that did as it ran are steady; one that is not takes this from the
-        /// jobs of that device alone, and none that comes later takes it.
+        /// for its device, where all that did as it ran, and changed the world, are steady; one that is not takes this
+        /// from the jobs of that device alone, and none that comes later takes it.
         /// Carried by: `kept` of `World::file`: `scanned` of `FileIsKept`
         ///
         /// That page is the one which the device that its session had, at rest, had first as the job asked for a start,

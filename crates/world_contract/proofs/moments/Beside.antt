@@ -2,14 +2,12 @@
 -- had it, and who has it is past its opening.
 use Rattle.std.specs.Prelude.{◌≢◌, eqb, map, option_map, slice_get, slice_index_or}
 use Rattle.std.specs.List.{AllByRecursion}
-use Rattle.std.proofs.Common.{◌≡◌, ◌∙◌, ◌⊎◌, ℕ, zero, suc, List, [], ◌∷◌, ◌++◌, Bool, true, false, Option, Some, None, inl, inr, refl, sym, ap, subst, eqb-true}
+use Rattle.std.proofs.Common.{◌≡◌, ◌∙◌, ◌⊎◌, ℕ, zero, suc, List, [], ◌∷◌, ◌++◌, Bool, true, false, Some, None, inl, inr, refl, sym, ap, subst, eqb-true}
 use Rattle.std.proofs.lemmas.Option.{get_or_from_slice_get}
 use Rattle.sane_fixed.specs.declared.status.Status.TheVariants as codes
 use Rattle.frame_join.specs.FrameHistory.{JoinHistory}
 use Rattle.md5_auth.specs.declared.users.Entry.{Entry}
-use Rattle.scan_frames.specs.declared.setup.Setup.{Setup}
 use Rattle.client_replies.specs.ProtocolStates.{target_of}
-use Rattle.client_refines.specs.DecodedReplies.{why_of}
 use Rattle.scan_job.specs.declared.job.Job.{Job}
 use Rattle.scan_job.specs.declared.outcome.Outcome.TheVariants as outcomes
 use Rattle.scan_job.specs.declared.outcome.Why.TheVariants as whys
@@ -19,7 +17,7 @@ use Rattle.daemon_refines.proofs.Moved.{own}
 use Rattle.system_model.specs.AbstractMessages as words
 use Rattle.system_model.specs.AbstractMessages.{Status, Why, Busy, Inval}
 use Rattle.system_model.specs.AbstractDevices.{AbstractDevice}
-use Rattle.system_model.specs.Actions.{Action, job_after_action}
+use Rattle.system_model.specs.Actions.{Action}
 use Rattle.system_model.specs.Causes.{Cause, Explains, GaveUp, LinkLost, LinkOutOfMemory, SourceFailed, NamesEof, Names, Unforced, WasUnlisted, HadNoPicture, WasHeld, Disallowed, TrayWasEmpty, TrayRanOut, ClientOutOfMemory, IsCauseAmong, IsExplained, WasUnsaid}
 use Rattle.system_model.specs.Client.{ClientView, JobStage, Idle, Running, Done, Ended}
 use Rattle.system_model.specs.Devices.{Make, abstract_status}
@@ -32,12 +30,10 @@ use Rattle.world_refines.specs.WorldRefinement.{HaveDifferentNames, WorldRefines
 use Rattle.world_contract.specs.Histories.{History, LedTo, history_up_to}
 use Rattle.world_contract.specs.Laws.{Below}
 use Rattle.world_contract.specs.Lies.{NamesNothing}
-use Rattle.world_contract.specs.Sessions.{Has}
-use Rattle.world_contract.proofs.Along.{Fine, Laws, Own, fine_then, place_of, told_by}
+use Rattle.world_contract.proofs.Along.{Fine, Laws, Own, fine_then, told_by}
 use Rattle.world_contract.proofs.Begun.{job_same, party_stays}
 use Rattle.world_contract.proofs.Ended.{comes_there, ended_reads, first_here, laws_of, steps_of_one, woken_ended}
 use Rattle.world_contract.proofs.Evident.{Comes, IsAnswer, Opens, all_come, causes_by, met_by}
-use Rattle.world_contract.proofs.Jobs.{IsJob}
 use Rattle.world_contract.proofs.Options.{streaming}
 use Rattle.world_contract.proofs.Pages.{HasDevice, IsOfOne, name_there}
 use Rattle.world_contract.proofs.Scanned.{at_first, infos_of, name_of}

@@ -1,5 +1,5 @@
 -- A file that is meant: on the page of its start.
-use Rattle.std.specs.Prelude.{cond, eqb, length, map, slice_get, if◌then◌else◌, ◌<◌, ◌≤◌, ◌+◌, ◌-◌, Contains, Ok}
+use Rattle.std.specs.Prelude.{cond, eqb, length, map, slice_get, if◌then◌else◌, ◌<◌, ◌≤◌, ◌+◌, ◌-◌, Contains}
 use Rattle.std.proofs.Common.{◌≡◌, ◌∙◌, ◌⊎◌, inl, inr, ℕ, suc, arith, List, [], ◌∷◌, ◌++◌, Bool, true, false, Option, Some, refl, sym, ap, subst, eqb-true}
 use Rattle.std.proofs.lemmas.Option.{get_or_from_slice_get}
 use Rattle.page_picture.specs.Meaning.{meaning_of}
@@ -8,7 +8,6 @@ use Rattle.page_picture.specs.Shows.{Frame}
 use Rattle.page_picture.specs.SourceView.{source_state}
 use Rattle.page_picture.specs.declared.sources.kinds.Source.{Source}
 use Rattle.device_api.specs.State.{DeviceState, HeldPage, held_from}
-use Rattle.saned_core.specs.Loading.{daemon_load_answer}
 use Rattle.daemon_refines.specs.ContextRefinement.{HaveSources}
 use Rattle.daemon_refines.proofs.Moved.{own}
 use Rattle.frame_join.specs.FrameHistory.{JoinHistory, is_joined}
@@ -32,6 +31,7 @@ use Rattle.scan_world.specs.declared.event.Event.TheVariants.{Connect, ToDaemon,
 use Rattle.scan_world.specs.JobEvents.{is_done}
 use Rattle.scan_world.specs.Worlds.{WorldCore}
 use Rattle.world_refines.specs.GhostStates.{Ghost, job_state, name_at, place_named}
+use Rattle.world_refines.specs.MainTheorem.{IsFittingLoad}
 use Rattle.world_refines.specs.NewWorlds.{HaveSourcesAt, PageSources, make_of}
 use Rattle.world_refines.specs.WorldPromises.{IsMeant, IsOutcome, KeepsPromise}
 use Rattle.world_refines.specs.WorldRefinement.{KeepsFiles, WorldRefines, is_laid}
@@ -39,18 +39,18 @@ use Rattle.world_refines.proofs.frames.Paged.{woken_pages}
 use Rattle.world_refines.proofs.promise_proofs.Counted.{pages_count}
 use Rattle.world_refines.proofs.job_events.Constant.{Fixed, all_fixed, makes_stay}
 use Rattle.world_contract.specs.Endings.{HadNoPage}
-use Rattle.world_contract.specs.Histories.{History, LedTo, Moment}
+use Rattle.world_contract.specs.Histories.{History, LedTo, history_up_to}
 use Rattle.world_contract.specs.Laws.{Below}
 use Rattle.world_contract.specs.Page.{CameFor, StartedOn}
 use Rattle.world_contract.proofs.Begun.{wants_all}
-use Rattle.world_contract.proofs.Ended.{comes_by, comes_there, first_by, first_here, laws_of, make_by, steps_by, steps_of_one}
+use Rattle.world_contract.proofs.Changing.{changing_in}
+use Rattle.world_contract.proofs.Ended.{FailuresCame, comes_by, comes_there, failures_changing, failures_more, fine_first, first_by, first_here, laws_of, make_by, of_changing, steps_by, steps_of_changing, steps_of_one}
 use Rattle.world_contract.proofs.Jobs.{IsJob}
-use Rattle.world_contract.proofs.Lists.{In, contains_at, contains_in, in_list, in_split}
+use Rattle.world_contract.proofs.Lists.{In, contains_at, contains_in}
 use Rattle.world_contract.proofs.Nearest.{nearest_for}
-use Rattle.world_contract.proofs.Rows.{IsScanEver, RunsAt}
+use Rattle.world_contract.proofs.Rows.{IsScanEver}
 use Rattle.world_contract.proofs.Scanned.{at_first, ghost_by, infos_of, job_there, kept_by, name_of, wants_there}
-use Rattle.world_contract.proofs.Sources.{fallible_of_make, have_sources, load_fits, named_at, sources_of, steady_of_make}
-use Rattle.world_contract.proofs.Taken.{FitsTaken, OnRun}
+use Rattle.world_contract.proofs.Sources.{each_fits, fallible_of_make, have_sources, load_fits, named_at, sources_of, steady_of_make}
 use Rattle.world_contract.proofs.moments.Counted.{CountsTo, counts}
 use Rattle.world_contract.proofs.moments.Moments.{Comes}
 use Rattle.world_contract.proofs.moments.Started.{StartFact, app_length, starts_first}
@@ -58,31 +58,30 @@ use Rattle.world_contract.proofs.moments.Finished.{mapped_length}
 
 -- ---- the job of these steps, and its device
 
-pub job_of : (h : History) (w : WorldCore) (job : Job) (l : LedTo h w) (sources : ℕ → PageSources) (k : Comes h w job h.events (ghost_by h w job l sources)) (i : ℕ) → slice_get h.jobs i ≡ Some job → k.ghost_then.jobs i ≡ job
-job_of h w job l sources k i at = ap (λ (f : Fixed). f.3 i) (all_fixed source_state k.kept (ghost_by h w job l sources) k.steps k.ghost_then k.comes) ∙ get_or_from_slice_get h.jobs i job job at
+pub job_of : (h : History) (w : WorldCore) (job : Job) (l : LedTo h w) (sources : ℕ → PageSources) (k : Comes h w job (changing_in h w l) (ghost_by h w job l sources)) (i : ℕ) → slice_get h.jobs i ≡ Some job → k.ghost_then.jobs i ≡ job
+job_of h w job l sources k i at = ap (λ (f : Fixed). f.3 i) (all_fixed source_state (changing_in h w l) (ghost_by h w job l sources) k.steps k.ghost_then k.comes) ∙ get_or_from_slice_get h.jobs i job job at
 
-make_of_it : (h : History) (w : WorldCore) (job : Job) (l : LedTo h w) (sources : ℕ → PageSources) (k : Comes h w job h.events (ghost_by h w job l sources)) (i : ℕ) → slice_get h.jobs i ≡ Some job → make_for k.ghost_then.system i ≡ make_by h sources (place_named (infos_of h) job.device)
+make_of_it : (h : History) (w : WorldCore) (job : Job) (l : LedTo h w) (sources : ℕ → PageSources) (k : Comes h w job (changing_in h w l) (ghost_by h w job l sources)) (i : ℕ) → slice_get h.jobs i ≡ Some job → make_for k.ghost_then.system i ≡ make_by h sources (place_named (infos_of h) job.device)
 make_of_it h w job l sources k i at =
     let t = ghost_by h w job l sources in
     ap (λ (s : SystemState). make_for s i) k.rules_are
     ∙ (ap (λ (m : ℕ → Make). m (wanted_place (after_all t.system k.steps) i)) (makes_stay t.system k.steps)
     ∙ ap (λ (d : ℕ). make_by h sources d) (wants_all k.steps t.system i ∙ wants_there h w job l sources i at))
 
-meant_then : (h : History) (w : WorldCore) (i : ℕ) (job : Job) (l : LedTo h w) (sources : ℕ → PageSources) (k : Comes h w job h.events (ghost_by h w job l sources)) (begin : Begin) (file : List ℕ) → slice_get h.jobs i ≡ Some job → IsMeant (make_for k.ghost_then.system i) (k.ghost_then.jobs i).settings.items begin file → IsMeant (make_by h sources (place_named (infos_of h) job.device)) job.settings.items begin file
+meant_then : (h : History) (w : WorldCore) (i : ℕ) (job : Job) (l : LedTo h w) (sources : ℕ → PageSources) (k : Comes h w job (changing_in h w l) (ghost_by h w job l sources)) (begin : Begin) (file : List ℕ) → slice_get h.jobs i ≡ Some job → IsMeant (make_for k.ghost_then.system i) (k.ghost_then.jobs i).settings.items begin file → IsMeant (make_by h sources (place_named (infos_of h) job.device)) job.settings.items begin file
 meant_then h w i job l sources k begin file at m =
     subst (λ (make : Make). IsMeant make job.settings.items begin file) (make_of_it h w job l sources k i at)
     (subst (λ (j : Job). IsMeant (make_for k.ghost_then.system i) j.settings.items begin file) (job_of h w job l sources k i at) m)
 
--- ---- where the pages are steady that the daemon took as the job ran
+-- ---- where the pages are steady that changed the world
 
-pub record SteadyRun (h : History) (w : WorldCore) (i : ℕ) (job : Job) (l : LedTo h w) : Type 0 where
-  pub ran : OnRun (λ (u : WorldCore). RunsAt u i) h.events l.first w l.runs
+pub record SteadyRun (h : History) (w : WorldCore) (job : Job) (l : LedTo h w) : Type 0 where
   pub first : (device : DeviceState) → Contains h.devices device → device.info.name ≡ job.device → (held : HeldPage) → Contains device.pages held → held.steady ≡ true
-  pub later : (source : Source) (m : Moment h w (Load job.device source)) → RunsAt m.before i → daemon_load_answer m.before.daemon job.device ≡ Ok tt → (held_from (source_state source)).steady ≡ true
+  pub later : (source : Source) → In (Load job.device source) (changing_in h w l) → (held_from (source_state source)).steady ≡ true
 
 -- the sources of its device are, and of the others nothing is known
-abbrev steady_at : History → ℕ → ℕ → PageSources
-steady_at h place d = record { fallible = (sources_of h d).fallible; steady = eqb d place }
+abbrev steady_at : (h : History) (w : WorldCore) → Job → LedTo h w → ℕ → PageSources
+steady_at h w job l d = record { fallible = (sources_of (of_changing h w l) d).fallible; steady = eqb d (place_named (infos_of h) job.device) }
 
 each_steady : (k l : Make) (pages : List HeldPage) → l.fallible ≡ k.fallible → HaveSources k pages → (l.steady ≡ true → (held : HeldPage) → In held pages → held.steady ≡ true) → HaveSources l pages
 each_steady k l [] same all steady = tt
@@ -94,56 +93,60 @@ each_steady k l (held ∷ pages) same all steady = (
   each_steady k l pages same all.1 (λ e x among. steady e x (inr among)),
 )
 
-steady_first : (h : History) (w : WorldCore) (i : ℕ) (job : Job) (l : LedTo h w) → SteadyRun h w i job l → HaveSourcesAt (steady_at h (place_named (infos_of h) job.device)) h.devices
-steady_first h w i job l s k device at =
+steady_first : (h : History) (w : WorldCore) (job : Job) (l : LedTo h w) → SteadyRun h w job l → HaveSourcesAt (steady_at h w job l) h.devices
+steady_first h w job l s k device at =
     let place = place_named (infos_of h) job.device in
-    each_steady (make_of (sources_of h k) (Some device)) (make_of (steady_at h place k) (Some device)) device.pages refl (have_sources h k device at) (λ e held among.
+    let g = of_changing h w l in
+    each_steady (make_of (sources_of g k) (Some device)) (make_of (steady_at h w job l k) (Some device)) device.pages refl (have_sources g k device at) (λ e held among.
     let here : slice_get h.devices place ≡ Some device = ap (slice_get h.devices) (sym (eqb-true k place e)) ∙ at in
     s.first device (contains_at h.devices k device at) (name_of h job.device device here) held (contains_in device.pages held among))
 
-steady_loads : (h : History) (w : WorldCore) (i : ℕ) (job : Job) (l : LedTo h w) → SteadyRun h w i job l → (e : Event) (m : Moment h w e) → RunsAt m.before i → FitsTaken (infos_of h) (make_by h (steady_at h (place_named (infos_of h) job.device))) e m.before
-steady_loads h w i job l s (Connect j) m ran = tt
-steady_loads h w i job l s (ToDaemon j n) m ran = tt
-steady_loads h w i job l s (ToClient j n) m ran = tt
-steady_loads h w i job l s (DataConnect j) m ran = tt
-steady_loads h w i job l s (DataTurn j) m ran = tt
-steady_loads h w i job l s (DataToClient j n) m ran = tt
-steady_loads h w i job l s (LoseControl j) m ran = tt
-steady_loads h w i job l s (LoseImage j) m ran = tt
-steady_loads h w i job l s (Cancel j) m ran = tt
-steady_loads h w i job l s (Unplug name) m ran = tt
-steady_loads h w i job l s (Load name source) m ran = λ taken k named.
+steady_event : (h : History) (w : WorldCore) (job : Job) (l : LedTo h w) → SteadyRun h w job l → (e : Event) → In e (changing_in h w l) → IsFittingLoad source_state (infos_of h) (make_by h (steady_at h w job l)) e
+steady_event h w job l s (Connect j) among = tt
+steady_event h w job l s (ToDaemon j n) among = tt
+steady_event h w job l s (ToClient j n) among = tt
+steady_event h w job l s (DataConnect j) among = tt
+steady_event h w job l s (DataTurn j) among = tt
+steady_event h w job l s (DataToClient j n) among = tt
+steady_event h w job l s (LoseControl j) among = tt
+steady_event h w job l s (LoseImage j) among = tt
+steady_event h w job l s (Cancel j) among = tt
+steady_event h w job l s (Unplug name) among = tt
+steady_event h w job l s (Load name source) among = λ k named.
     let place = place_named (infos_of h) job.device in
-    let b = steady_at h place in
-    let ever = load_fits h name source (in_list h.events (Load name source) (in_split h.events m.front m.back (Load name source) m.split)) k named in
-    let same : (make_by h b k).fallible ≡ (make_by h (sources_of h) k).fallible = fallible_of_make (b k) (slice_get h.devices k) ∙ sym (fallible_of_make (sources_of h k) (slice_get h.devices k)) in
+    let b = steady_at h w job l in
+    let g = of_changing h w l in
+    let ever = load_fits g name source among k named in
+    let same : (make_by h b k).fallible ≡ (make_by h (sources_of g) k).fallible = fallible_of_make (b k) (slice_get h.devices k) ∙ sym (fallible_of_make (sources_of g k) (slice_get h.devices k)) in
     record {
       infallible = λ e. ever.infallible (sym same ∙ e);
       steady = λ e.
           let here : k ≡ place = eqb-true k place (sym (steady_of_make (b k) (slice_get h.devices k)) ∙ e) in
           let there : name_at (infos_of h) place ≡ Some name = subst (λ (n : ℕ). name_at (infos_of h) n ≡ Some name) here named in
           let d = named_at h.devices place name there in
-          steady_load h w i job l s name source (sym d.2 ∙ name_of h job.device d.0 d.1) m ran taken;
+          let own_name : name ≡ job.device = sym d.2 ∙ name_of h job.device d.0 d.1 in
+          s.later source (subst (λ (x : List ℕ). In (Load x source) (changing_in h w l)) own_name among);
     }
-  where
-    steady_load : (h : History) (w : WorldCore) (i : ℕ) (job : Job) (l : LedTo h w) → SteadyRun h w i job l → (name : List ℕ) (source : Source) → name ≡ job.device → (m : Moment h w (Load name source)) → RunsAt m.before i → daemon_load_answer m.before.daemon name ≡ Ok tt → (held_from (source_state source)).steady ≡ true
-    steady_load h w i job l s name source same =
-        subst (λ (x : List ℕ). (m : Moment h w (Load x source)) → RunsAt m.before i → daemon_load_answer m.before.daemon x ≡ Ok tt → (held_from (source_state source)).steady ≡ true) (sym same) (s.later source)
 
-steady_steps : (below : Below) (h : History) (w : WorldCore) (i : ℕ) (job : Job) (l : LedTo h w) → SteadyRun h w i job l → Comes h w job h.events (ghost_by h w job l (steady_at h (place_named (infos_of h) job.device)))
-steady_steps below h w i job l s = comes_by below h w job l (steady_at h (place_named (infos_of h) job.device)) (λ (u : WorldCore). RunsAt u i) (steady_first h w i job l s) (steady_loads h w i job l s) s.ran
+steady_steps : (below : Below) (h : History) (w : WorldCore) (job : Job) (l : LedTo h w) → SteadyRun h w job l → Comes h w job (changing_in h w l) (ghost_by h w job l (steady_at h w job l))
+steady_steps below h w job l s = comes_by below h w job l (steady_at h w job l) (steady_first h w job l s) (each_fits (infos_of h) (make_by h (steady_at h w job l)) (changing_in h w l) (steady_event h w job l s))
 
-steady_then : (h : History) (w : WorldCore) (job : Job) (l : LedTo h w) (i : ℕ) (k : Comes h w job h.events (ghost_by h w job l (steady_at h (place_named (infos_of h) job.device)))) → slice_get h.jobs i ≡ Some job → (make_for k.ghost_then.system i).steady ≡ true
+steady_fails : (h : History) (w : WorldCore) (job : Job) (l : LedTo h w) → FailuresCame h (of_changing h w l) (steady_at h w job l)
+steady_fails h w job l d able device at = failures_changing h w l d able device at
+
+steady_then : (h : History) (w : WorldCore) (job : Job) (l : LedTo h w) (i : ℕ) (k : Comes h w job (changing_in h w l) (ghost_by h w job l (steady_at h w job l))) → slice_get h.jobs i ≡ Some job → (make_for k.ghost_then.system i).steady ≡ true
 steady_then h w job l i k at =
     let place = place_named (infos_of h) job.device in
-    ap (λ (make : Make). make.steady) (make_of_it h w job l (steady_at h place) k i at) ∙ (steady_of_make (steady_at h place place) (slice_get h.devices place) ∙ own place)
+    ap (λ (make : Make). make.steady) (make_of_it h w job l (steady_at h w job l) k i at) ∙ (steady_of_make (steady_at h w job l place) (slice_get h.devices place) ∙ own place)
 
 -- ---- its finished pages
 
-start_of : (below : Below) (h : History) (w : WorldCore) (i : ℕ) (job : Job) (l : LedTo h w) (sources : ℕ → PageSources) → HaveSourcesAt sources h.devices → ((d : ℕ) → (sources d).fallible ≡ (sources_of h d).fallible) → (c : Comes h w job h.events (ghost_by h w job l sources)) → slice_get h.jobs i ≡ Some job → (k : ℕ) (b : Begin) → k < length (job_state c.ghost_then i).client.pages → slice_get (job_state c.ghost_then i).session.started k ≡ Some b → StartFact h w i job k b
+start_of : (below : Below) (h : History) (w : WorldCore) (i : ℕ) (job : Job) (l : LedTo h w) (sources : ℕ → PageSources) → HaveSourcesAt sources h.devices → FailuresCame h (of_changing h w l) sources → (c : Comes h w job (changing_in h w l) (ghost_by h w job l sources)) → slice_get h.jobs i ≡ Some job → (k : ℕ) (b : Begin) → k < length (job_state c.ghost_then i).client.pages → slice_get (job_state c.ghost_then i).session.started k ≡ Some b → StartFact h w (changing_in h w l) i job k b
 start_of below h w i job l sources haves fails c at k b low started =
     let t = ghost_by h w job l sources in
-    let facts = starts_first (laws_of below) h w i job c.steps t.system (first_by below h w i job l sources haves fails at) (steps_by h w job l sources c) c.answered c.legal refl in
+    let here = first_by below h w i job l sources haves (failures_more h w l sources fails) at in
+    let fine = fine_first h w job l sources (changing_in h w l) fails in
+    let facts = starts_first (laws_of below) h w (changing_in h w l) i job c.steps t.system here fine (steps_by h w job l sources c) (steps_of_changing h w job l sources c) c.answered c.legal refl in
     facts k b (subst (λ (s : SystemState). k < length (s.job i).client.pages) c.rules_are low) (subst (λ (s : SystemState). slice_get (s.job i).session.started k ≡ Some b) c.rules_are started)
 
 joined_of : (a b c : Bool) → cond a (cond b c false) false ≡ true → c ≡ true
@@ -190,8 +193,8 @@ one_page u w i job p reports h done at own scan =
 
 -- ---- a file that is meant
 
-pub is_scan : (h : History) (w : WorldCore) (i : ℕ) (job : Job) (sources : ℕ → PageSources) (count : ℕ) (begin : Begin) (file : List ℕ) → StartFact h w i job count begin → IsMeant (make_by h sources (place_named (infos_of h) job.device)) job.settings.items begin file → IsScanEver h w i job count file
-is_scan h w i job sources count begin file fact meant =
+pub is_scan : (h : History) (w : WorldCore) (changing : List Event) (i : ℕ) (job : Job) (sources : ℕ → PageSources) (count : ℕ) (begin : Begin) (file : List ℕ) → StartFact h w changing i job count begin → IsMeant (make_by h sources (place_named (infos_of h) job.device)) job.settings.items begin file → IsScanEver h w changing i job count file
+is_scan h w changing i job sources count begin file fact meant =
     let there = fact.begun in
     let device = there.0.0 in
     let at = there.0.1 in
@@ -210,34 +213,34 @@ is_scan h w i job sources count begin file fact meant =
         in_force = put.1;
       };
       held = page.0;
-      came = subst (λ (x : List ℕ). CameFor h x page.0) name page.1;
+      came = subst (λ (x : List ℕ). CameFor (history_up_to h changing) x page.0) name page.1;
       started = subst (StartedOn h w i job count) (sym page.2) fact.started;
       picture = m.picture;
       meant = ap (λ (x : PageView). meaning_of x begin.options.scene) page.2 ∙ m.meant;
       denotes = m.denotes;
     }
 
-pub scan_right : Below → (h : History) (w : WorldCore) (i : ℕ) (job : Job) (p : Endpoint) (reports : Reports) (file : List ℕ) → (j : IsJob h w i job p) → SteadyRun h w i job j.led → job.task ≡ tasks.Scan → p.client.outcome ≡ Done reports → p.file ≡ Some file → IsScanEver h w i job 0 file
+pub scan_right : Below → (h : History) (w : WorldCore) (i : ℕ) (job : Job) (p : Endpoint) (reports : Reports) (file : List ℕ) → (j : IsJob h w i job p) → SteadyRun h w job j.led → job.task ≡ tasks.Scan → p.client.outcome ≡ Done reports → p.file ≡ Some file → IsScanEver h w (changing_in h w j.led) i job 0 file
 scan_right below h w i job p reports file j steady scan done is =
-    let b = steady_at h (place_named (infos_of h) job.device) in
-    let k = steady_steps below h w i job j.led steady in
+    let b = steady_at h w job j.led in
+    let k = steady_steps below h w job j.led steady in
     let u = k.ghost_then in
     let own_job = job_of h w job j.led b k i j.job_at in
     let s = below.scans u w i p reports file k.stands j.endpoint_at (ap (λ (x : Job). x.task) own_job ∙ scan) done is in
     let promise = subst (IsOutcome u i) done (below.outcomes u w i p k.stands j.endpoint_at) in
     let low = one_page u w i job p reports k.stands promise j.endpoint_at own_job scan in
-    let fact = start_of below h w i job j.led b (steady_first h w i job j.led steady) (λ d. refl) k j.job_at 0 s.begin low (ap (λ (bs : List Begin). slice_get bs 0) s.started) in
-    is_scan h w i job b 0 s.begin file fact (meant_then h w i job j.led b k s.begin file j.job_at (s.meant (steady_then h w job j.led i k j.job_at)))
+    let fact = start_of below h w i job j.led b (steady_first h w job j.led steady) (steady_fails h w job j.led) k j.job_at 0 s.begin low (ap (λ (bs : List Begin). slice_get bs 0) s.started) in
+    is_scan h w (changing_in h w j.led) i job b 0 s.begin file fact (meant_then h w i job j.led b k s.begin file j.job_at (s.meant (steady_then h w job j.led i k j.job_at)))
 
-pub page_right : Below → (h : History) (w : WorldCore) (i n : ℕ) (job : Job) (p : Endpoint) (file : List ℕ) → (j : IsJob h w i job p) → SteadyRun h w i job j.led → n < p.finished → slice_get p.pages n ≡ Some (Some file) → IsScanEver h w i job n file
+pub page_right : Below → (h : History) (w : WorldCore) (i n : ℕ) (job : Job) (p : Endpoint) (file : List ℕ) → (j : IsJob h w i job p) → SteadyRun h w job j.led → n < p.finished → slice_get p.pages n ≡ Some (Some file) → IsScanEver h w (changing_in h w j.led) i job n file
 page_right below h w i n job p file j steady low is =
-    let b = steady_at h (place_named (infos_of h) job.device) in
-    let k = steady_steps below h w i job j.led steady in
+    let b = steady_at h w job j.led in
+    let k = steady_steps below h w job j.led steady in
     let u = k.ghost_then in
     let s = below.pages u w i n p file k.stands j.endpoint_at low is in
     let most = finished_low u w i p k.stands j.endpoint_at in
-    let fact = start_of below h w i job j.led b (steady_first h w i job j.led steady) (λ d. refl) k j.job_at n s.begin (omega (arith, low, most)) s.started in
-    is_scan h w i job b n s.begin file fact (meant_then h w i job j.led b k s.begin file j.job_at (s.meant (steady_then h w job j.led i k j.job_at)))
+    let fact = start_of below h w i job j.led b (steady_first h w job j.led steady) (steady_fails h w job j.led) k j.job_at n s.begin (omega (arith, low, most)) s.started in
+    is_scan h w (changing_in h w j.led) i job b n s.begin file fact (meant_then h w i job j.led b k s.begin file j.job_at (s.meant (steady_then h w job j.led i k j.job_at)))
 
 -- ---- how many they are
 

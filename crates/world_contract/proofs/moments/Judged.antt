@@ -30,6 +30,7 @@ use Rattle.system_model.specs.Invariants.{IsCaused, StageInvariant}
 use Rattle.system_model.specs.ModelPromises.{CausesAreGrounded}
 use Rattle.system_model.specs.SystemStates.{JobState, SystemState, listed_devices, make_for, device_for, wanted_place}
 use Rattle.system_model.specs.Transitions.{By, IsActionEnabled, IsHistory, IsEnabled, IsUnderWay, Loads, Transition, Unplugs, after_transition, after_all}
+use Rattle.scan_world.specs.declared.event.Event.{Event}
 use Rattle.scan_world.specs.declared.event.Event.TheVariants.{Cancel, DataTurn}
 use Rattle.scan_world.specs.Worlds.{WorldCore}
 use Rattle.daemon_refines.specs.ContextRefinement.{abstract_device}
@@ -39,7 +40,7 @@ use Rattle.world_refines.specs.GhostStates.{backend_of, is_allowed_for, name_at,
 use Rattle.world_refines.proofs.job_events.Constant.{Fixed}
 use Rattle.world_contract.specs.Calls.{HadUnsaidReply}
 use Rattle.world_contract.specs.Endings.{HadNoPage, HasPassed}
-use Rattle.world_contract.specs.Histories.{History}
+use Rattle.world_contract.specs.Histories.{History, history_up_to}
 use Rattle.world_contract.specs.Page.{CameFor}
 use Rattle.world_contract.specs.Sessions.{Asked, Happened, Has, IsAtOpen, IsAtStart}
 use Rattle.world_contract.proofs.Along.{Fine, Here, IsTold, Laws, NotForced, Own, fine_then, own_place, settled_by, told_by}
@@ -69,22 +70,22 @@ use Rattle.world_contract.proofs.moments.Waiting.{WaitsFor, waits_there}
 abbrev pub IsNamed : History → WorldCore → ℕ → Job → Status → Type 0
 IsNamed h w i job status = Happened h w i (DataTurn i) × (scans job.task ≡ true) × IsTold h job status
 
-abbrev pub Evid : History → WorldCore → ℕ → Job → Cause → Type 0
-Evid h w i job GaveUp = Contains h.events (Cancel i)
-Evid h w i job LinkLost = rows.WasLost h w i
-Evid h w i job LinkOutOfMemory = Unit {0}
-Evid h w i job WasUnsaid = HadUnsaidReply h w i job
-Evid h w i job SourceFailed = rows.MayHaveFailed h w i job
-Evid h w i job NamesEof = IsNamed h w i job Eof
-Evid h w i job (Names status) = IsNamed h w i job status
-Evid h w i job Unforced = ⊥
-Evid h w i job WasUnlisted = rows.WasUnlisted h w i job
-Evid h w i job HadNoPicture = rows.HadNoPictureEver h w i job
-Evid h w i job WasHeld = rows.WasHeld h w i job
-Evid h w i job Disallowed = rows.WasDisallowed h w i job
-Evid h w i job TrayWasEmpty = HadNoPage h w i job 0
-Evid h w i job TrayRanOut = Unit {0}
-Evid h w i job ClientOutOfMemory = rows.WasStarved h w i
+abbrev pub Evid : History → WorldCore → List Event → ℕ → Job → Cause → Type 0
+Evid h w changing i job GaveUp = Contains h.events (Cancel i)
+Evid h w changing i job LinkLost = rows.WasLost h w i
+Evid h w changing i job LinkOutOfMemory = Unit {0}
+Evid h w changing i job WasUnsaid = HadUnsaidReply h w i job
+Evid h w changing i job SourceFailed = rows.MayHaveFailed h w changing i job
+Evid h w changing i job NamesEof = IsNamed h w i job Eof
+Evid h w changing i job (Names status) = IsNamed h w i job status
+Evid h w changing i job Unforced = ⊥
+Evid h w changing i job WasUnlisted = rows.WasUnlisted h w i job
+Evid h w changing i job HadNoPicture = rows.HadNoPictureEver h w changing i job
+Evid h w changing i job WasHeld = rows.WasHeld h w i job
+Evid h w changing i job Disallowed = rows.WasDisallowed h w i job
+Evid h w changing i job TrayWasEmpty = HadNoPage h w i job 0
+Evid h w changing i job TrayRanOut = Unit {0}
+Evid h w changing i job ClientOutOfMemory = rows.WasStarved h w i
 
 abbrev pub StepSo : History → WorldCore → Job → SystemState → Transition → Type 0
 StepSo h w job s x = AnsweredSo h w job s x × HappenedSo h w job s x
@@ -216,13 +217,13 @@ no_page h w i job s e on a rest todo rests held =
     let r = has_there h w i job s i e.own_job e.fine a held.0 in
     (starts_scan h i job s e on rest todo, asked_start h w i job s on a rest todo, finished_there h w i job s e on a rest todo rests, (r.0, r.1, rests_there (Some i) (device_for s i) r.0 rests r.2 r.3, held.1 r.0 r.2 r.3))
 
-no_meaning_there : (h : History) (w : WorldCore) (i : ℕ) (job : Job) (s : SystemState) → Here h i job s → IsUnderWay (s.job i).client.stage → (a : Front h w job s i) → (rest : List AbstractRequest) → (s.job i).todo ≡ Start ∷ rest → IsSet i (make_for s i) (s.job i).session (device_for s i) → (page : Page) (later : List Page) → (device_for s i).tray ≡ page ∷ later → picture_frames (make_for s i) (device_for s i).options page ≡ [] → (device_for s i).phase ≡ Resting → rows.HadNoPictureEver h w i job
-no_meaning_there h w i job s e on a rest todo set page later tray none rests =
+no_meaning_there : (h : History) (w : WorldCore) (changing : List Event) (i : ℕ) (job : Job) (s : SystemState) → Here h i job s → Fine (history_up_to h changing) job s → IsUnderWay (s.job i).client.stage → (a : Front h w job s i) → (rest : List AbstractRequest) → (s.job i).todo ≡ Start ∷ rest → IsSet i (make_for s i) (s.job i).session (device_for s i) → (page : Page) (later : List Page) → (device_for s i).tray ≡ page ∷ later → picture_frames (make_for s i) (device_for s i).options page ≡ [] → (device_for s i).phase ≡ Resting → rows.HadNoPictureEver h w changing i job
+no_meaning_there h w changing i job s e f on a rest todo set page later tray none rests =
     let settled = settled_by h i job s e.own_job e.fine e.is set.0 set.1 in
     let r = has_there h w i job s i e.own_job e.fine a set.0 in
     let setup : (device_for s i).options ≡ r.0.setup = ap (λ (dev : AbstractDevice). dev.options) r.2 in
     let first = page_there (Some i) (device_for s i) r.0 page later rests tray r.2 r.3 in
-    let came = (subst (AllByRecursion (IsOfDevice h (wanted_place s i))) tray (e.fine.slots (wanted_place s i)).pages).0 settled.0.device settled.2 in
+    let came = (subst (AllByRecursion (IsOfDevice (history_up_to h changing) (wanted_place s i))) tray (f.slots (wanted_place s i)).pages).0 settled.0.device settled.2 in
     record {
       scanning = starts_scan h i job s e on rest todo;
       asked = asked_start h w i job s on a rest todo;
@@ -231,36 +232,36 @@ no_meaning_there h w i job s e on a rest todo set page later tray none rests =
       settled = settled.0;
       options = settled.1 ∙ setup;
       held = came.0;
-      came = subst (λ (name : List ℕ). CameFor h name came.0) settled.0.named came.1;
+      came = subst (λ (name : List ℕ). CameFor (history_up_to h changing) name came.0) settled.0.named came.1;
       first = came.2 ∙ sym first;
       none = ap (λ (p : Page). meaning_of p settled.0.setup.scene) came.2 ∙ (ap (λ (y : Setup). meaning_of page y.scene) settled.1 ∙ no_meaning (make_for s i) (device_for s i).options page none);
     }
 
 -- a page that can fail came for a device whose source may fail
-can_fail : (h : History) (i : ℕ) (job : Job) (s : SystemState) → Here h i job s → (make_for s i).fallible ≡ true → (device_for s i).holder ≡ Some i → CanFail h job.device
-can_fail h i job s e able mine =
-    let known = e.fine.makes (wanted_place s i) in
+can_fail : (h : History) (changing : List Event) (i : ℕ) (job : Job) (s : SystemState) → Own h i job → Fine (history_up_to h changing) job s → (make_for s i).fallible ≡ true → (device_for s i).holder ≡ Some i → CanFail (history_up_to h changing) job.device
+can_fail h changing i job s o f able mine =
+    let known = f.makes (wanted_place s i) in
     let b : known.sources.fallible ≡ true = sym (fallible_of_make known.sources (slice_get h.devices (wanted_place s i))) ∙ (ap (λ (k : Make). k.fallible) (sym known.is) ∙ able) in
-    let there : HasDevice h (wanted_place s i) = (e.fine.slots (wanted_place s i)).held i mine in
-    let place : wanted_place s i ≡ place_named (infos_of h) job.device = e.fine.places i ∙ own_place h i job e.own_job.at in
-    subst (CanFail h) (name_of h job.device there.0 (ap (slice_get h.devices) (sym place) ∙ there.1)) (known.fails b there.0 there.1)
+    let there : HasDevice h (wanted_place s i) = (f.slots (wanted_place s i)).held i mine in
+    let place : wanted_place s i ≡ place_named (infos_of h) job.device = f.places i ∙ own_place h i job o.at in
+    subst (CanFail (history_up_to h changing)) (name_of h job.device there.0 (ap (slice_get h.devices) (sym place) ∙ there.1)) (known.fails b there.0 there.1)
 
-source_failed : (h : History) (w : WorldCore) (i : ℕ) (job : Job) (s : SystemState) (x : Action) → Here h i job s → (IsFailedAnswer x × Begins (s.job i)) ⊎ ((fault : FailureCounts) × (x ≡ Actions.TurnsFault fault)) → IsUnderWay (s.job i).client.stage → StepSo h w job s (By i x) → IsEnabled s (By i x) → slice_get h.jobs i ≡ Some job → rows.MayHaveFailed h w i job
-source_failed h w i job s x e (inl (a, begins)) on so may at =
+source_failed : (h : History) (w : WorldCore) (changing : List Event) (i : ℕ) (job : Job) (s : SystemState) (x : Action) → Here h i job s → Fine (history_up_to h changing) job s → (IsFailedAnswer x × Begins (s.job i)) ⊎ ((fault : FailureCounts) × (x ≡ Actions.TurnsFault fault)) → IsUnderWay (s.job i).client.stage → StepSo h w job s (By i x) → IsEnabled s (By i x) → slice_get h.jobs i ≡ Some job → rows.MayHaveFailed h w changing i job
+source_failed h w changing i job s x e f (inl (a, begins)) on so may at =
     let m : AnswersAt h w job s i (Some a.1) = (subst (λ (y : Action). AnsweredSo h w job s (By i y)) a.2 so.0) on in
     let fails = (subst (λ (y : Action). IsEnabled s (By i y)) a.2 may).2.0 in
     let set = starting i (make_for s i) (s.job i) (device_for s i) (s.job i).client.stage begins.0 on (e.sound.exchanges i) begins.1 in (
       starts_scan h i job s e on begins.0 begins.1,
-      can_fail h i job s e fails set.0,
+      can_fail h changing i job s e.own_job f fails set.0,
       inl (asked_start h w i job s on (Some a.1, m) begins.0 begins.1, subst (λ (j : Job). FailedIn m.at.before m.at.behind.daemon i j.device) (get_or_from_slice_get h.jobs i job job at) m.failed),
     )
-source_failed h w i job s x e (inr a) on so may at =
-    let f = happened_by h w job s i x (Actions.TurnsFault a.0) a.1 so on in
+source_failed h w changing i job s x e f (inr a) on so may at =
+    let fault = happened_by h w job s i x (Actions.TurnsFault a.0) a.1 so on in
     let turns = subst (λ (y : Action). IsEnabled s (By i y)) a.1 may in
     let streamed = streaming i (make_for s i) (s.job i) (device_for s i) (s.job i).client.stage on (e.sound.exchanges i) turns.3.0 in (
       scans_so job.task (subst (λ (j : RuledJob). Scans j.task) e.is streamed.1),
-      can_fail h i job s e turns.4.0 turns.3.1,
-      inr (f.0, subst (λ (j : Job). FailedIn f.0.0.before f.0.0.behind.daemon i j.device) (get_or_from_slice_get h.jobs i job job at) f.1, f.2),
+      can_fail h changing i job s e.own_job f turns.4.0 turns.3.1,
+      inr (fault.0, subst (λ (j : Job). FailedIn fault.0.0.before fault.0.0.behind.daemon i j.device) (get_or_from_slice_get h.jobs i job job at) fault.1, fault.2),
     )
 
 served_by_step : (i : ℕ) (k : Make) (p : JobState) (dev : AbstractDevice) (x : Action) → IsAnswer x → IsActionEnabled i k p dev x → p.served ≡ true
@@ -271,53 +272,53 @@ named_by h w i job s status e on streams held reads turn =
     let streamed = streaming i (make_for s i) (s.job i) (device_for s i) (s.job i).client.stage on (e.sound.exchanges i) streams in
     (turn, scans_so job.task (subst (λ (j : RuledJob). Scans j.task) e.is streamed.1), told_by h i job s status e.own_job e.fine e.is held streamed.0 reads)
 
-evid : (h : History) (w : WorldCore) (i : ℕ) (job : Job) (s : SystemState) (x : Action) → Here h i job s → IsUnderWay (s.job i).client.stage → own_of h i x → StepSo h w job s (By i x) → IsEnabled s (By i x) → (c : Cause) → Comes i (make_for s i) (s.job i) (device_for s i) x c → Evid h w i job c
-evid h w i job s x e on of so may GaveUp c = let o = of_action h i x Actions.Stops c of in stops_event (Contains h.events) (infos_of h) i o.event (contains_in h.events o.event o.among) o.is
-evid h w i job s x e on of so may LinkLost c = link_lost h w job s i x on c so
-evid h w i job s x e on of so may LinkOutOfMemory c = tt
-evid h w i job s x e on of so may WasUnsaid c = subst (HadUnsaidReply h w i) (get_or_from_slice_get h.jobs i job job e.own_job.at) (happened_by h w job s i x (Actions.Breaks false) c so on)
-evid h w i job s x e on of so may SourceFailed c = source_failed h w i job s x e c on so may e.own_job.at
-evid h w i job s x e on of so may NamesEof c = named_by h w i job s Eof e on c.1 c.2 c.3 (happened_by h w job s i x Actions.TurnsShort c.0 so on)
-evid h w i job s x e on of so may (Names status) c = named_by h w i job s status e on c.1 c.2 c.3 (happened_by h w job s i x (Actions.TurnsNamed status) c.0 so on)
-evid h w i job s x e on of so may Unforced c = absurd c
-evid h w i job s x e on of so may WasUnlisted c = not_listed h w i job s e on (front_by h w i job s x c.0 on so) c.1 c.2
-evid h w i job s x e on of so may HadNoPicture c =
-    no_meaning_there h w i job s e on (front_by h w i job s x c.0 on so) c.1.0 c.1.1 (starting i (make_for s i) (s.job i) (device_for s i) (s.job i).client.stage c.1.0 on (e.sound.exchanges i) c.1.1) c.1.2.0 c.1.2.1 c.1.2.2 c.1.2.3 c.2
-evid h w i job s x e on of so may WasHeld c = held_by_other h w i job s c.2.0 e on (front_by h w i job s x c.0 on so) c.1 c.2.1 c.2.2
-evid h w i job s x e on of so may Disallowed c = not_allowed h w i job s e on (served_by_step i (make_for s i) (s.job i) (device_for s i) x c.0 may) (front_by h w i job s x c.0 on so) c.1 c.2.0 c.2.1 c.2.2
-evid h w i job s x e on of so may TrayWasEmpty c =
+evid : (h : History) (w : WorldCore) (changing : List Event) (i : ℕ) (job : Job) (s : SystemState) (x : Action) → Here h i job s → Fine (history_up_to h changing) job s → IsUnderWay (s.job i).client.stage → own_of h i x → StepSo h w job s (By i x) → IsEnabled s (By i x) → (c : Cause) → Comes i (make_for s i) (s.job i) (device_for s i) x c → Evid h w changing i job c
+evid h w changing i job s x e f on of so may GaveUp c = let o = of_action h i x Actions.Stops c of in stops_event (Contains h.events) (infos_of h) i o.event (contains_in h.events o.event o.among) o.is
+evid h w changing i job s x e f on of so may LinkLost c = link_lost h w job s i x on c so
+evid h w changing i job s x e f on of so may LinkOutOfMemory c = tt
+evid h w changing i job s x e f on of so may WasUnsaid c = subst (HadUnsaidReply h w i) (get_or_from_slice_get h.jobs i job job e.own_job.at) (happened_by h w job s i x (Actions.Breaks false) c so on)
+evid h w changing i job s x e f on of so may SourceFailed c = source_failed h w changing i job s x e f c on so may e.own_job.at
+evid h w changing i job s x e f on of so may NamesEof c = named_by h w i job s Eof e on c.1 c.2 c.3 (happened_by h w job s i x Actions.TurnsShort c.0 so on)
+evid h w changing i job s x e f on of so may (Names status) c = named_by h w i job s status e on c.1 c.2 c.3 (happened_by h w job s i x (Actions.TurnsNamed status) c.0 so on)
+evid h w changing i job s x e f on of so may Unforced c = absurd c
+evid h w changing i job s x e f on of so may WasUnlisted c = not_listed h w i job s e on (front_by h w i job s x c.0 on so) c.1 c.2
+evid h w changing i job s x e f on of so may HadNoPicture c =
+    no_meaning_there h w changing i job s e f on (front_by h w i job s x c.0 on so) c.1.0 c.1.1 (starting i (make_for s i) (s.job i) (device_for s i) (s.job i).client.stage c.1.0 on (e.sound.exchanges i) c.1.1) c.1.2.0 c.1.2.1 c.1.2.2 c.1.2.3 c.2
+evid h w changing i job s x e f on of so may WasHeld c = held_by_other h w i job s c.2.0 e on (front_by h w i job s x c.0 on so) c.1 c.2.1 c.2.2
+evid h w changing i job s x e f on of so may Disallowed c = not_allowed h w i job s e on (served_by_step i (make_for s i) (s.job i) (device_for s i) x c.0 may) (front_by h w i job s x c.0 on so) c.1 c.2.0 c.2.1 c.2.2
+evid h w changing i job s x e f on of so may TrayWasEmpty c =
     let p = s.job i in
     let rests = first_rests i (make_for s i) p (device_for s i) p.client.stage (e.sound.exchanges i) on c.1 in
     let ready = starts_ready i (make_for s i) p (device_for s i) p.client.stage c.1.0 on (e.sound.exchanges i) c.1.1 rests in
     let none : length p.client.pages ≡ 0 = sym (as_many (make_for s i) p.session.job.settings p.session.started p.client.pages ready.0.pictures) ∙ none_begun p.session.started c.1.3 in
     subst (HadNoPage h w i job) none (no_page h w i job s e on (front_by h w i job s x c.0 on so) c.1.0 c.1.1 rests (empty_there i (make_for s i) p (device_for s i) p.client.stage (e.sound.exchanges i) on c.1))
-evid h w i job s x e on of so may TrayRanOut c = tt
-evid h w i job s x e on of so may ClientOutOfMemory c = happened_by h w job s i x Actions.RunsOutOfMemory c so on
+evid h w changing i job s x e f on of so may TrayRanOut c = tt
+evid h w changing i job s x e f on of so may ClientOutOfMemory c = happened_by h w job s i x Actions.RunsOutOfMemory c so on
 
 -- ---- what the job met
 
-abbrev pub EndedBy : History → WorldCore → ℕ → Job → List Cause → Status → Why → Type 0
-EndedBy h w i job met status why = ((c : Cause) × Evid h w i job c × IsCauseAmong c met × Explains c status why) ⊎ (NotForced h job × Explains Unforced status why)
+abbrev pub EndedBy : History → WorldCore → List Event → ℕ → Job → List Cause → Status → Why → Type 0
+EndedBy h w changing i job met status why = ((c : Cause) × Evid h w changing i job c × IsCauseAmong c met × Explains c status why) ⊎ (NotForced h job × Explains Unforced status why)
 
 -- each cause that a job met that is under way is so, and an ending is by one of them
-abbrev pub Judged : History → WorldCore → ℕ → Job → List Cause → List (List Frame) → JobStage → Type 0
-Judged h w i job met pages Idle = AllByRecursion (Evid h w i job) met
-Judged h w i job met pages (Running g) = AllByRecursion (Evid h w i job) met
-Judged h w i job met pages Done = Unit {0}
-Judged h w i job met pages (Ended status why) = EndedBy h w i job met status why
+abbrev pub Judged : History → WorldCore → List Event → ℕ → Job → List Cause → List (List Frame) → JobStage → Type 0
+Judged h w changing i job met pages Idle = AllByRecursion (Evid h w changing i job) met
+Judged h w changing i job met pages (Running g) = AllByRecursion (Evid h w changing i job) met
+Judged h w changing i job met pages Done = Unit {0}
+Judged h w changing i job met pages (Ended status why) = EndedBy h w changing i job met status why
 
-abbrev pub JudgedAt : History → WorldCore → ℕ → Job → SystemState → Type 0
-JudgedAt h w i job s = Judged h w i job (s.job i).session.met (s.job i).client.pages (s.job i).client.stage
+abbrev pub JudgedAt : History → WorldCore → List Event → ℕ → Job → SystemState → Type 0
+JudgedAt h w changing i job s = Judged h w changing i job (s.job i).session.met (s.job i).client.pages (s.job i).client.stage
 
-pub among_met : (h : History) (w : WorldCore) (i : ℕ) (job : Job) (c : Cause) (met : List Cause) → AllByRecursion (Evid h w i job) met → IsCauseAmong c met → Evid h w i job c
-among_met h w i job c [] a m = absurd m
-among_met h w i job c (d ∷ met) a (inl same) = subst (Evid h w i job) (sym same) a.0
-among_met h w i job c (d ∷ met) a (inr m) = among_met h w i job c met a.1 m
+pub among_met : (h : History) (w : WorldCore) (changing : List Event) (i : ℕ) (job : Job) (c : Cause) (met : List Cause) → AllByRecursion (Evid h w changing i job) met → IsCauseAmong c met → Evid h w changing i job c
+among_met h w changing i job c [] a m = absurd m
+among_met h w changing i job c (d ∷ met) a (inl same) = subst (Evid h w changing i job) (sym same) a.0
+among_met h w changing i job c (d ∷ met) a (inr m) = among_met h w changing i job c met a.1 m
 
-pick : (h : History) (w : WorldCore) (i : ℕ) (job : Job) (status : Status) (why : Why) (met : List Cause) → AllByRecursion (Evid h w i job) met → IsExplained status why met → (c : Cause) × Evid h w i job c × IsCauseAmong c met × Explains c status why
-pick h w i job status why [] a e = absurd e
-pick h w i job status why (c ∷ met) a (inl e) = (c, a.0, inl refl, e)
-pick h w i job status why (c ∷ met) a (inr e) = let r = pick h w i job status why met a.1 e in (r.0, r.1, inr r.2, r.3)
+pick : (h : History) (w : WorldCore) (changing : List Event) (i : ℕ) (job : Job) (status : Status) (why : Why) (met : List Cause) → AllByRecursion (Evid h w changing i job) met → IsExplained status why met → (c : Cause) × Evid h w changing i job c × IsCauseAmong c met × Explains c status why
+pick h w changing i job status why [] a e = absurd e
+pick h w changing i job status why (c ∷ met) a (inl e) = (c, a.0, inl refl, e)
+pick h w changing i job status why (c ∷ met) a (inr e) = let r = pick h w changing i job status why met a.1 e in (r.0, r.1, inr r.2, r.3)
 
 forced_same : (h : History) (w : WorldCore) (i : ℕ) (job : Job) (s : SystemState) → Here h i job s → abstract_in_force (make_for s i) (s.job i).session.job.settings ≡ None → NotForced h job
 forced_same h w i job s e none =
@@ -326,33 +327,33 @@ forced_same h w i job s e none =
     let make : make_for s i ≡ make_of known.sources (slice_get h.devices (place_named (infos_of h) job.device)) = known.is ∙ ap (λ (d : ℕ). make_of known.sources (slice_get h.devices d)) place in
     (known.sources, subst (λ (k : Make). abstract_in_force k (map requested_setting job.settings.items) ≡ None) make (ap (λ (j : RuledJob). abstract_in_force (make_for s i) j.settings) (sym e.is) ∙ none))
 
-caused : (h : History) (w : WorldCore) (i : ℕ) (job : Job) (s : SystemState) (status : Status) (why : Why) → Here h i job s → AllByRecursion (Evid h w i job) (s.job i).session.met → IsCaused (make_for s i) (s.job i).session status why → EndedBy h w i job (s.job i).session.met status why
-caused h w i job s status why e a (inl c) = inl (pick h w i job status why (s.job i).session.met a c)
-caused h w i job s status why e a (inr c) = inr (forced_same h w i job s e c.0, c.1)
+caused : (h : History) (w : WorldCore) (changing : List Event) (i : ℕ) (job : Job) (s : SystemState) (status : Status) (why : Why) → Here h i job s → AllByRecursion (Evid h w changing i job) (s.job i).session.met → IsCaused (make_for s i) (s.job i).session status why → EndedBy h w changing i job (s.job i).session.met status why
+caused h w changing i job s status why e a (inl c) = inl (pick h w changing i job status why (s.job i).session.met a c)
+caused h w changing i job s status why e a (inr c) = inr (forced_same h w i job s e c.0, c.1)
 
 -- all of its causes are so
-judge_all : (h : History) (w : WorldCore) (i : ℕ) (job : Job) (s : SystemState) (stage : JobStage) → (s.job i).client.stage ≡ stage → Here h i job s → AllByRecursion (Evid h w i job) (s.job i).session.met → Judged h w i job (s.job i).session.met (s.job i).client.pages stage
-judge_all h w i job s Idle at e a = a
-judge_all h w i job s (Running g) at e a = a
-judge_all h w i job s Done at e a = tt
-judge_all h w i job s (Ended status why) at e a = caused h w i job s status why e a (subst (λ (st : JobStage). StageInvariant i (make_for s i) (s.job i) (device_for s i) st) at (e.sound.exchanges i))
+judge_all : (h : History) (w : WorldCore) (changing : List Event) (i : ℕ) (job : Job) (s : SystemState) (stage : JobStage) → (s.job i).client.stage ≡ stage → Here h i job s → AllByRecursion (Evid h w changing i job) (s.job i).session.met → Judged h w changing i job (s.job i).session.met (s.job i).client.pages stage
+judge_all h w changing i job s Idle at e a = a
+judge_all h w changing i job s (Running g) at e a = a
+judge_all h w changing i job s Done at e a = tt
+judge_all h w changing i job s (Ended status why) at e a = caused h w changing i job s status why e a (subst (λ (st : JobStage). StageInvariant i (make_for s i) (s.job i) (device_for s i) st) at (e.sound.exchanges i))
 
-met_then : CausesAreGrounded → (h : History) (w : WorldCore) (i : ℕ) (job : Job) (s : SystemState) (x : Action) → Here h i job s → IsUnderWay (s.job i).client.stage → own_of h i x → StepSo h w job s (By i x) → IsEnabled s (By i x) → AllByRecursion (Evid h w i job) (s.job i).session.met → AllByRecursion (Evid h w i job) ((after_transition s (By i x)).job i).session.met
-met_then so h w i job s x e on of step legal a =
+met_then : CausesAreGrounded → (h : History) (w : WorldCore) (changing : List Event) (i : ℕ) (job : Job) (s : SystemState) (x : Action) → Here h i job s → Fine (history_up_to h changing) job s → IsUnderWay (s.job i).client.stage → own_of h i x → StepSo h w job s (By i x) → IsEnabled s (By i x) → AllByRecursion (Evid h w changing i job) (s.job i).session.met → AllByRecursion (Evid h w changing i job) ((after_transition s (By i x)).job i).session.met
+met_then so h w changing i job s x e f on of step legal a =
     let causes = causes_by i (make_for s i) (listed_devices s) (s.job i) (device_for s i) x in
-    let fresh = all_each (Comes i (make_for s i) (s.job i) (device_for s i) x) (Evid h w i job) causes (evid h w i job s x e on of step legal) (all_come so i (make_for s i) (listed_devices s) (s.job i) (device_for s i) x legal) in
-    subst (AllByRecursion (Evid h w i job)) (sym (ap (λ (p : JobState). p.session.met) (own_party s i x) ∙ met_by i (make_for s i) (listed_devices s) (s.job i) (device_for s i) x)) (all_then (Evid h w i job) causes (s.job i).session.met fresh a)
+    let fresh = all_each (Comes i (make_for s i) (s.job i) (device_for s i) x) (Evid h w changing i job) causes (evid h w changing i job s x e f on of step legal) (all_come so i (make_for s i) (listed_devices s) (s.job i) (device_for s i) x legal) in
+    subst (AllByRecursion (Evid h w changing i job)) (sym (ap (λ (p : JobState). p.session.met) (own_party s i x) ∙ met_by i (make_for s i) (listed_devices s) (s.job i) (device_for s i) x)) (all_then (Evid h w changing i job) causes (s.job i).session.met fresh a)
 
 -- what a job that is over met changes nothing
-more_ended : (h : History) (w : WorldCore) (i : ℕ) (job : Job) (old new : List Cause) (status : Status) (why : Why) → ((c : Cause) → IsCauseAmong c old → IsCauseAmong c new) → EndedBy h w i job old status why → EndedBy h w i job new status why
-more_ended h w i job old new status why grow (inl (c, e, m, x)) = inl (c, e, grow c m, x)
-more_ended h w i job old new status why grow (inr n) = inr n
+more_ended : (h : History) (w : WorldCore) (changing : List Event) (i : ℕ) (job : Job) (old new : List Cause) (status : Status) (why : Why) → ((c : Cause) → IsCauseAmong c old → IsCauseAmong c new) → EndedBy h w changing i job old status why → EndedBy h w changing i job new status why
+more_ended h w changing i job old new status why grow (inl (c, e, m, x)) = inl (c, e, grow c m, x)
+more_ended h w changing i job old new status why grow (inr n) = inr n
 
-judged_over : (h : History) (w : WorldCore) (i : ℕ) (job : Job) (old new : List Cause) (pages : List (List Frame)) (stage : JobStage) → (IsUnderWay stage → ⊥) → ((c : Cause) → IsCauseAmong c old → IsCauseAmong c new) → Judged h w i job old pages stage → Judged h w i job new pages stage
-judged_over h w i job old new pages Idle off grow j = absurd (off tt)
-judged_over h w i job old new pages (Running g) off grow j = absurd (off tt)
-judged_over h w i job old new pages Done off grow j = tt
-judged_over h w i job old new pages (Ended status why) off grow j = more_ended h w i job old new status why grow j
+judged_over : (h : History) (w : WorldCore) (changing : List Event) (i : ℕ) (job : Job) (old new : List Cause) (pages : List (List Frame)) (stage : JobStage) → (IsUnderWay stage → ⊥) → ((c : Cause) → IsCauseAmong c old → IsCauseAmong c new) → Judged h w changing i job old pages stage → Judged h w changing i job new pages stage
+judged_over h w changing i job old new pages Idle off grow j = absurd (off tt)
+judged_over h w changing i job old new pages (Running g) off grow j = absurd (off tt)
+judged_over h w changing i job old new pages Done off grow j = tt
+judged_over h w changing i job old new pages (Ended status why) off grow j = more_ended h w changing i job old new status why grow j
 
 met_more : (c : Cause) (xs old : List Cause) → IsCauseAmong c old → IsCauseAmong c (xs ++ old)
 met_more c [] old m = m
@@ -363,35 +364,35 @@ grows s i x c m =
     let causes = causes_by i (make_for s i) (listed_devices s) (s.job i) (device_for s i) x in
     subst (IsCauseAmong c) (sym (ap (λ (p : JobState). p.session.met) (own_party s i x) ∙ met_by i (make_for s i) (listed_devices s) (s.job i) (device_for s i) x)) (met_more c causes (s.job i).session.met m)
 
-own_step : Laws → (h : History) (w : WorldCore) (i : ℕ) (job : Job) (s : SystemState) (x : Action) (stage : JobStage) → (s.job i).client.stage ≡ stage → Here h i job s → Here h i job (after_transition s (By i x)) → own_of h i x → StepSo h w job s (By i x) → IsEnabled s (By i x) → JudgedAt h w i job s → JudgedAt h w i job (after_transition s (By i x))
-own_step laws h w i job s x Idle at e f of step legal j =
-    judge_all h w i job (after_transition s (By i x)) ((after_transition s (By i x)).job i).client.stage refl f
-    (met_then laws.grounds h w i job s x e (subst IsUnderWay (sym at) tt) of step legal (subst (Judged h w i job (s.job i).session.met (s.job i).client.pages) at j))
-own_step laws h w i job s x (Running g) at e f of step legal j =
-    judge_all h w i job (after_transition s (By i x)) ((after_transition s (By i x)).job i).client.stage refl f
-    (met_then laws.grounds h w i job s x e (subst IsUnderWay (sym at) tt) of step legal (subst (Judged h w i job (s.job i).session.met (s.job i).client.pages) at j))
-own_step laws h w i job s x Done at e f of step legal j =
+own_step : Laws → (h : History) (w : WorldCore) (changing : List Event) (i : ℕ) (job : Job) (s : SystemState) (x : Action) (stage : JobStage) → (s.job i).client.stage ≡ stage → Here h i job s → Fine (history_up_to h changing) job s → Here h i job (after_transition s (By i x)) → own_of h i x → StepSo h w job s (By i x) → IsEnabled s (By i x) → JudgedAt h w changing i job s → JudgedAt h w changing i job (after_transition s (By i x))
+own_step laws h w changing i job s x Idle at e f now of step legal j =
+    judge_all h w changing i job (after_transition s (By i x)) ((after_transition s (By i x)).job i).client.stage refl now
+    (met_then laws.grounds h w changing i job s x e f (subst IsUnderWay (sym at) tt) of step legal (subst (Judged h w changing i job (s.job i).session.met (s.job i).client.pages) at j))
+own_step laws h w changing i job s x (Running g) at e f now of step legal j =
+    judge_all h w changing i job (after_transition s (By i x)) ((after_transition s (By i x)).job i).client.stage refl now
+    (met_then laws.grounds h w changing i job s x e f (subst IsUnderWay (sym at) tt) of step legal (subst (Judged h w changing i job (s.job i).session.met (s.job i).client.pages) at j))
+own_step laws h w changing i job s x Done at e f now of step legal j =
     let off : IsUnderWay (s.job i).client.stage → ⊥ = λ on. subst IsUnderWay at on in
-    subst (λ (m : ClientView). Judged h w i job ((after_transition s (By i x)).job i).session.met m.pages m.stage) (sym (laws.last s i x legal off))
-    (judged_over h w i job (s.job i).session.met ((after_transition s (By i x)).job i).session.met (s.job i).client.pages (s.job i).client.stage off (grows s i x) j)
-own_step laws h w i job s x (Ended status why) at e f of step legal j =
+    subst (λ (m : ClientView). Judged h w changing i job ((after_transition s (By i x)).job i).session.met m.pages m.stage) (sym (laws.last s i x legal off))
+    (judged_over h w changing i job (s.job i).session.met ((after_transition s (By i x)).job i).session.met (s.job i).client.pages (s.job i).client.stage off (grows s i x) j)
+own_step laws h w changing i job s x (Ended status why) at e f now of step legal j =
     let off : IsUnderWay (s.job i).client.stage → ⊥ = λ on. subst IsUnderWay at on in
-    subst (λ (m : ClientView). Judged h w i job ((after_transition s (By i x)).job i).session.met m.pages m.stage) (sym (laws.last s i x legal off))
-    (judged_over h w i job (s.job i).session.met ((after_transition s (By i x)).job i).session.met (s.job i).client.pages (s.job i).client.stage off (grows s i x) j)
+    subst (λ (m : ClientView). Judged h w changing i job ((after_transition s (By i x)).job i).session.met m.pages m.stage) (sym (laws.last s i x legal off))
+    (judged_over h w changing i job (s.job i).session.met ((after_transition s (By i x)).job i).session.met (s.job i).client.pages (s.job i).client.stage off (grows s i x) j)
 
-abbrev judged_party : History → WorldCore → ℕ → Job → JobState → Type 0
-judged_party h w i job p = Judged h w i job p.session.met p.client.pages p.client.stage
+abbrev judged_party : History → WorldCore → List Event → ℕ → Job → JobState → Type 0
+judged_party h w changing i job p = Judged h w changing i job p.session.met p.client.pages p.client.stage
 
-by_step : Laws → (h : History) (w : WorldCore) (i : ℕ) (job : Job) (s : SystemState) (j : ℕ) (x : Action) (b : Bool) → eqb i j ≡ b → Here h i job s → Here h i job (after_transition s (By j x)) → IsOfOne h (By j x) → StepSo h w job s (By j x) → IsEnabled s (By j x) → JudgedAt h w i job s → JudgedAt h w i job (after_transition s (By j x))
-by_step laws h w i job s j x false e here now of step legal judged = subst (judged_party h w i job) (sym (party_stays s j x i e)) judged
-by_step laws h w i job s j x true e here now of step legal judged =
-    subst (λ (n : ℕ). Here h i job (after_transition s (By n x)) → IsOfOne h (By n x) → StepSo h w job s (By n x) → IsEnabled s (By n x) → JudgedAt h w i job (after_transition s (By n x))) (eqb-true i j e)
-    (λ f o r l. own_step laws h w i job s x (s.job i).client.stage refl here f o r l judged) now of step legal
+by_step : Laws → (h : History) (w : WorldCore) (changing : List Event) (i : ℕ) (job : Job) (s : SystemState) (j : ℕ) (x : Action) (b : Bool) → eqb i j ≡ b → Here h i job s → Fine (history_up_to h changing) job s → Here h i job (after_transition s (By j x)) → IsOfOne h (By j x) → StepSo h w job s (By j x) → IsEnabled s (By j x) → JudgedAt h w changing i job s → JudgedAt h w changing i job (after_transition s (By j x))
+by_step laws h w changing i job s j x false e here f now of step legal judged = subst (judged_party h w changing i job) (sym (party_stays s j x i e)) judged
+by_step laws h w changing i job s j x true e here f now of step legal judged =
+    subst (λ (n : ℕ). Here h i job (after_transition s (By n x)) → IsOfOne h (By n x) → StepSo h w job s (By n x) → IsEnabled s (By n x) → JudgedAt h w changing i job (after_transition s (By n x))) (eqb-true i j e)
+    (λ behind o r l. own_step laws h w changing i job s x (s.job i).client.stage refl here f behind o r l judged) now of step legal
 
-one_step : Laws → (h : History) (w : WorldCore) (i : ℕ) (job : Job) (s : SystemState) (x : Transition) → Here h i job s → Here h i job (after_transition s x) → IsOfOne h x → StepSo h w job s x → IsEnabled s x → JudgedAt h w i job s → JudgedAt h w i job (after_transition s x)
-one_step laws h w i job s (By j x) here now of step legal judged = by_step laws h w i job s j x (eqb i j) refl here now of step legal judged
-one_step laws h w i job s (Loads d page) here now of step legal judged = judged
-one_step laws h w i job s (Unplugs d) here now of step legal judged = judged
+one_step : Laws → (h : History) (w : WorldCore) (changing : List Event) (i : ℕ) (job : Job) (s : SystemState) (x : Transition) → Here h i job s → Fine (history_up_to h changing) job s → Here h i job (after_transition s x) → IsOfOne h x → StepSo h w job s x → IsEnabled s x → JudgedAt h w changing i job s → JudgedAt h w changing i job (after_transition s x)
+one_step laws h w changing i job s (By j x) here f now of step legal judged = by_step laws h w changing i job s j x (eqb i j) refl here f now of step legal judged
+one_step laws h w changing i job s (Loads d page) here f now of step legal judged = judged
+one_step laws h w changing i job s (Unplugs d) here f now of step legal judged = judged
 
 asks_by : (s : SystemState) (j : ℕ) (x : Action) (i : ℕ) (b : Bool) → eqb i j ≡ b → AsksGuarded (s.job i) → AsksGuarded ((after_transition s (By j x)).job i)
 asks_by s j x i false e h = subst AsksGuarded (sym (party_stays s j x i e)) h
@@ -413,8 +414,9 @@ here_then laws h w i job s x e of legal = record {
   sound = laws.sound s (x ∷ []) e.sound (legal, tt);
 }
 
-pub all_judged : Laws → (h : History) (w : WorldCore) (i : ℕ) (job : Job) (xs : List Transition) (s : SystemState) → Here h i job s → AllByRecursion (IsOfOne h) xs → AllAlong (StepSo h w job) s xs → IsHistory s xs → JudgedAt h w i job s → JudgedAt h w i job (after_all s xs)
-all_judged laws h w i job [] s e of steps legal j = j
-all_judged laws h w i job (x ∷ xs) s e of steps legal j =
+pub all_judged : Laws → (h : History) (w : WorldCore) (changing : List Event) (i : ℕ) (job : Job) (xs : List Transition) (s : SystemState) → Here h i job s → Fine (history_up_to h changing) job s → AllByRecursion (IsOfOne h) xs → AllByRecursion (IsOfOne (history_up_to h changing)) xs → AllAlong (StepSo h w job) s xs → IsHistory s xs → JudgedAt h w changing i job s → JudgedAt h w changing i job (after_all s xs)
+all_judged laws h w changing i job [] s e f of those steps legal j = j
+all_judged laws h w changing i job (x ∷ xs) s e f of those steps legal j =
     let now = here_then laws h w i job s x e of.0 legal.0 in
-    all_judged laws h w i job xs (after_transition s x) now of.1 steps.1 legal.1 (one_step laws h w i job s x e now of.0 steps.0 legal.0 j)
+    let fine = fine_then laws.legal (history_up_to h changing) job s x e.sound legal.0 those.0 f in
+    all_judged laws h w changing i job xs (after_transition s x) now fine of.1 those.1 steps.1 legal.1 (one_step laws h w changing i job s x e f now of.0 steps.0 legal.0 j)

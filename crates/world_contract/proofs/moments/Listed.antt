@@ -42,6 +42,7 @@ use Rattle.world_contract.proofs.Sources.{have_sources, sources_of}
 use Rattle.world_contract.specs.Laws.{Below}
 use Rattle.world_contract.proofs.Begun.{job_same, party_stays}
 use Rattle.world_contract.specs.Sessions.{Asked, IsAtList}
+use Rattle.world_contract.proofs.Changing.{changing_in}
 use Rattle.world_contract.proofs.Ended.{comes_there}
 use Rattle.world_contract.proofs.Evident.{IsAnswer}
 use Rattle.world_contract.proofs.Jobs.{IsJob}
@@ -229,7 +230,7 @@ list_kept below h w i job p reports j task is =
     let k = comes_there below h w job j.led in
     let t = at_first h w job j.led in
     let u = k.ghost_then in
-    let fixed = all_fixed source_state k.kept t k.steps u k.comes in
+    let fixed = all_fixed source_state (changing_in h w j.led) t k.steps u k.comes in
     let promise = subst (IsOutcome u i) is (below.outcomes u w i p k.stands j.endpoint_at) in
     let own_job : u.jobs i ≡ job = ap (λ (f : Fixed). f.3 i) fixed ∙ get_or_from_slice_get h.jobs i job job j.job_at in
     let listed : AreListed u i reports.devices = promise.devices (ap (λ (x : Job). x.task) own_job ∙ task) in

@@ -31,7 +31,7 @@ use Rattle.scan_world.specs.Worlds.{Runs, WorldCore}
 use Rattle.world_refines.specs.GhostEvents.{GhostCan, GhostHappens}
 use Rattle.world_refines.specs.GhostStates.{Ghost}
 use Rattle.world_refines.specs.FailedSources.{AllAlong, CutIn, FailedIn, FailsInSome, FailsSo, HasFailed, InEvent}
-use Rattle.world_refines.specs.MainTheorem.{AllIsKept, AreTrueLoads, EventsFollow, GhostComes, GhostComesAll, IsFittingLoad}
+use Rattle.world_refines.specs.MainTheorem.{AllIsKept, AreFittingLoads, AreTrueLoads, EventsFollow, GhostComes, GhostComesAll, IsFittingLoad}
 use Rattle.world_refines.specs.WorldRefinement.{WorldRefines}
 use Rattle.world_refines.proofs.frames.Seeing.{data_decides}
 use Rattle.world_refines.proofs.frames.TurnEvents.{turn_decides}
@@ -47,11 +47,10 @@ use Rattle.world_contract.specs.Calls.{HadUnsaidReply}
 use Rattle.world_contract.specs.Histories.{History, LedTo, Moment, history_up_to}
 use Rattle.world_contract.specs.Sessions.{CameAsItRan, CanAt, Happened, SessionAt}
 use Rattle.world_contract.proofs.Led.{led_then}
-use Rattle.world_contract.proofs.Lists.{In}
 use Rattle.world_contract.proofs.Rows.{SendsOrLoses, WasStarved}
 use Rattle.world_contract.proofs.Events.{answers_event, breaks_event, chokes_event, fault_event, image_event, loses_event, named_event, short_event}
 use Rattle.world_contract.proofs.Scanned.{infos_of}
-use Rattle.world_contract.proofs.Taken.{ArePart, FitsTaken, OnRun, fits_or_refused, refused_same}
+use Rattle.world_contract.proofs.Changing.{LoadChanges, changes_or_same, changing_of, with_changing}
 use Rattle.world_contract.proofs.Traced.{AreOf, StepOf, comes_of}
 use Rattle.world_contract.proofs.moments.Entries.{own_party, past_end}
 use Rattle.world_contract.proofs.moments.Ran.{WereOn, came_there, runs_there, were_on}
@@ -379,63 +378,59 @@ came_or_none : {A B C : Type 0} → (A → B) → A ⊎ C → B ⊎ C
 came_or_none f (inl a) = inl (f a)
 came_or_none f (inr c) = inr c
 
-pub in_part : (kept es : List Event) (e : Event) → ArePart kept es → In e kept → In e es
-in_part kept [] e none among = subst (In e) none among
-in_part kept (x ∷ es) e (inl (more, is, part)) among = elim (subst (In e) is among) [
-  | inl same ↦ inl same
-  | inr later ↦ inr (in_part more es e part later)
-]
-in_part kept (x ∷ es) e (inr part) among = inr (in_part kept es e part among)
-
--- of all events those that come to the rules: all but the loads of pages that the daemon does not take and of which nothing is known
+-- the steps of these events, with their moments
 pub record Comes (h : History) (w : WorldCore) (other : Job) (es : List Event) (t : Ghost) : Type 0 where
-  pub kept : List Event
-  pub part : ArePart kept es
   pub steps : List Transition
   pub ghost_then : Ghost
-  pub comes : GhostComesAll source_state kept t steps ghost_then
+  pub comes : GhostComesAll source_state es t steps ghost_then
   pub legal : IsHistory t.system steps
   pub rules_are : ghost_then.system ≡ after_all t.system steps
   pub stands : WorldRefines ghost_then w
   pub answered : AllAlong (AnsweredSo h w other) t.system steps
   pub happened : AllAlong (HappenedSo h w other) t.system steps
 
-skipped : (h : History) (w : WorldCore) (other : Job) (e : Event) (es : List Event) (t : Ghost) → Comes h w other es t → Comes h w other (e ∷ es) t
-skipped h w other e es t c = record { kept = c.kept; part = inr c.part; steps = c.steps; ghost_then = c.ghost_then; comes = c.comes; legal = c.legal; rules_are = c.rules_are; stands = c.stands; answered = c.answered; happened = c.happened }
+-- one event, and then these
+one_comes_then : EventsFollow → HistoriesKeepInvariant → OutcomesLast → AllIsKept → (h : History) (w : WorldCore) (other : Job) (make : ℕ → Make) (e : Event) (m : Moment h w e) (more : List Event) (t : Ghost) → AreTrueLoads source_state (e ∷ []) → IsFittingLoad source_state (infos_of h) make e → WorldRefines t m.before → IsFixed h other t → t.system.make ≡ make →
+    ((g : Ghost) → WorldRefines g m.behind → IsFixed h other g → g.system.make ≡ make → Comes h w other more g) → Comes h w other (e ∷ more) t
+one_comes_then follow keeps last all h w other make e m more t loads fit stands fixed made next =
+    let u = m.before in
+    let v = m.behind in
+    let infos : t.infos ≡ infos_of h = ap (λ (f : Fixed). f.1) fixed in
+    let fit_there : IsFittingLoad source_state t.infos t.system.make e =
+    subst (λ (xs : List DeviceInfo). IsFittingLoad source_state xs t.system.make e) (sym infos) (subst (λ (k : ℕ → Make). IsFittingLoad source_state (infos_of h) k e) (sym made) fit) in
+    let r = follow source_state (e ∷ []) t u v stands loads (fit_there, tt) m.leads in
+    let g = r.ghost_then in
+    let c = one_comes e t r.steps g r.comes in
+    let same : fixed_of g ≡ fixed_of t = stays_fixed source_state e t r.steps g c in
+    let make_same : g.system.make ≡ t.system.make = ap (λ (s : SystemState). s.make) r.rules_are ∙ makes_stay t.system r.steps in
+    let later = next g r.stands (same ∙ fixed) (make_same ∙ made) in
+    let of = comes_of e t r.steps g c in
+    let came = came_or_none (λ can. came_event all (history_up_to h m.front) other t u v e m.led_before m.leads stands can) (event_can e t u r.steps g stands c) in
+    let fails = along_each (FailsInSome source_state (e ∷ []) t u v) (FailsSo (FailedHere h w other e m)) (fails_more (HasFailed source_state (e ∷ []) t u v) (FailedHere h w other e m) (failed_here h w other e m t fixed)) t.system r.steps r.failures in
+    record {
+      steps = r.steps ++ later.steps;
+      ghost_then = later.ghost_then;
+      comes = (r.steps, later.steps, g, refl, c, later.comes);
+      legal = history_then t.system r.steps later.steps r.legal (subst (λ (s : SystemState). IsHistory s later.steps) r.rules_are later.legal);
+      rules_are = later.rules_are ∙ (ap (λ (s : SystemState). after_all s later.steps) r.rules_are ∙ sym (after_then t.system r.steps later.steps));
+      stands = later.stands;
+      answered = along_then (AnsweredSo h w other) t.system r.steps later.steps (event_answers keeps h w other e m t g stands fixed r.stands r.steps came r.rules_are of fails r.legal) (subst (λ (s : SystemState). AllAlong (AnsweredSo h w other) s later.steps) r.rules_are later.answered);
+      happened = along_then (HappenedSo h w other) t.system r.steps later.steps (event_happened last h w other e m t r.steps r.legal of fails (event_sends e t g u v r.steps stands r.stands c) came) (subst (λ (s : SystemState). AllAlong (HappenedSo h w other) s later.steps) r.rules_are later.happened);
+    }
 
-pub come : EventsFollow → HistoriesKeepInvariant → OutcomesLast → AllIsKept → (h : History) (w : WorldCore) (other : Job) (make : ℕ → Make) (Is : WorldCore → Type 0) → ((e : Event) (m : Moment h w e) → Is m.before → FitsTaken (infos_of h) make e m.before) → (es seen : List Event) (t : Ghost) (u : WorldCore) → h.events ≡ seen ++ es → LedTo (history_up_to h seen) u → AreTrueLoads source_state es → (run : Runs source_state es u w) → OnRun Is es u w run → WorldRefines t u → IsFixed h other t → t.system.make ≡ make → Comes h w other es t
-come follow keeps last all h w other make Is fits [] seen t u split led loads run ran stands fixed made = record { kept = []; part = refl; steps = []; ghost_then = t; comes = (refl, refl); legal = tt; rules_are = refl; stands = subst (WorldRefines t) (sym run) stands; answered = tt; happened = tt }
-come follow keeps last all h w other make Is fits (e ∷ es) seen t u split led loads (v, leads, rest) (is, ran) stands fixed made =
+-- where it changed nothing, these alone
+changing_comes : EventsFollow → HistoriesKeepInvariant → OutcomesLast → AllIsKept → (h : History) (w : WorldCore) (other : Job) (make : ℕ → Make) (e : Event) (m : Moment h w e) (more : List Event) (t : Ghost) (c : LoadChanges e m.before m.behind ⊎ (m.behind ≡ m.before)) → AreTrueLoads source_state (e ∷ []) → AreFittingLoads source_state (infos_of h) make (with_changing c e more) →
+    WorldRefines t m.before → IsFixed h other t → t.system.make ≡ make → ((g : Ghost) → AreFittingLoads source_state (infos_of h) make more → WorldRefines g m.behind → IsFixed h other g → g.system.make ≡ make → Comes h w other more g) → Comes h w other (with_changing c e more) t
+changing_comes follow keeps last all h w other make e m more t (inl changes) loads fits stands fixed made next =
+    one_comes_then follow keeps last all h w other make e m more t loads fits.0 stands fixed made (λ g. next g fits.1)
+changing_comes follow keeps last all h w other make e m more t (inr same) loads fits stands fixed made next = next t fits (subst (WorldRefines t) (sym same) stands) fixed made
+
+-- those of a run that change the world come to the rules
+pub come : EventsFollow → HistoriesKeepInvariant → OutcomesLast → AllIsKept → (h : History) (w : WorldCore) (other : Job) (make : ℕ → Make) (es seen : List Event) (t : Ghost) (u : WorldCore) → h.events ≡ seen ++ es → LedTo (history_up_to h seen) u → AreTrueLoads source_state es → (run : Runs source_state es u w) → AreFittingLoads source_state (infos_of h) make (changing_of es u w run) → WorldRefines t u → IsFixed h other t → t.system.make ≡ make → Comes h w other (changing_of es u w run) t
+come follow keeps last all h w other make [] seen t u split led loads run fits stands fixed made = record { steps = []; ghost_then = t; comes = (refl, refl); legal = tt; rules_are = refl; stands = subst (WorldRefines t) (sym run) stands; answered = tt; happened = tt }
+come follow keeps last all h w other make (e ∷ es) seen t u split led loads (v, leads, rest) fits stands fixed made =
     let m : Moment h w e = record { front = seen; back = es; split = split; before = u; led_before = led; behind = v; leads = (v, leads, refl); rest = rest } in
     let on : LedTo (history_up_to h (seen ++ e ∷ [])) v = led_then (history_up_to h seen) (e ∷ []) u v led (loads.0, tt) (v, leads, refl) in
     let further : h.events ≡ (seen ++ e ∷ []) ++ es = split ∙ sym (append_assoc seen (e ∷ []) es) in
-    elim (fits_or_refused (infos_of h) make e u (fits e m is)) [
-      | inl fit ↦
-          let infos : t.infos ≡ infos_of h = ap (λ (f : Fixed). f.1) fixed in
-          let fit_there : IsFittingLoad source_state t.infos t.system.make e =
-          subst (λ (xs : List DeviceInfo). IsFittingLoad source_state xs t.system.make e) (sym infos) (subst (λ (k : ℕ → Make). IsFittingLoad source_state (infos_of h) k e) (sym made) fit) in
-          let r = follow source_state (e ∷ []) t u v stands (loads.0, tt) (fit_there, tt) (v, leads, refl) in
-          let g = r.ghost_then in
-          let c = one_comes e t r.steps g r.comes in
-          let same : fixed_of g ≡ fixed_of t = stays_fixed source_state e t r.steps g c in
-          let make_same : g.system.make ≡ t.system.make = ap (λ (s : SystemState). s.make) r.rules_are ∙ makes_stay t.system r.steps in
-          let later = come follow keeps last all h w other make Is fits es (seen ++ e ∷ []) g v further on loads.1 rest ran r.stands (same ∙ fixed) (make_same ∙ made) in
-          let of = comes_of e t r.steps g c in
-          let came = came_or_none (λ can. came_event all (history_up_to h seen) other t u v e led (v, leads, refl) stands can) (event_can e t u r.steps g stands c) in
-          let fails = along_each (FailsInSome source_state (e ∷ []) t u v) (FailsSo (FailedHere h w other e m)) (fails_more (HasFailed source_state (e ∷ []) t u v) (FailedHere h w other e m) (failed_here h w other e m t fixed)) t.system r.steps r.failures in
-          record {
-            kept = e ∷ later.kept;
-            part = inl (later.kept, refl, later.part);
-            steps = r.steps ++ later.steps;
-            ghost_then = later.ghost_then;
-            comes = (r.steps, later.steps, g, refl, c, later.comes);
-            legal = history_then t.system r.steps later.steps r.legal (subst (λ (s : SystemState). IsHistory s later.steps) r.rules_are later.legal);
-            rules_are = later.rules_are ∙ (ap (λ (s : SystemState). after_all s later.steps) r.rules_are ∙ sym (after_then t.system r.steps later.steps));
-            stands = later.stands;
-            answered = along_then (AnsweredSo h w other) t.system r.steps later.steps (event_answers keeps h w other e m t g stands fixed r.stands r.steps came r.rules_are of fails r.legal) (subst (λ (s : SystemState). AllAlong (AnsweredSo h w other) s later.steps) r.rules_are later.answered);
-            happened = along_then (HappenedSo h w other) t.system r.steps later.steps (event_happened last h w other e m t r.steps r.legal of fails (event_sends e t g u v r.steps stands r.stands c) came) (subst (λ (s : SystemState). AllAlong (HappenedSo h w other) s later.steps) r.rules_are later.happened);
-          }
-      | inr refused ↦
-          let still : WorldRefines t v = subst (WorldRefines t) (sym (refused_same e u v refused leads)) stands in
-          skipped h w other e es t (come follow keeps last all h w other make Is fits es (seen ++ e ∷ []) t v further on loads.1 rest ran still fixed made)
-    ]
+    changing_comes follow keeps last all h w other make e m (changing_of es v w rest) t (changes_or_same e u v leads) (loads.0, tt) fits stands fixed made
+    (λ g fit. come follow keeps last all h w other make es (seen ++ e ∷ []) g v further on loads.1 rest fit)

@@ -1,6 +1,6 @@
 -- An event that can happen to a job that runs changes the world, and a job that is under way by the model runs.
-use Rattle.std.specs.Prelude.{◌<◌, ◌≢◌, cond, eqb, length, map, slice_get}
-use Rattle.std.proofs.Common.{◌≡◌, ◌∙◌, ℕ, zero, suc, arith, List, [], ◌∷◌, Bool, true, false, Option, Some, None, refl, sym, ap, subst, eqb-true}
+use Rattle.std.specs.Prelude.{◌<◌, eqb, map, slice_get}
+use Rattle.std.proofs.Common.{◌≡◌, ◌∙◌, ℕ, zero, suc, arith, List, [], ◌∷◌, Bool, true, false, Some, refl, sym, ap, subst, eqb-true}
 use Rattle.page_picture.specs.Shows.{Frame}
 use Rattle.page_picture.specs.SourceView.{source_state}
 use Rattle.sane_fixed.specs.declared.device_info.DeviceInfo.{DeviceInfo}
@@ -18,9 +18,8 @@ use Rattle.system_model.specs.Client as model
 use Rattle.system_model.specs.Client.{ClientView, JobStage, Idle, Running, Done, Ended}
 use Rattle.system_model.specs.ModelPromises.{OutcomesLast}
 use Rattle.system_model.specs.SystemStates.{JobState, SystemState}
-use Rattle.system_model.specs.Transitions.{By, IsEnabled, IsHistory, IsUnderWay, Loads, Transition, Unplugs, after_transition}
+use Rattle.system_model.specs.Transitions.{By, IsEnabled, IsUnderWay, Loads, Transition, Unplugs, after_transition}
 use Rattle.scan_world.specs.declared.endpoint.Endpoint.{Endpoint}
-use Rattle.scan_world.specs.declared.event.Event.{Event}
 use Rattle.scan_world.specs.declared.event.JobEvent.{JobEvent}
 use Rattle.scan_world.specs.JobEvents.{job_event_of}
 use Rattle.scan_world.specs.JobMoves.{moves_left_of}

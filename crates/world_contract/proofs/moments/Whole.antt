@@ -10,7 +10,6 @@ use Rattle.system_model.specs.AbstractMessages.{AbstractRequest}
 use Rattle.system_model.specs.AbstractDevices.{AbstractDevice}
 use Rattle.system_model.specs.AbstractSessions.{AbstractSession}
 use Rattle.system_model.specs.Devices.{Make}
-use Rattle.scan_world.specs.declared.endpoint.Endpoint.{Endpoint}
 use Rattle.scan_world.specs.Worlds.{WorldCore}
 use Rattle.world_refines.specs.GhostStates.{Ghost}
 use Rattle.world_refines.specs.Wires.{SpellsAsked}
