@@ -1,1 +1,2 @@
+mod Trays
 mod Worked

@@ -1,9 +1,8 @@
 -- What the worked worlds come to.
-use Rattle.std.specs.Prelude.{◌≢◌, ◌<◌, ◌⊎◌, All, Contains, length, map, slice_get}
+use Rattle.std.specs.Prelude.{◌≢◌, ◌⊎◌, All, Contains, map}
 use Rattle.std.specs.List.{AllByRecursion}
-use Rattle.std.proofs.Common.{◌≡◌, ◌∙◌, ℕ, zero, suc, List, [], ◌∷◌, ◌++◌, Bool, true, false, Option, Some, None, inl, inr, refl, sym, ap, subst, arith}
+use Rattle.std.proofs.Common.{◌≡◌, ◌∙◌, ℕ, zero, suc, List, [], ◌∷◌, ◌++◌, true, false, Some, None, inl, inr, refl, sym, ap, subst, arith}
 use Rattle.sane_fixed.specs.declared.byte_order.ByteOrder.TheVariants.{Little}
-use Rattle.sane_fixed.specs.declared.device_info.DeviceInfo.{DeviceInfo}
 use Rattle.sane_fixed.specs.declared.status.Status.{Status}
 use Rattle.sane_fixed.specs.declared.status.Status.TheVariants as statuses
 use Rattle.md5_auth.specs.ChallengeReading.{challenge_of}
@@ -19,9 +18,7 @@ use Rattle.device_api.specs.InForce.{Placement}
 use Rattle.device_api.specs.State.{DeviceState, HeldPage, held_from}
 use Rattle.device_api.specs.Values.{defaults}
 use Rattle.virtual_scanner.specs.New.{new_device}
-use Rattle.dispatch.specs.Table.{listed_infos}
 use Rattle.scan_job.specs.declared.job.Job.{Job}
-use Rattle.scan_job.specs.declared.job.Task.{Task}
 use Rattle.scan_job.specs.declared.job.Task.TheVariants as tasks
 use Rattle.scan_job.specs.declared.outcome.Outcome.{Outcome}
 use Rattle.scan_job.specs.declared.outcome.Outcome.TheVariants.{Done, Ended}
@@ -34,15 +31,13 @@ use Rattle.scan_world.specs.declared.world_fault.WorldFault.{WorldFault}
 use Rattle.scan_world.specs.declared.world_fault.WorldFault.TheVariants as faults
 use Rattle.world_refines.specs.GhostStates.{backend_of, is_allowed_for, is_guarded}
 use Rattle.world_contract.specs.Calls.{ForEach, IsJobAt, KeepsPage, RunsOut, outcome_at, starved_at}
-use Rattle.world_contract.specs.Clear.{AllAreListed, ClearsUp, PlainIsClear}
+use Rattle.world_contract.specs.Clear.{AllAreListed, ClearsUp, IsClear, PlainIsClear}
 use Rattle.world_contract.specs.Examples.{IsScanOf}
 use Rattle.world_contract.specs.Endings.{AnswerIsExplained, HadNoPage, HasPassed, NamesStatus}
-use Rattle.world_contract.specs.Sessions.{Asked, IsAtOpen}
 use Rattle.world_contract.specs.Histories.{History, LedTo, and_then, begun, history_up_to}
-use Rattle.world_contract.specs.Page.{CameInTime, IsScan, IsSteady, Settled}
+use Rattle.world_contract.specs.Page.{CameInTime, IsSteady, Settled}
 use Rattle.world_contract.specs.Page.CameInTime.{FromFirst, AsItRan}
-use Rattle.world_contract.specs.Promise.{FileIsKept, JobIsDone, OutcomeIsKept}
-use Rattle.world_contract.specs.Reports.{AreOptionsShown}
+use Rattle.world_contract.specs.Promise.{FileIsKept, OutcomeIsKept}
 use Rattle.world_contract.specs.Settings.{AreSettingsPut}
 use Rattle.world_contract.proofs.Lists.{In, in_list, in_split}
 use Rattle.world_contract.proofs.NextMoves.{LoadsNothing, quiet_moves}
@@ -93,13 +88,13 @@ moved_behind devices users job old mid new taken events led are run ran =
         by_case (inl same) = unplugged taken name source same
         by_case (inr there) = quiet_in moves (Load name source) quiet there
 
-abbrev history_of : (devices : List DeviceState) (users : List Entry) (job : Job) (new : WorldCore) → Came devices users job new → History
+abbrev pub history_of : (devices : List DeviceState) (users : List Entry) (job : Job) (new : WorldCore) → Came devices users job new → History
 history_of devices users job new c = and_then (begun devices users (job ∷ [])) c.events
 
 abbrev pub led_from : (devices : List DeviceState) (users : List Entry) (job : Job) (new : WorldCore) → Came devices users job new → LedFrom devices users job
 led_from devices users job new c = record { history = history_of devices users job new c; devices_are = refl; users_are = refl; jobs_are = refl; world = new; led = c.led }
 
-abbrev at_there : (devices : List DeviceState) (users : List Entry) (job : Job) (new : WorldCore) (c : Came devices users job new) → IsJobAt (history_of devices users job new c) new 0 job
+abbrev pub at_there : (devices : List DeviceState) (users : List Entry) (job : Job) (new : WorldCore) (c : Came devices users job new) → IsJobAt (history_of devices users job new c) new 0 job
 at_there devices users job new c = record { led = c.led; job_at = refl }
 
 -- ---- a job that is done
@@ -136,7 +131,7 @@ lists_all all devices users job new m told list =
 
 -- ---- the device and its options
 
-only_one : {X : Type 0} (x y : X) → Contains (x ∷ []) y → x ≡ y
+pub only_one : {X : Type 0} (x y : X) → Contains (x ∷ []) y → x ≡ y
 only_one x y (zero, within, is) = is
 only_one x y (suc k, within, is) = absurd (omega (arith, within))
 
@@ -144,7 +139,7 @@ on_kind : (k : DeviceKind) (name : List ℕ) (sources : List SourceState) (place
 unfolding defaults
 on_kind k name sources placed setup settings device same put = subst (λ (d : DeviceState). AreSettingsPut (defaults d.setup.scene.kind d.setup.order) settings placed setup) (sym same) put
 
-settled_on : (k : DeviceKind) (name : List ℕ) (sources : List SourceState) (users : List Entry) (job : Job) (new : WorldCore) (c : Came (new_device k name sources Little ∷ []) users job new) (s : Settled (history_of (new_device k name sources Little ∷ []) users job new c) job) → AreSettingsPut (defaults k Little) job.settings.items s.placed s.setup
+pub settled_on : (k : DeviceKind) (name : List ℕ) (sources : List SourceState) (users : List Entry) (job : Job) (new : WorldCore) (c : Came (new_device k name sources Little ∷ []) users job new) (s : Settled (history_of (new_device k name sources Little ∷ []) users job new c) job) → AreSettingsPut (defaults k Little) job.settings.items s.placed s.setup
 settled_on k name sources users job new c s = on_kind k name sources s.placed s.setup job.settings.items s.device (only_one (new_device k name sources Little) s.device s.is_there) s.in_force
 
 pub shows_options : (name : List ℕ) (page : PageView) (users : List Entry) (job : Job) (new : WorldCore) → Moved (flatbed_with name page ∷ []) users job new → SaysDone new → job.task ≡ tasks.Show → ShowsOptions (flatbed_with name page ∷ []) users job
@@ -231,7 +226,7 @@ steady_in [] held among = absurd among
 steady_in (page ∷ pages) held (inl same) = ap (λ (x : HeldPage). x.steady) same
 steady_in (page ∷ pages) held (inr among) = steady_in pages held among
 
-steady_tray : (name : List ℕ) (pages : List PageView) (users : List Entry) (job : Job) (new : WorldCore) (c : Came (feeder_with name pages ∷ []) users job new) → IsSteady (history_of (feeder_with name pages ∷ []) users job new c) new 0 job.device
+pub steady_tray : (name : List ℕ) (pages : List PageView) (users : List Entry) (job : Job) (new : WorldCore) (c : Came (feeder_with name pages ∷ []) users job new) → IsSteady (history_of (feeder_with name pages ∷ []) users job new c) new 0 job.device
 steady_tray name pages users job new c held (FromFirst device there named among) =
     let same : feeder_with name pages ≡ device = only_one (feeder_with name pages) device there in
     steady_in pages held (in_list (map held_from (map memory_source pages)) held (subst (λ (d : DeviceState). Contains d.pages held) (sym same) among))
@@ -282,10 +277,10 @@ only_memory faults.NoMem d job fit fault = refl
 abbrev pub IsOther : WorldCore → Type 0
 IsOther w = (starved_at w 0 ≡ false) × ((o : Outcome) → outcome_at w 0 ≡ Some o → ((reports : Reports) → o ≢ Done reports) × (o ≢ Ended statuses.NoMem Memory))
 
-pub broken_off : PlainIsClear → (name : List ℕ) (page : PageView) (users : List Entry) (job : Job) (old new : WorldCore) → LedTo (begun (flatbed_with name page ∷ []) users (job ∷ [])) old → ClearsUp old new → IsOther new → IsPlainScan name page users job → HasBrokenOff (flatbed_with name page ∷ []) users job
-broken_off plain name page users job old new led clears other is =
-    let h = begun (flatbed_with name page ∷ []) users (job ∷ []) in
-    let clear = plain name (memory_source page) users job is.named is.none refl is.meant is.allowed in
+-- a job that was clear, and is over otherwise
+pub came_off : (devices : List DeviceState) (users : List Entry) (job : Job) (old new : WorldCore) → LedTo (begun devices users (job ∷ [])) old → ClearsUp old new → IsOther new → IsClear (begun devices users (job ∷ [])) 0 job (λ (j : ℕ). j ≡ 0) → HasBrokenOff devices users job
+came_off devices users job old new led clears other clear =
+    let h = begun devices users (job ∷ []) in
     let c = clears h led 0 job refl clear in
     let o = other.1 c.outcome c.is in (
       record { history = and_then h c.out.moves; devices_are = refl; users_are = refl; jobs_are = refl; world = new; led = c.out.led },
@@ -296,6 +291,10 @@ broken_off plain name page users job old new led clears other is =
         | inr (inr broke) ↦ broke
       ],
     )
+
+pub broken_off : PlainIsClear → (name : List ℕ) (page : PageView) (users : List Entry) (job : Job) (old new : WorldCore) → LedTo (begun (flatbed_with name page ∷ []) users (job ∷ [])) old → ClearsUp old new → IsOther new → IsPlainScan name page users job → HasBrokenOff (flatbed_with name page ∷ []) users job
+broken_off plain name page users job old new led clears other is =
+    came_off (flatbed_with name page ∷ []) users job old new led clears other (plain name (memory_source page) users job is.named is.none refl is.meant is.allowed)
 
 -- ---- of boxes
 
@@ -312,11 +311,6 @@ led_jobs states users jobs job old is led = subst (λ (js : List Job). LedTo (be
 pub fault_boxed : {D : Type 0} (state : D → DeviceState) (items : List D) (box : D) (d : DeviceState) (jobs : List Job) (job : Job) (f : WorldFault) → items ≡ box ∷ [] → state box ≡ d → jobs ≡ job ∷ [] → HasFaultAmong f (map state items) jobs → HasFaultAmong f (d ∷ []) (job ∷ [])
 fault_boxed state items box d jobs job f is same own fault =
     subst (λ (js : List Job). HasFaultAmong f (d ∷ []) js) own (subst (λ (ds : List DeviceState). HasFaultAmong f ds jobs) (ap (map state) is ∙ ap (λ (x : DeviceState). x ∷ []) same) fault)
-
-pub are_copies : (name : List ℕ) (pages : List PageView) (users : List Entry) (job : Job) (new : WorldCore) (file other first second : List ℕ) → first ≡ file → second ≡ other → Moved (feeder_with name pages ∷ []) users job new → KeepsPage new 0 1 (Some file) → KeepsPage new 0 2 (Some other) → AreScans (feeder_with name pages ∷ []) users job first second
-are_copies name pages users job new file other first second is is_too m one two =
-    subst (λ (x : List ℕ). AreScans (feeder_with name pages ∷ []) users job x second) (sym is)
-    (subst (λ (x : List ℕ). AreScans (feeder_with name pages ∷ []) users job file x) (sym is_too) (are_scans name pages users job new file other m one two))
 
 pub scan_copied : (name : List ℕ) (page : PageView) (users : List Entry) (job : Job) (new : WorldCore) (reports : Reports) (file bytes : List ℕ) → bytes ≡ file → Moved (flatbed_with name page ∷ []) users job new → ForEach new 0 (λ h job. (o : Outcome) → outcome_at new 0 ≡ Some o → FileIsKept h new 0 job (starved_at new 0) o (Some file)) → outcome_at new 0 ≡ Some (Done reports) → job.task ≡ tasks.Scan → IsScanOf page job bytes
 scan_copied name page users job new reports file bytes same m kept is scan = subst (IsScanOf page job) (sym same) (scan_of name page users job new reports file m kept is scan)

@@ -129,3 +129,26 @@ abbrev pub AreScans : List DeviceState → List Entry → Job → List ℕ → L
 AreScans devices users job first second =
     (from : LedFrom devices users job)
     × IsScan from.history from.world 0 job 0 first × IsScan from.history from.world 0 job 1 second
+
+-- ---- a batch that surely comes through
+
+-- **both pages (`IsFedScanOf`, `IsPlainBatch`)**: a file of exactly the picture that a job's settings mean on one page,
+-- put on a feeder at its defaults; a batch of two pages in whose way nothing stands.
+pub record IsFedScanOf (page : PageView) (job : Job) (bytes : List ℕ) : Type 0 where
+  pub setup : Setup
+  pub placed : List Placement
+  pub in_force : AreSettingsPut (defaults Feeder Little) job.settings.items placed setup
+  pub picture : Picture
+  pub meant : meaning_of page setup.scene ≡ Some picture
+  pub denotes : Denotes bytes picture
+
+-- it wants two pages, without settings, on the feeder that has these two, each of which means a picture at its
+-- defaults, and its password is right, if a line of the users names its backend
+pub record IsPlainBatch (name : List ℕ) (first second : PageView) (users : List Entry) (job : Job) : Type 0 where
+  pub named : job.device ≡ name
+  pub batch : job.task ≡ tasks.Batch 2
+  pub none : job.settings.items ≡ []
+  pub first_meant : meaning_of first (defaults Feeder Little).scene ≢ None
+  pub second_meant : meaning_of second (defaults Feeder Little).scene ≢ None
+  pub allowed : IsAllowedAlways users job
+  pub fit : IsFitJob job

@@ -1,7 +1,8 @@
 //! Worked worlds: of each definition of the promise on the calls a run that meets it, beside the scans of `world_contract`: a list, a
-//! show, a guarded device with the right and with a wrong password, a device taken out, an empty tray, and a batch.
+//! show, a guarded device with the right and with a wrong password, a device taken out, an empty tray, and batches.
 #![tactic(auto)]
 
+mod both;
 mod ends;
 mod lists;
 mod passwords;
@@ -11,6 +12,7 @@ mod taken;
 mod tray;
 mod worlds;
 
+pub use both::scan_both_surely;
 pub use lists::list_both;
 pub use passwords::{scan_with_password, scan_with_wrong_password};
 pub use shows::show_options;

@@ -25,10 +25,12 @@ pub enum NoFile {
     BadJob,
     #[error("the session broke off")]
     BrokenOff,
+    #[error("fewer than two pages were finished")]
+    TooFewPages,
 }
 
 /// What a refusal of the world comes to.
-fn no_file(fault: WorldFault) -> NoFile
+pub(crate) fn no_file(fault: WorldFault) -> NoFile
     ensures { fault ≡ faults.NoMem → result ≡ NoFile.NoMem }
 {
     match fault {

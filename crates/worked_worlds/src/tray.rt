@@ -3,11 +3,15 @@
 ghost use Rattle.std.specs.Prelude.{◌≡◌, IfSome, true, List, [], ◌∷◌, map};
 ghost use Rattle.page_picture.specs.SourceView.{source_state};
 ghost use Rattle.page_picture.specs.Page.{PageView};
+ghost use Rattle.device_api.specs.State.{DeviceState};
+ghost use Rattle.scan_world.specs.Worlds.{seen_world};
 ghost use Rattle.world_contract.specs.Endings.{HadNoPage};
+ghost use Rattle.worked_worlds.specs.Inside.{IsKeptPage};
 ghost use Rattle.worked_worlds.specs.Worked.{AreScans, LedFrom, feeder_with, memory_source};
 
 use crate::ends::had_no_docs;
 use crate::worlds::{copied, one_box, one_job};
+use device_api::Device;
 use flatbed_dev::Feeder;
 use md5_auth::Users;
 use net_backend::Job;
@@ -55,6 +59,24 @@ fn both_pages(alloc: Global, first: Page, second: Page) -> Option<Vec<Source>>
     Vec::from_array(alloc, pages).ok()
 }
 
+/// A feeder of that name with these two pages in memory.
+pub(crate) fn feeder_on(alloc: Global, name: Text, first: Page, second: Page) -> Option<Feeder>
+    ensures { IfSome result (λ feeder. feeder ≡ feeder_with name (first ∷ second ∷ [])) }
+{
+    let pages = both_pages(alloc, first, second)?;
+    Feeder::new(alloc, name, pages, ByteOrder::Little).ok()
+}
+
+/// The files of the first two pages that the job finished, where both are there.
+pub(crate) fn first_files(alloc: Global, world: &World) -> Option<(Vec<u8>, Vec<u8>)>
+    ensures { let w = seen_world ⟦<Box<dyn Device> as Device>⟧.state world.now.inner in
+        IfSome result (λ files. IsKeptPage w 1 files.0.items × IsKeptPage w 2 files.1.items) }
+{
+    let first = copied(alloc, world.file_at(0, 1)?)?;
+    let second = copied(alloc, world.file_at(0, 2)?)?;
+    Some((first, second))
+}
+
 /// A batch on a feeder with these two pages. The files of its first two pages, where it finished both.
 pub fn scan_pages(
     alloc: Global,
@@ -69,10 +91,7 @@ pub fn scan_pages(
     ensures { IfSome result (λ files. AreScans
         (feeder_with name (first ∷ second ∷ []) ∷ []) users job files.0.items files.1.items) }
 {
-    let pages = both_pages(alloc, first, second)?;
-    let Ok(feeder) = Feeder::new(alloc, name, pages, ByteOrder::Little) else {
-        return None;
-    };
+    let feeder = feeder_on(alloc, name, first, second)?;
     let Ok(scanner) = Box::new(alloc, feeder) else {
         return None;
     };
@@ -82,7 +101,5 @@ pub fn scan_pages(
         return None;
     };
     world.run_all();
-    let first_file = copied(alloc, world.file_at(0, 1)?)?;
-    let second_file = copied(alloc, world.file_at(0, 2)?)?;
-    Some((first_file, second_file))
+    first_files(alloc, &world)
 }

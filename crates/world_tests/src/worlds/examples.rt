@@ -3,8 +3,8 @@
 use super::*;
 use page_picture::{FailingPage, Page};
 use worked_worlds::{
-    list_both, scan_no_page, scan_of_taken_out, scan_pages, scan_surely, scan_with_password,
-    scan_with_wrong_password, show_options,
+    NoFile, list_both, scan_both_surely, scan_no_page, scan_of_taken_out, scan_pages, scan_surely,
+    scan_with_password, scan_with_wrong_password, show_options,
 };
 use world_contract::{scan_beside, scan_once, scan_with_another};
 
@@ -203,5 +203,51 @@ fn one_client_surely_scans_a_dot(rt: HostRuntime) {
     match scan_surely(alloc, name, dot(&rt, alloc), users, asked) {
         Ok(file) => assert!(rt; is_whole(alloc, Some(file.as_slice()))),
         Err(_) => panic!(rt; "no file"),
+    }
+}
+
+/// At the defaults a file of 157 by 196 dots, of which the four that show the page's one dot have this byte, and all others
+/// are white.
+fn dot_at_defaults(rt: &impl Abort, alloc: Global, byte: u8) -> Vec<u8> {
+    let mut file = Vec::new(alloc);
+    file.extend_from_slice(b"P5\n# SANE data follows\n157 196\n255\n")
+        .expect(rt, "memory");
+    for y in 0..196u32 {
+        for x in 0..157u32 {
+            let shown = if x < 2 && y < 2 { byte } else { 255 };
+            file.push(shown).expect(rt, "memory");
+        }
+    }
+    file
+}
+
+/// A batch of that many pages on a feeder of two, whose backend the users guard.
+fn both_dots(rt: &impl Abort, alloc: Global, count: u32) -> Result<(Vec<u8>, Vec<u8>), NoFile> {
+    let asked = plain(rt, alloc, b"feeder:0", Task::Batch(count));
+    let name = text(rt, alloc, b"feeder:0");
+    let other = read_page(alloc, OTHER_DOT, 26).expect(rt, "a page");
+    let users = users_of(rt, alloc, b"user:bc:feeder\n");
+    scan_both_surely(alloc, name, dot(rt, alloc), other, users, asked)
+}
+
+#[test]
+fn one_client_surely_scans_two_pages(rt: HostRuntime) {
+    let alloc = rt.alloc();
+    match both_dots(&rt, alloc, 2) {
+        Ok((first, second)) => {
+            assert!(rt; first.as_slice() == dot_at_defaults(&rt, alloc, 7).as_slice());
+            assert!(rt; second.as_slice() == dot_at_defaults(&rt, alloc, 9).as_slice());
+        }
+        Err(_) => panic!(rt; "no files"),
+    }
+}
+
+/// A batch of one leaves the other page in the tray.
+#[test]
+fn one_client_scans_one_page_of_two(rt: HostRuntime) {
+    let alloc = rt.alloc();
+    match both_dots(&rt, alloc, 1) {
+        Ok(_) => panic!(rt; "two files"),
+        Err(why) => assert!(rt; why == NoFile::TooFewPages),
     }
 }

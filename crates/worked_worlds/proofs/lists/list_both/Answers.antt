@@ -1,4 +1,4 @@
-use Rattle.std.proofs.Common.{◌∙◌, rules, refl, ap, sym}
+use Rattle.std.proofs.Common.{◌∙◌, rules, refl}
 use denote.Param.Object.{read_made}
 use Rattle.worked_worlds.proofs.Worked.{led_boxes, led_jobs, lists_all, moved}
 use Rattle.worked_worlds.proofs.lists.list_both.OwnLists.{at-1-1, own-1}

@@ -1,4 +1,4 @@
-use Rattle.std.proofs.Common.{◌∙◌, rules, refl, ap, sym}
+use Rattle.std.proofs.Common.{◌∙◌, refl}
 use denote.Param.Object.{read_made}
 use Rattle.worked_worlds.proofs.Worked.{led_boxed, led_jobs, moved, was_disallowed}
 use Rattle.worked_worlds.proofs.passwords.scan_with_wrong_password.OwnLists.{at-1-1, own-1}

@@ -1,4 +1,4 @@
-use Rattle.std.proofs.Common.{◌∙◌, inl, inr, rules, refl}
+use Rattle.std.proofs.Common.{◌∙◌, inl, inr, refl}
 use denote.Param.Object.{read_made}
 use Rattle.world_contract.proofs.Examples.{given_file}
 use Rattle.worked_worlds.proofs.Worked.{broken_off, fault_boxed, led_boxed, led_jobs, moved, only_memory, scan_copied}

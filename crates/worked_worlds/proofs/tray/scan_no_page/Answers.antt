@@ -1,4 +1,4 @@
-use Rattle.std.proofs.Common.{◌∙◌, List, [], rules, refl, ap, sym}
+use Rattle.std.proofs.Common.{◌∙◌, List, [], refl, ap}
 use denote.Param.Object.{read_made}
 use Rattle.std.specs.Prelude.{map}
 use Rattle.page_picture.specs.SourceView.{source_state}
