@@ -24,7 +24,7 @@ ROOT_USER, ANN, BOB = 0, 64_201, 64_202
 # A client's user and the stranger's.
 PAIRS = {(ROOT_USER, BOB): "root's client, a stranger of another user", (ANN, ROOT_USER): "a user's client, root as the stranger", (ANN, BOB): "two users"}
 # A client that has not its frame after so many seconds waits for ever; one beside whom somebody dials without end, so that the
-# daemon reads a table of 100,000 sockets in each turn, has it later on a machine that is busy.
+# daemon reads a table of many sockets again and again, has it later on a machine that is busy.
 PATIENCE, LONG_PATIENCE = 20, 100
 
 

@@ -36,8 +36,8 @@ struct Newcomer {
     is_his: bool,
 }
 
-/// The first of the connections that waited, and whether no more did: who comes while the table is read is taken in the next
-/// turn, so that a stranger who dials without end costs one reading a turn.
+/// The first of the connections that waited, and whether no more did: who comes while the table is read is left to the
+/// next look, so that a stranger who dials without end costs one reading a look.
 #[derive(Drop)]
 struct Newcomers {
     made: Vec<Newcomer>,

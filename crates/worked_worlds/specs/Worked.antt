@@ -132,8 +132,15 @@ AreScans devices users job first second =
 
 -- ---- a batch that surely comes through
 
--- **both pages (`IsFedScanOf`, `IsPlainBatch`)**: a file of exactly the picture that a job's settings mean on one page,
--- put on a feeder at its defaults; a batch of two pages in whose way nothing stands.
+-- **both pages (`feeder_of_two`, `IsFedScanOf`, `IsPlainBatch`)**: a feeder with two pages, alone; a file of exactly
+-- the picture that a job's settings mean on one page, put on a feeder at its defaults; a batch of two pages in whose
+-- way nothing stands.
+--
+-- a feeder with these two pages, alone
+abbrev pub feeder_of_two : List ℕ → PageView → PageView → List DeviceState
+feeder_of_two name first second = feeder_with name (first ∷ second ∷ []) ∷ []
+
+-- a file of the picture that the job's settings mean on this page
 pub record IsFedScanOf (page : PageView) (job : Job) (bytes : List ℕ) : Type 0 where
   pub setup : Setup
   pub placed : List Placement

@@ -1,7 +1,7 @@
 //! A batch of two pages that surely gives both files.
 
-ghost use Rattle.std.specs.Prelude.{◌≡◌, ◌⊎◌, IfErr, IfOk, [], ◌∷◌};
-ghost use Rattle.worked_worlds.specs.Worked.{HasBrokenOff, IsFedScanOf, IsPlainBatch, feeder_with};
+ghost use Rattle.std.specs.Prelude.{◌≡◌, ◌⊎◌, IfErr, IfOk};
+ghost use Rattle.worked_worlds.specs.Worked.{HasBrokenOff, IsFedScanOf, IsPlainBatch, feeder_of_two};
 
 use crate::ends::{End, end_of};
 use crate::surely::{NoFile, no_file};
@@ -23,17 +23,17 @@ pub fn scan_both_surely(
     users: Users,
     job: Job,
 ) -> Result<(Vec<u8>, Vec<u8>), NoFile>
-    /// The first file is of the picture that the job's settings mean on the first page, and the second file of the one
-    /// that they mean on the second page.
+    /// The first file is of the picture that the job's settings mean on the first page.
     ensures first_file { IfOk result (λ files. IsFedScanOf first job files.0.items) }
+    /// The second file is of the picture that they mean on the second page.
     ensures second_file { IfOk result (λ files. IsFedScanOf second job files.1.items) }
     /// There are both for a batch of two without settings that names the feeder, whose pages each mean a picture at its
     /// defaults, and whose password is right, if a line of the users names its backend; but where memory ran out, or
     /// the session of the job broke off, which its next move told.
     /// Carried by: `err` of `scan_both_surely`: `IsPlainBatch`, `HasBrokenOff`
-    ensures err { let feeder = feeder_with name (first ∷ second ∷ []) in
-        IfErr result (λ why. IsPlainBatch name first second users job → (why ≡ NoFile.NoMem)
-        ⊎ ((why ≡ NoFile.BrokenOff) × HasBrokenOff (feeder ∷ []) users job)) }
+    ensures err { IfErr result (λ why. IsPlainBatch name first second users job
+        → (why ≡ NoFile.NoMem)
+        ⊎ ((why ≡ NoFile.BrokenOff) × HasBrokenOff (feeder_of_two name first second) users job)) }
 {
     a_plain_job_is_clear();
     let Some(feeder) = feeder_on(alloc, name, first, second) else {
