@@ -285,18 +285,3 @@ end_exact past v new e stands = (there, back)
 
 -- ---- only an end makes a picture whole
 
-keeps_at : (o : Option JoinFault) (u : Option Frame) (bytes : List ℕ) (starved : Bool) (past : JoinHistory) → past.fault ≡ o → past.under ≡ u → IsJoined (after_feed_at o u bytes starved past) ↔ IsJoined past
-keeps_at (Some x) u bytes starved past a b = ((λ h. h), (λ h. h))
-keeps_at None None bytes starved past a b = ((λ h. h), (λ h. h))
-keeps_at None (Some f) bytes starved past a b =
-    let P : Bool → Type 0 = λ long. IsJoined (past_fed long starved f bytes past) → ⊥ in
-    let Q : Bool → Type 0 = λ poor. IsJoined (past_fed false poor f bytes past) → ⊥ in
-    let under : (q : JoinHistory) (g : Frame) → q.fault ≡ None → q.under ≡ Some g → IsJoined q → ⊥ = λ q g d e joined. (let y : Ok false ≡ Ok true = sym (answered q None (Some g) q.ended d e refl) ∙ joined in cc) in
-    let no_more : IsJoined (after_feed_at None (Some f) bytes starved past) → ⊥ = elim (nat_lt (most_bytes f.params) (length f.payload + length bytes)) as P [
-      | true ↦ λ joined. (let y : Err Long ≡ Ok true = joined in cc)
-      | false ↦ elim starved as Q [
-        | true ↦ λ joined. (let y : Err NoMem ≡ Ok true = joined in cc)
-        | false ↦ under (record past { under = Some (grown f bytes) }) (grown f bytes) a refl
-      ]
-    ] in
-    ((λ joined. absurd (no_more joined)), (λ joined. absurd (under past f a b joined)))

@@ -100,16 +100,6 @@ setup_in other (Err _) = other
 memory_cause : (stop : Stop) (old new : DeviceState) → stop ≡ no_memory → ScanHasCause stop old new
 memory_cause stop old new is = subst (λ (s : Stop). ScanHasCause s old new) (sym is) refl
 
-pub ended_by_size : (s new : DeviceState) (job : Job) (stop : Stop) → (IsTakenJob job → ⊥) → stop ≡ bad_setting → IsEndedBy s job new stop
-ended_by_size s new job stop large is = record {
-  size = λ _. is;
-  setting = λ size why f. absurd (large size);
-  put = λ forced p other. absurd (large p.taken);
-  no_page = λ forced p scan none. absurd (large p.taken);
-  no_picture = λ forced p scan some none. absurd (large p.taken);
-  scan = λ forced p scan some there. absurd (large p.taken);
-}
-
 pub ended_by_memory : (s new : DeviceState) (job : Job) (stop : Stop) → IsTakenJob job → stop ≡ no_memory → IsEndedBy s job new stop
 ended_by_memory s new job stop size is = record {
   size = λ large. absurd (large size);

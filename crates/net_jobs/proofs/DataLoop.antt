@@ -420,10 +420,6 @@ receiving_runs (Done reports) progress e = absurd (let clash : false ≡ true = 
 receiving_runs (Ended status why) (stages.Imaging port opened) e = absurd (let clash : false ≡ true = e in cc)
 receiving_runs (Ended status why) progress e = absurd (let clash : false ≡ true = e in cc)
 
-over_shut : (outcome : Outcome) (progress : Progress) → is_running outcome ≡ false → is_receiving outcome progress ≡ false
-over_shut outcome (stages.Imaging port opened) e = ap (λ (b : Bool). b && opened) e
-over_shut outcome progress e = refl
-
 ends_shut : (old new : ClientState) (past : JoinHistory) (status : ℕ) → TakesEndRecord old past status new → is_receiving new.outcome new.progress ≡ false
 ends_shut old new past status e = ap (λ (t : ProtocolState). is_receiving new.outcome t.progress) e.protocol ∙ status_shut old.target.task old.notes.file past (status_of status) new.outcome
 
@@ -457,13 +453,6 @@ pub lost_image : (outcome : Outcome) (progress : Progress) → is_receiving outc
 lost_image outcome (stages.Imaging port true) e = e
 lost_image outcome (stages.Imaging port false) e = absurd (let clash : false ≡ true = sym (shut (is_running outcome)) ∙ e in cc)
 lost_image outcome progress e = absurd (let clash : false ≡ true = e in cc)
-
-pub stage_image_lost : {R : Type 0} (left_of : R → Option (List ℕ)) (job : Job) (moves more : List JobMove) (read_ wrote left : List ℕ) (coming0 coming : Option (List (List ℕ))) (given : GivenFiles) (stream after_ : Option R) (old new : ClientState) → is_receiving old.outcome old.progress ≡ true
-    → new ≡ after_loss links.Image old → HasLoss more → dialled_by more ≡ dialled_by moves
-    → (s : RunInvariant left_of job moves read_ wrote left coming0 coming given stream old) → (t : RunInvariant left_of job more read_ wrote left coming0 coming given after_ new) × (t.history ≡ s.history)
-stage_image_lost left_of job moves more read_ wrote left coming0 coming given stream after_ old new receives lost loss asks s =
-    let new_is : new ≡ after_client_end statuses.IoError whys.Lost old = lost ∙ ap (λ (b : Bool). if b then after_client_end statuses.IoError whys.Lost old else old) (lost_image old.outcome old.progress receives) in
-    stage_lost left_of job moves more read_ wrote left coming0 coming given stream after_ old new (receiving_runs old.outcome old.progress receives) new_is loss asks s
 
 -- while its connection is not made
 pub lost_wanted : (outcome : Outcome) (progress : Progress) (port : ℕ) → is_running outcome ≡ true → wanted_port progress ≡ Some port → is_lost_by links.Image outcome progress ≡ true

@@ -49,12 +49,6 @@ begin_more (w ∷ ws) (s ∷ ss) whole stream b front = (b.0, begin_more ws ss w
 
 -- ---- bytes that are read ahead
 
--- a read leaves what is to be taken as it was
-pub ahead_more : (was now : Option (List ℕ)) (bytes : List ℕ) → Consumes was now bytes → Consumes (prepend_known [] was) (prepend_known bytes now) []
-ahead_more None now bytes p = tt
-ahead_more (Some x) None bytes p = absurd p
-ahead_more (Some x) (Some y) bytes p = p
-
 -- so the first of them are taken
 pub ahead_taken : (known : Option (List ℕ)) (all front rest : List ℕ) → all ≡ front ++ rest → Consumes (prepend_known all known) (prepend_known rest known) front
 ahead_taken None all front rest e = tt

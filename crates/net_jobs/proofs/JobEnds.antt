@@ -560,9 +560,6 @@ pub ran_refuses : (job : Job) (moves : List JobMove) (trace : JobTrace) (read_ w
 ran_refuses job moves trace read_ wrote rest left outcome did (inl e) = subst HasRefusal e (course_refuses job did.events trace did.runs)
 ran_refuses job moves trace read_ wrote rest left outcome did (inr by) = cut_refuses moves trace.protocol rest outcome by
 
-pub sink_refuses : HasRefusal (Ended statuses.IoError whys.Sink)
-sink_refuses = λ e. cc
-
 pub memory_refuses : HasRefusal (Ended statuses.NoMem whys.Memory)
 memory_refuses = λ e. cc
 
@@ -709,10 +706,6 @@ pub run_stopped : {L R : Type 0} (views : LinkViews L) (left_of : R → Option (
 run_stopped views left_of job first coming0 held was notes links then_ coming stream c holds stop single law ends leaves p =
     let d = closed_parted views left_of job first coming0 held was notes links then_ coming stream c holds (stops_over c.outcome stop ends) leaves p.drained in
     stopped_by views left_of job first coming0 held notes then_ coming stream c holds c.outcome stop single law refl ends d.0 (subst (λ (g : GivenFiles). IsWhole g.bytes → ⊥) (sym d.1) p.not_whole)
-
--- what holds of a result
-pub ok_of : {T E : Type 0} (r : Result T E) (t : T) (P : T → Type 0) → r ≡ Ok t → IfOk r P → P t
-ok_of r t P e is = subst (λ x. IfOk x P) e is
 
 -- what is told is of a job that is done
 pub done_told : {T E : Type 0} (outcome : Outcome) (r : Result T E) (Told : Reports → T → Type 0) → is_ok r ≡ true → IfOk r (λ t. (reports : Reports) × (outcome ≡ Done reports) × Told reports t) → (reports : Reports) × (outcome ≡ Done reports)

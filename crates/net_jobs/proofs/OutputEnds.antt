@@ -55,13 +55,6 @@ told_spares views left_of job first coming0 given notes links coming stream c st
     let s = g.stage in
     stop_spares c.outcome stop ends (spares_by left_of g.moves coming0 coming s.trace s.rest stream c s.history (course_spares job s.did.events s.trace s.did.runs) s.stands)
 
--- a job that is refused
-pub refused_spares : (fault : JobFault) (stop : Stop) → Ended stop.status stop.why ≡ refused_as fault → stop.why ≢ whys.Sink
-refused_spares NoMem stop told e = absurd (let is : Ended stop.status stop.why ≡ Ended statuses.NoMem whys.Memory = told in let sunk : stop.why ≡ whys.Sink = e in cc)
-refused_spares TooManySettings stop told e = absurd (let is : Ended stop.status stop.why ≡ Ended statuses.Inval whys.Setting = told in let sunk : stop.why ≡ whys.Sink = e in cc)
-refused_spares TextTooLong stop told e = absurd (let is : Ended stop.status stop.why ≡ Ended statuses.Inval whys.Setting = told in let sunk : stop.why ≡ whys.Sink = e in cc)
-refused_spares BadCount stop told e = absurd (let is : Ended stop.status stop.why ≡ Ended statuses.Inval whys.Setting = told in let sunk : stop.why ≡ whys.Sink = e in cc)
-
 -- ---- an output that did not take its file has failed
 
 -- the output of a scan holds what was given

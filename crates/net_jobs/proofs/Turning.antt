@@ -65,10 +65,6 @@ is_over_by false result e on = refl
 pub never_came : {b : Bool} → false ≡ true → b ≡ false
 never_came e = absurd (let clash : false ≡ true = e in cc)
 
--- nothing is done
-pub turn_idles : {L R : Type 0} (views : LinkViews L) (left_of : R → Option (List ℕ)) (old : ClientState) (s : LoopState L R) → (more : List JobMove) × AreOfTurn false old more × MovesAll views left_of s more s
-turn_idles views left_of old s = ([], Quiet tt never_came, refl)
-
 -- a job that has lost a connection is over
 lost_over : (old new : ClientState) → new ≡ after_client_end statuses.IoError whys.Lost old → is_running new.outcome ≡ false
 lost_over old new e = ap (λ (v : ClientState). is_running v.outcome) e
@@ -251,27 +247,15 @@ turn_used_up views left_of old new at_links coming stream loss lost failed fails
 over_by : (old new : ClientState) → new ≡ after_client_end statuses.IoError whys.Lost old → is_running new.outcome ≡ true → ⊥
 over_by old new e running = let clash : false ≡ true = sym (ap (λ (v : ClientState). is_running v.outcome) e) ∙ running in cc
 
-pub hears_held : (old new : ClientState) (was now : Option (List ℕ)) (lost : Option Loss) → HearsOrLoses old was new now lost → is_running new.outcome ≡ true → lost ≡ None
-hears_held old new was now lost (Heard piece some consumed hears none) running = none
-hears_held old new was now lost (Lost reason consumed loses is) running = absurd (over_by old new loses.new_is running)
-
 pub dials_held : {R : Type 0} (left_of : R → Option (List ℕ)) (old new : ClientState) (was now : Option (List (List ℕ))) (port : ℕ) (made : Option R) (lost : Option Loss) → DialsOrLoses left_of old was port new now made lost → is_running new.outcome ≡ true → lost ≡ None
 dials_held left_of old new was now port made lost (Made conn is brings dials none) running = none
 dials_held left_of old new was now port made lost (Refused same misses is) running =
     let new_is = misses.new_is ∙ ap (λ (b : Bool). if b then after_client_end statuses.IoError whys.Lost old else old) (lost_wanted old.outcome old.progress port misses.running misses.wanted) in
     absurd (over_by old new new_is running)
 
-pub takes_held : {R : Type 0} (left_of : R → Option (List ℕ)) (old new : ClientState) (conn : R) (kept : Option R) (lost : Option Loss) → TakesOrLoses left_of old conn new kept lost → is_running new.outcome ≡ true → lost ≡ None
-takes_held left_of old new conn kept lost (Took piece behind some consumed takes kept_is none) running = none
-takes_held left_of old new conn kept lost (Missed reason loses is) running = absurd (over_by old new loses.new_is running)
-
 pub over_if : (runs : Bool) (old new : ClientState) → is_running old.outcome ≡ runs → new ≡ (if runs then after_client_end statuses.IoError whys.Lost old else old) → is_running new.outcome ≡ true → ⊥
 over_if true old new is e running = over_by old new e running
 over_if false old new is e running = let clash : false ≡ true = sym (ap (λ (v : ClientState). is_running v.outcome) e ∙ is) ∙ running in cc
-
--- a job whose control connection is lost is over
-pub cut_over : (old new : ClientState) → new ≡ after_loss links.Control old → is_running new.outcome ≡ true → ⊥
-cut_over old new e running = over_if (is_running old.outcome) old new refl e running
 
 -- the same notes to begin with
 pub turn_from : {L R : Type 0} (views : LinkViews L) (left_of : R → Option (List ℕ)) (came : Bool) (old : ClientState) (at_links : L) (coming : Option (List (List ℕ))) (stream : Option R) (was loss : Option Loss) (before failed : Bool) (now : LoopState L R) → loss ≡ was → failed ≡ before

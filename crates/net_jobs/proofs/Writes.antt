@@ -35,8 +35,3 @@ pub only_out : (first now new : ClientState) (left : List ℕ) → now ≡ recor
 only_out first now new left a b =
     b ∙ ap (λ (v : ClientState). record v { out = left }) a ∙ ap (λ (l : List ℕ). record first { out = l }) (sym (ap (λ (v : ClientState). v.out) b))
 
--- how many bytes went in all
-pub some_went : (taken : Bool) (before after_ : Option (List ℕ)) (out : List ℕ) → (taken ≡ true → Appends before after_ out) → (taken ≡ false → (n : ℕ) × (n < length out) × Appends before after_ (take n out))
-    → (n : ℕ) × (n ≤ length out) × Appends before after_ (take n out)
-some_went true before after_ out whole front = (length out, omega arith, subst (Appends before after_) (sym (take_all (length out) out (omega arith))) (whole refl))
-some_went false before after_ out whole front = let f = front refl in (f.0, omega (arith, f.1), f.2)

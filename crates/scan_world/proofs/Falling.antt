@@ -323,16 +323,6 @@ pub record IsPart (source : Source → SourceState) (went : Bool) (i : ℕ) (w v
   pub some : went ≡ true → 0 < length (moves_made turns)
   pub none : went ≡ false → (v ≡ w) × ((k : ℕ) → k < i → RestsAt w k)
 
-pub part_begun : (source : Source → SourceState) (w : WorldCore) → IsPart source false 0 w w
-part_begun source w = record {
-  turns = [];
-  takes = refl;
-  count = refl;
-  jobs = refl;
-  some = λ e. absurd (let clash : false ≡ true = e in cc);
-  none = λ e. (refl, λ k h. absurd (omega (arith, h)));
-}
-
 -- a move was made
 pub part_went : (source : Source → SourceState) (went : Bool) (i : ℕ) (w u v : WorldCore) → IsPart source went i w u → HasTurn source i true u v → IsPart source true (i + 1) w v
 part_went source went i w u v p t = record {
@@ -430,24 +420,8 @@ rounds_out source w v a = record { rounds = a.rounds; goes = a.goes; few = omega
 
 -- ---- the turn of a job
 
-pub turn_none_left : (source : Source → SourceState) (i : ℕ) (w : WorldCore) (n : ℕ) → n ≡ 0 → ((p : Endpoint) → slice_get w.endpoints i ≡ Some p → n ≡ moves_left_of p) → HasTurn source i false w w
-turn_none_left source i w n e is = record { turn = None; takes = (λ p at. inr (sym (is p at) ∙ e), refl); went_is = refl }
-
 pub turn_no_move : (source : Source → SourceState) (i : ℕ) (w : WorldCore) → ((p : Endpoint) → slice_get w.endpoints i ≡ Some p → IsNextMove w.daemon i p None) → HasTurn source i false w w
 turn_no_move source i w is = record { turn = None; takes = (λ p at. inl (is p at), refl); went_is = refl }
-
-turn_by : (source : Source → SourceState) (i : ℕ) (w v : WorldCore) (event : Event) (n : ℕ) (o : Option Endpoint) → slice_get w.endpoints i ≡ o → n ≢ 0 → ((p : Endpoint) → slice_get w.endpoints i ≡ Some p → n ≡ moves_left_of p) → (slice_get w.endpoints i ≡ None → n ≡ 0)
-    → ((p : Endpoint) → slice_get w.endpoints i ≡ Some p → IsNextMove w.daemon i p (Some event)) → Leads source event w v → HasTurn source i true w v
-turn_by source i w v event n None e some is none next leads = absurd (some (none e))
-turn_by source i w v event n (Some p) e some is none next leads = record {
-  turn = Some event;
-  takes = (record { endpoint = p; at = e; left = omega (arith, some, is p e); next = next p e }, leads);
-  went_is = refl;
-}
-
-pub turn_made : (source : Source → SourceState) (i : ℕ) (w v : WorldCore) (event : Event) (n : ℕ) → n ≢ 0 → ((p : Endpoint) → slice_get w.endpoints i ≡ Some p → n ≡ moves_left_of p) → (slice_get w.endpoints i ≡ None → n ≡ 0)
-    → ((p : Endpoint) → slice_get w.endpoints i ≡ Some p → IsNextMove w.daemon i p (Some event)) → Leads source event w v → HasTurn source i true w v
-turn_made source i w v event n some is none next leads = turn_by source i w v event n (slice_get w.endpoints i) refl some is none next leads
 
 -- ---- as the code goes on
 

@@ -28,10 +28,6 @@ use Rattle.scanimage_cli.specs.declared.ending.Ending.{Ending}
 use Rattle.scanimage_cli.specs.declared.planning.Destination.TheVariants.{StandardOutput, Path, Folder}
 use Rattle.scanimage_cli.specs.declared.printed.Printout.{Printout}
 
-pub on_ok : {A E P : Type 0} (result : Result A E) → P → OnOk result P
-on_ok (Ok value) is = is
-on_ok (Err fault) is = tt
-
 pub on_ok_of : {A E P Q : Type 0} (result : Result A E) → (P → Q) → OnOk result P → OnOk result Q
 on_ok_of (Ok value) so is = so is
 on_ok_of (Err fault) so is = tt
@@ -44,17 +40,9 @@ pub on_err : {A E P : Type 0} (result : Result A E) → P → OnErr result P
 on_err (Ok value) is = tt
 on_err (Err fault) is = is
 
-pub on_err_of : {A E P Q : Type 0} (result : Result A E) → (P → Q) → OnErr result P → OnErr result Q
-on_err_of (Ok value) so is = tt
-on_err_of (Err fault) so is = so is
-
 -- where nothing was written there is no file
 pub nothing_leaves_no_file : (held : Option (List ℕ)) → LeavesNoFile held held
 nothing_leaves_no_file held = λ first taken. record { text = []; taken = taken; not_whole = nothing_is_not_whole }
-
--- where no name is said it is the first device's
-pub named_first : (named : Option (List ℕ)) (infos items : List DeviceInfo) (first : DeviceInfo) (device : List ℕ) → named ≡ None → items ≡ infos → slice_get items 0 ≡ Some first → device ≡ first.name → IsDeviceNamed named infos device
-named_first named infos items first device none is head same = subst (λ n. IsDeviceNamed n infos device) (sym none) (first, ap (λ l. slice_get l 0) (sym is) ∙ head, same)
 
 -- what a job over the net did with its file at standard output
 pub ran_to_output : {L : Type 0} (views : LinkViews L) (job : Job) (host : List ℕ) (was now : SeenStreams L (Option (List ℕ))) (result : Result Printout Ending)

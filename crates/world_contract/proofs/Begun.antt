@@ -41,9 +41,6 @@ job_stays i k ds p dev Actions.Stops = refl
 pub party_stays : (s : SystemState) (j : ℕ) (x : Action) (i : ℕ) → eqb i j ≡ false → (after_transition s (By j x)).job i ≡ s.job i
 party_stays s j x i e = rw e refl
 
-pub party_now : (s : SystemState) (j : ℕ) (x : Action) (i : ℕ) → eqb i j ≡ true → (after_transition s (By j x)).job i ≡ (after_transition s (By j x)).job j
-party_now s j x i e = ap (λ (n : ℕ). (after_transition s (By j x)).job n) (eqb-true i j e)
-
 job_kept : (s : SystemState) (j : ℕ) (x : Action) (i : ℕ) (b : Bool) → eqb i j ≡ b → ((after_transition s (By j x)).job i).session.job ≡ (s.job i).session.job
 job_kept s j x i false e = ap (λ (p : JobState). p.session.job) (party_stays s j x i e)
 job_kept s j x i true e =

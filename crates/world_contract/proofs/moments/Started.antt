@@ -86,9 +86,6 @@ start_at h w changing i job n (suc k) (c ∷ begins) b all at = let same : n + 1
 
 -- ---- a step
 
-started_next : (i : ℕ) (k : Make) (ds : List ℕ) (p : JobState) (dev : AbstractDevice) (challenge : Challenge) (fault : Option FailureCounts) (q : AbstractRequest) (rest : List AbstractRequest) → (answer_next i k ds p dev challenge fault (q ∷ rest)).session.started ≡ p.session.started ++ (served_by i k ds p dev challenge fault q).begun
-started_next i k ds p dev challenge fault q rest = refl
-
 started_by : (i : ℕ) (k : Make) (ds : List ℕ) (p : JobState) (dev : AbstractDevice) (x : Action) → ((job_after_action i k ds p dev x).session.started ≡ p.session.started) ⊎ IsAnswer x
 started_by i k ds p dev Actions.Connects = inl refl
 started_by i k ds p dev (Actions.Answers challenge fault) = inr (challenge, fault, refl)

@@ -278,10 +278,6 @@ drained place job ruled past pages m old new h room d = by_task (scans job.task)
 
 -- ---- the place of a page
 
--- a client that waits for no turn needs none
-pub place_still : (endpoint : Endpoint) (pages : List JoinHistory) → turns endpoint.client.outcome endpoint.client.progress ≡ false → HasPlace endpoint pages
-place_still endpoint pages still = λ on. absurd (let clash : true ≡ false = sym on ∙ still in cc)
-
 -- and there is one behind fewer than sixteen
 pub place_few : (endpoint : Endpoint) (pages : List JoinHistory) → length pages < 16 → HasPlace endpoint pages
 place_few endpoint pages few = λ _. few

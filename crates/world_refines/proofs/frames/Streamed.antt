@@ -95,10 +95,6 @@ turn_kept Off i k p dev m = kept i dev
 
 -- ---- what is left
 
--- the session of a slot, behind the turn
-abbrev faithful_session : Core → ℕ → RequestSession DeviceState → Type 0
-faithful_session d n session = AreFaithful d → AllByRecursion IsFaithfulLease session.held
-
 session_is_true : (i : ℕ) (make : ℕ → Make) (d : Core) (n : ℕ) (table : ℕ → AbstractDevice) (s : AbstractSession) → (h : SessionRefines i make d n table s) → AreFaithful d → AllByRecursion IsFaithfulLease h.session.held
 session_is_true i make d n table s h faithful = subst IsFaithfulSession h.stands (session_true (session_slot_of d.slots n) (slot_all IsFaithfulSessionSlot d.slots n tt faithful.lent))
 

@@ -42,12 +42,6 @@ taken_left n bytes = take_some (min n 4096) bytes
 
 -- ---- a slot
 
--- it goes on, or is no more
-goes_or : (session : Option (RequestSession DeviceState)) (replies : List ℕ) (slot : SessionSlot DeviceState) → (slot_if_open session replies slot ≡ Some slot) ⊎ ((slot_if_open session replies slot ≡ None) × (session ≡ None) × (replies ≡ []))
-goes_or (Some s) replies slot = inl refl
-goes_or None [] slot = inr (refl, refl, refl)
-goes_or None (b ∷ bytes) slot = inl refl
-
 standing_number : (session : Option (RequestSession DeviceState)) (replies : List ℕ) (slot new : SessionSlot DeviceState) → slot_if_open session replies slot ≡ Some new → new.number ≡ slot.number
 standing_number (Some s) replies slot new e = ap (λ (x : SessionSlot DeviceState). x.number) (sym (unsome slot new e))
 standing_number None [] slot new e = absurd (let clash : None ≡ Some new = e in cc)

@@ -26,21 +26,3 @@ pub step_is : (s : SystemState) (i : ℕ) (r : AbstractRequest) (rest : List Abs
 step_is s i r rest challenge fault e =
     ap (λ (todo : List AbstractRequest). state_with_job s i (answer_next i (make_for s i) (listed_devices s) (s.job i) (device_for s i) challenge fault todo) (device_after_answer i (make_for s i) (listed_devices s) (s.job i) (device_for s i) challenge fault todo)) e
 
-some_request : (todo : List AbstractRequest) (r : AbstractRequest) (rest : List AbstractRequest) → todo ≡ r ∷ rest → todo ≢ []
-some_request todo r rest e = λ none. let clash : [] ≡ r ∷ rest = sym none ∙ e in absurd (cc)
-
--- it may come
-pub step_may : (s : SystemState) (i : ℕ) (r : AbstractRequest) (rest : List AbstractRequest) (challenge : Challenge) (fault : Option FailureCounts) → (s.job i).served ≡ true → (s.job i).todo ≡ r ∷ rest → MayFail (make_for s i) fault → IsEnabled s (By i (actions.Answers challenge fault))
-step_may s i r rest challenge fault served e may = (served, some_request (s.job i).todo r rest e, may)
-
--- the session goes on
-pub next_session : (i : ℕ) (make : ℕ → Make) (users : List Entry) (infos : List DeviceInfo) (job : Job) (d : RequestContext) (device : ℕ → AbstractDevice) (p : JobState) (ds : List ℕ) (q : Asked) (r : AbstractRequest) (said : RequestAnswer) (new : RequestContext) (challenge : Challenge) (fault : Option FailureCounts) → IsSession i make users infos job d device p →
-    Answers users d q said new → IsAnswered i make ds job.device device p d q r said new challenge fault → session_goes_on said ≡ true → IsSession i make users infos job new (devices_by device p (serving i make ds device p r challenge fault)) (job_after_answer p (serving i make ds device p r challenge fault))
-next_session i make users infos job d device p ds q r said new challenge fault h g a on =
-    record {
-      job_is = h.job_is;
-      infos_are = h.infos_are ∙ sym (answers_keep users d q said new g).infos;
-      apart = h.apart;
-      shows = a.behind.shows (a.behind.same_end ∙ on);
-      speaks = a.speaks on;
-    }

@@ -287,6 +287,3 @@ falters_by : (d : RequestContext) (b : Bool) (q : Asked) (new : RequestContext) 
 falters_by d true q new g = falters_greeted d d.session.awaited q new g
 falters_by d false q new g = absurd g
 
-pub falters_keep : (users : List Entry) (d : RequestContext) (q : Asked) (new : RequestContext) → RequestOutOfMemory users d q new → Keeps d new
-falters_keep users d q new (Under g) = falters_by d d.session.greeted q new g
-falters_keep users d q new (All said g) = answers_keep users d q said new g
