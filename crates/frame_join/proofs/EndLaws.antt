@@ -284,4 +284,3 @@ end_exact past v new e stands = (there, back)
     back h = end_answer past v new e stands ∙ shown_joins past v stands h.0 h.1.0 h.1.1
 
 -- ---- only an end makes a picture whole
-

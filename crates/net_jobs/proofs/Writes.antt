@@ -34,4 +34,3 @@ stopped_short first before old new left bytes n k w within bytes_is less wrote =
 pub only_out : (first now new : ClientState) (left : List ℕ) → now ≡ record first { out = now.out } → new ≡ record now { out = left } → new ≡ record first { out = new.out }
 only_out first now new left a b =
     b ∙ ap (λ (v : ClientState). record v { out = left }) a ∙ ap (λ (l : List ℕ). record first { out = l }) (sym (ap (λ (v : ClientState). v.out) b))
-

@@ -20,12 +20,12 @@ use Rattle.in_flight.proofs.Alike.{keeps_taken}
 use Rattle.in_flight.proofs.Calls.{deliveries_unseen}
 use Rattle.in_flight.proofs.Requests.{histories_alike, records_alike, replies_alike}
 use Rattle.in_flight.proofs.Slots.{Change, KeepsNumber, Slot, decide, own_slot}
-use Rattle.scan_world.specs.declared.event.JobEvent.TheVariants as events
-use Rattle.scan_world.specs.declared.endpoint.Endpoint.{Endpoint}
-use Rattle.scan_world.specs.declared.endpoint.Image.{Image}
-use Rattle.scan_world.specs.Endpoints.{after_move}
-use Rattle.scan_world.specs.FileInvariant.{FilesRepresent}
-use Rattle.scan_world.specs.JobEvents.{Can, Does, HasImage, HeedsPiece, IfLinked, TakesDataPiece, bytes_not_delivered, delivered_bytes, is_done, still_open, with_image, with_last_page, without_ended_image, without_taken}
+use Rattle.event_world.specs.declared.event.JobEvent.TheVariants as events
+use Rattle.event_world.specs.declared.endpoint.Endpoint.{Endpoint}
+use Rattle.event_world.specs.declared.endpoint.Image.{Image}
+use Rattle.event_world.specs.Endpoints.{after_move}
+use Rattle.event_world.specs.FileInvariant.{FilesRepresent}
+use Rattle.event_world.specs.JobEvents.{Can, Does, HasImage, HeedsPiece, IfLinked, TakesDataPiece, bytes_not_delivered, delivered_bytes, is_done, still_open, with_image, with_last_page, without_ended_image, without_taken}
 use Rattle.programs_refine.proofs.Giving.{Holds, drains_to, filed, filed_as, files_filed, holds_some, last_as, last_files, low_by, never_turned, running_files}
 use Rattle.programs_refine.proofs.Lists.{delivers, keeps_rest, left_of, moves_on, some_bytes, some_wait}
 use Rattle.programs_refine.proofs.Outgoing.{dialled_receives, never_both, not_over, receiving_at}

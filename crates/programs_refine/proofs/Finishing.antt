@@ -12,13 +12,13 @@ use Rattle.saned_core.specs.declared.session_slot.SessionId.{SessionId}
 use Rattle.saned_core.specs.DaemonStates.{Core, after_end_session, after_open_session, is_closed}
 use Rattle.in_flight.proofs.Slots.{decide}
 use Rattle.interleaving.specs.HandingOn.{Owner}
-use Rattle.scan_world.specs.declared.event.Event.{Event}
-use Rattle.scan_world.specs.declared.event.Event.TheVariants.{Connect, LoseControl}
-use Rattle.scan_world.specs.declared.event.JobEvent.TheVariants as events
-use Rattle.scan_world.specs.declared.endpoint.Endpoint.{Endpoint}
-use Rattle.scan_world.specs.Endpoints.{after_move, shut_out, with_link, without_link}
-use Rattle.scan_world.specs.JobEvents.{Connects, Does}
-use Rattle.scan_world.specs.Worlds.{WorldCore}
+use Rattle.event_world.specs.declared.event.Event.{Event}
+use Rattle.event_world.specs.declared.event.Event.TheVariants.{Connect, LoseControl}
+use Rattle.event_world.specs.declared.event.JobEvent.TheVariants as events
+use Rattle.event_world.specs.declared.endpoint.Endpoint.{Endpoint}
+use Rattle.event_world.specs.Endpoints.{after_move, shut_out, with_link, without_link}
+use Rattle.event_world.specs.JobEvents.{Connects, Does}
+use Rattle.event_world.specs.Worlds.{WorldCore}
 use Rattle.programs_refine.specs.WorldHistory.{AreLosses, IsLoss, LeadsBy}
 use Rattle.programs_refine.proofs.Delivered.{if_linked}
 use Rattle.programs_refine.proofs.Lists.{there}

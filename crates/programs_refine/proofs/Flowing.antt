@@ -33,7 +33,7 @@ use Rattle.saned_core.specs.Turns.{Records, StreamsFrom, StreamsIn, Turns, Turns
 use Rattle.saned_core.proofs.Apart.{apart}
 use Rattle.in_flight.proofs.Alike.{keeps_none}
 use Rattle.in_flight.proofs.Slots.{Change, KeepsNumber, Slot, decide, own_slot}
-use Rattle.scan_world.specs.JobEvents.{IsFlowing, frame_state_at}
+use Rattle.event_world.specs.JobEvents.{IsFlowing, frame_state_at}
 use Rattle.programs_refine.proofs.Delivered.{slot_was}
 
 pub flows_or_not : (f : FrameState) → IsFlowing f ⊎ (IsFlowing f → ⊥)

@@ -20,12 +20,12 @@ use Rattle.net_jobs.specs.JobJournal.JobMove.{Writes, Fails, Hears, Resumes, Pre
 use Rattle.net_jobs.specs.JobSteps.{FileGoesOn, GivesNone, GivesOut, PageEnds}
 use Rattle.in_flight.specs.Requests.{with_unheard}
 use Rattle.in_flight.proofs.Requests.{histories_alike, pages_alike}
-use Rattle.scan_world.specs.declared.endpoint.Endpoint.{Endpoint}
-use Rattle.scan_world.specs.FileDraining.{Drains, HasDrained, HasFiles, HoldsHistory, KeepsFile, RunsDry}
-use Rattle.scan_world.specs.FileInvariant.{AllLaid, FilesRepresent, HasNumber, Underway}
-use Rattle.scan_world.specs.Endpoints.{laid_by}
-use Rattle.scan_world.specs.JobEvents.{is_done, with_last_page}
-use Rattle.scan_world.proofs.Pulls.{laid_always, laid_as, laid_starved, laid_then, page_turns, set_beyond, set_here}
+use Rattle.event_world.specs.declared.endpoint.Endpoint.{Endpoint}
+use Rattle.event_world.specs.FileDraining.{Drains, HasDrained, HasFiles, HoldsHistory, KeepsFile, RunsDry}
+use Rattle.event_world.specs.FileInvariant.{AllLaid, FilesRepresent, HasNumber, Underway}
+use Rattle.event_world.specs.Endpoints.{laid_by}
+use Rattle.event_world.specs.JobEvents.{is_done, with_last_page}
+use Rattle.event_world.proofs.Pulls.{laid_always, laid_as, laid_starved, laid_then, page_turns, set_beyond, set_here}
 use Rattle.programs_refine.specs.Programs.{HasFilesOf}
 use Rattle.programs_refine.proofs.Tracks.{FilesTrack, KeepsFiles, done_is_over, has_files}
 use Rattle.programs_refine.proofs.Tracks.FilesTrack.{UnderWay, AllFinished}

@@ -24,12 +24,12 @@ use Rattle.system_model.specs.Daemon.{TransferState, Streaming, Ending}
 use Rattle.system_model.specs.Devices.{Make}
 use Rattle.system_model.specs.Transitions.{IsImaging}
 use Rattle.daemon_refines.specs.ContextRefinement.{HaveSources}
-use Rattle.scan_world.specs.declared.event.Event.{Event}
-use Rattle.scan_world.specs.declared.event.Event.TheVariants.{Connect, ToDaemon, ToClient, DataConnect, DataTurn, DataToClient, LoseControl, LoseImage, Cancel, Load, Unplug}
-use Rattle.scan_world.specs.declared.endpoint.Endpoint.{Endpoint}
-use Rattle.scan_world.specs.Endpoints.{finished_page}
-use Rattle.scan_world.specs.JobMoves.{IsNextMove, moves_left_of}
-use Rattle.scan_world.specs.Worlds.{Runs, WorldCore}
+use Rattle.event_world.specs.declared.event.Event.{Event}
+use Rattle.event_world.specs.declared.event.Event.TheVariants.{Connect, ToDaemon, ToClient, DataConnect, DataTurn, DataToClient, LoseControl, LoseImage, Cancel, Load, Unplug}
+use Rattle.event_world.specs.declared.endpoint.Endpoint.{Endpoint}
+use Rattle.event_world.specs.Endpoints.{finished_page}
+use Rattle.event_world.specs.JobMoves.{IsNextMove, moves_left_of}
+use Rattle.event_world.specs.Worlds.{Runs, WorldCore}
 use Rattle.world_refines.specs.GhostStates.{Ghost, place_of_info}
 use Rattle.world_refines.specs.MainTheorem.{AreFittingLoads, AreTrueLoads, EventsFollow}
 use Rattle.world_refines.specs.NewWorlds.{HaveSourcesAt, IsNewDaemon, NewWorldsRefine, PageSources, initial_ghost, make_of}
@@ -37,10 +37,10 @@ use Rattle.world_refines.specs.Wires.{FlightMatches}
 use Rattle.world_refines.specs.WorldRefinement.{IsServed, WorldRefines, session_by}
 use Rattle.world_refines.proofs.frames.Dialling.{wants_imaging}
 use Rattle.world_refines.proofs.frames.TurnEvents.{Started, started_by}
-use Rattle.world_contract.specs.Calls.{AnswersAre, MovesNext, finished_by, is_starved, moves_answered}
-use Rattle.world_contract.specs.Histories.{History, LedTo}
-use Rattle.world_contract.specs.Laws.{AllIsRight}
-use Rattle.world_contract.specs.Promise.{CountIsKept, FileIsKept, JobAnswers, OutcomeIsKept, PageIsKept}
+use Rattle.scan_world.specs.Calls.{AnswersAre, MovesNext, finished_by, is_starved, moves_answered}
+use Rattle.scan_world.specs.Histories.{History, LedTo}
+use Rattle.scan_world.specs.Laws.{AllIsRight}
+use Rattle.scan_world.specs.Promise.{CountIsKept, FileIsKept, JobAnswers, OutcomeIsKept, PageIsKept}
 use Rattle.programs_refine.specs.Keeping.{history_of, AllLoopsAreKept, AreFit, LoopIsKept, ProgramsKeepAll, StoppedIsKept, WorldsHearInTurn, WorldsWantBeforeItFlows}
 use Rattle.programs_refine.specs.Programs.{Acts, ComeToAWorld, EndsAlike, HasFilesOf, IsWorldOf, StopsAlike}
 use Rattle.programs_refine.specs.WorldHistory.{AreLosses, AreOfConnections, IsLoss, IsOfConnections, LeadsBy, WantsBeforeItFlows}

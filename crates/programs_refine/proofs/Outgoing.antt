@@ -9,7 +9,7 @@ use Rattle.client_replies.specs.declared.progress.Link.TheVariants as links
 use Rattle.client_replies.specs.ProtocolStates.{is_imaging, is_lost_by, is_receiving, is_running, wanted_port}
 use Rattle.net_client.specs.ClientStates.{ClientState}
 use Rattle.net_jobs.specs.JobJournal.{DialsPort, after_loss}
-use Rattle.scan_world.specs.Endpoints.{with_data_opened}
+use Rattle.event_world.specs.Endpoints.{with_data_opened}
 use Rattle.programs_refine.proofs.Lists.{more_behind}
 use Rattle.programs_refine.proofs.Tracks.{Follows, OutTracks, lost_outcome, with_out}
 use Rattle.programs_refine.proofs.Tracks.Follows.{Alike, Dialled, Lost, Cut}

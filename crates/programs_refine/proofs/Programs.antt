@@ -8,9 +8,9 @@ use Rattle.net_client.specs.ClientStates.{ClientState}
 use Rattle.net_jobs.specs.JobSteps.{JobStep, StepsLead, files_by_steps, given_by_steps}
 use Rattle.saned_serve.specs.Journal.{DaemonRuns, IsJournal, LoopAction}
 use Rattle.interleaving.specs.Interleavings.{job_journal}
-use Rattle.scan_world.specs.JobEvents.{is_done}
-use Rattle.scan_world.specs.Worlds.{WorldCore}
-use Rattle.scan_world.specs.declared.endpoint.Endpoint.{Endpoint}
+use Rattle.event_world.specs.JobEvents.{is_done}
+use Rattle.event_world.specs.Worlds.{WorldCore}
+use Rattle.event_world.specs.declared.endpoint.Endpoint.{Endpoint}
 use Rattle.programs_refine.specs.Programs.{Acts, EndsAlike, ProgramsAreAWorld, StopsAlike}
 use Rattle.programs_refine.proofs.Finishing.{finish_all}
 use Rattle.programs_refine.proofs.Passed.{traffics_of}

@@ -12,8 +12,8 @@ use Rattle.net_jobs.specs.JobJournal.JobMove.{Writes, Fails, Hears, Resumes, Pre
 use Rattle.net_jobs.specs.JobSteps.{is_failed_write}
 use Rattle.interleaving.specs.Interleavings.{heard_with, made_with, sent_with, taken_with}
 use Rattle.interleaving.specs.HandingOn.{Owner}
-use Rattle.scan_world.specs.declared.endpoint.Endpoint.{Endpoint}
-use Rattle.scan_world.specs.Endpoints.{IsNew}
+use Rattle.event_world.specs.declared.endpoint.Endpoint.{Endpoint}
+use Rattle.event_world.specs.Endpoints.{IsNew}
 use Rattle.programs_refine.specs.StepTraffic.{traffic_of_move}
 use Rattle.programs_refine.proofs.Outgoing.{dials_once, follows_dialled, follows_loss, follows_lost, follows_out, loss_out, never_both, not_over, out_failed, out_written, runs_by}
 use Rattle.programs_refine.proofs.Passed.{Passed, Traffics, traffics_after}

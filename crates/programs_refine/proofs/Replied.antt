@@ -17,11 +17,11 @@ use Rattle.saned_core.specs.Turns.{Turns}
 use Rattle.saned_serve.specs.SessionActions.{is_end_record, written_by}
 use Rattle.saned_serve.specs.Journal.{IsFront}
 use Rattle.saned_serve.proofs.ActionSteps.{or_false}
-use Rattle.scan_world.specs.declared.event.JobEvent.TheVariants as events
-use Rattle.scan_world.specs.declared.endpoint.Endpoint.{Endpoint}
-use Rattle.scan_world.specs.declared.endpoint.Image.{Image}
-use Rattle.scan_world.specs.Endpoints.{after_link_loss, after_move, with_data_opened, with_image_link, without_image_link, without_link}
-use Rattle.scan_world.specs.JobEvents.{Can, Does, FeedsPiece, IsFlowing, SendsStep, TakesTurn, after_fed, bytes_not_delivered, frame_state_at, image_lost, with_data_record, with_image, without_sent}
+use Rattle.event_world.specs.declared.event.JobEvent.TheVariants as events
+use Rattle.event_world.specs.declared.endpoint.Endpoint.{Endpoint}
+use Rattle.event_world.specs.declared.endpoint.Image.{Image}
+use Rattle.event_world.specs.Endpoints.{after_link_loss, after_move, with_data_opened, with_image_link, without_image_link, without_link}
+use Rattle.event_world.specs.JobEvents.{Can, Does, FeedsPiece, IsFlowing, SendsStep, TakesTurn, after_fed, bytes_not_delivered, frame_state_at, image_lost, with_data_record, with_image, without_sent}
 use Rattle.programs_refine.proofs.Delivered.{if_linked}
 use Rattle.programs_refine.proofs.Flowing.{waits_as}
 use Rattle.programs_refine.proofs.Lists.{delivers, keeps_rest, left_of, more_behind, moves_on, some_bytes, some_wait}

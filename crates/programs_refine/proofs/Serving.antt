@@ -31,14 +31,14 @@ use Rattle.in_flight.proofs.Feeding.{feeds_alike}
 use Rattle.in_flight.proofs.Places.{a_place_is_left}
 use Rattle.in_flight.proofs.Slots.{Change, Slot, decide, none_free, opened_other, own_slot, unused}
 use Rattle.interleaving.specs.HandingOn.{HaveOneSession, Owner}
-use Rattle.scan_world.specs.declared.event.Event.{Event}
-use Rattle.scan_world.specs.declared.event.Event.TheVariants as world
-use Rattle.scan_world.specs.declared.event.JobEvent.{JobEvent}
-use Rattle.scan_world.specs.declared.event.JobEvent.TheVariants as events
-use Rattle.scan_world.specs.declared.endpoint.Endpoint.{Endpoint}
-use Rattle.scan_world.specs.Endpoints.{after_move, with_link}
-use Rattle.scan_world.specs.JobEvents.{Can, Connects, Does, IsFlowing, frame_state_at, image_lost}
-use Rattle.scan_world.specs.Worlds.{AtEndpoint, Leads, WorldCore}
+use Rattle.event_world.specs.declared.event.Event.{Event}
+use Rattle.event_world.specs.declared.event.Event.TheVariants as world
+use Rattle.event_world.specs.declared.event.JobEvent.{JobEvent}
+use Rattle.event_world.specs.declared.event.JobEvent.TheVariants as events
+use Rattle.event_world.specs.declared.endpoint.Endpoint.{Endpoint}
+use Rattle.event_world.specs.Endpoints.{after_move, with_link}
+use Rattle.event_world.specs.JobEvents.{Can, Connects, Does, IsFlowing, frame_state_at, image_lost}
+use Rattle.event_world.specs.Worlds.{AtEndpoint, Leads, WorldCore}
 use Rattle.programs_refine.specs.WorldHistory.{AlwaysHearsInTurn, AlwaysWantsBeforeItFlows, IsOfConnections, LeadsBy}
 use Rattle.programs_refine.proofs.Delivered.{slot_was}
 use Rattle.programs_refine.proofs.Flowing.{feeds_flow, flows_or_not, frame_apart, frame_same, last_ends, lost_ends, loses_nothing, on_number, turn_apart, turn_slots, turns_nothing}

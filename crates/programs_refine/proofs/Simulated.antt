@@ -16,9 +16,9 @@ use Rattle.interleaving.specs.Interleavings.{job_journal, server_journal}
 use Rattle.interleaving.specs.Interleavings.JointAction.{OfJob, OfServer}
 use Rattle.interleaving.specs.HandingOn.{HandsOn, Owner}
 use Rattle.interleaving.proofs.Sooner.{of_other}
-use Rattle.scan_world.specs.FileInvariant.{AllFilesRepresent}
-use Rattle.scan_world.specs.Worlds.{WorldCore}
-use Rattle.scan_world.proofs.Events.{stands_run}
+use Rattle.event_world.specs.FileInvariant.{AllFilesRepresent}
+use Rattle.event_world.specs.Worlds.{WorldCore}
+use Rattle.event_world.proofs.Events.{stands_run}
 use Rattle.programs_refine.specs.StepTraffic.{traffic_of}
 use Rattle.programs_refine.specs.Programs.{Acts, HasOpenedNone, LostBringNoMore}
 use Rattle.programs_refine.proofs.Passed.{Traffics, own_journal, passed_of, passes_full, passes_refuses, passes_stops, passes_turned, passes_waits, traffics_of, traffics_on}

@@ -28,11 +28,11 @@ use Rattle.interleaving.specs.Interleavings.JointAction.{OfJob, OfServer}
 use Rattle.interleaving.specs.Interleavings.Traffic.{Writes as WritesBytes, Reads as ReadsBytes, Dials as MakesConnection, Takes as TakesBytes, NoTraffic}
 use Rattle.interleaving.specs.HandingOn.{HandsOn, HaveOneSession, MayMove, MayServe, Owner}
 use Rattle.interleaving.proofs.Fronts.{reads_written}
-use Rattle.scan_world.specs.declared.endpoint.Endpoint.{Endpoint}
-use Rattle.scan_world.specs.Endpoints.{budget_of, no_pages}
-use Rattle.scan_world.specs.FileInvariant.{AllFilesRepresent}
-use Rattle.scan_world.specs.Worlds.{AreNew}
-use Rattle.scan_world.proofs.Events.{new_posts}
+use Rattle.event_world.specs.declared.endpoint.Endpoint.{Endpoint}
+use Rattle.event_world.specs.Endpoints.{budget_of, no_pages}
+use Rattle.event_world.specs.FileInvariant.{AllFilesRepresent}
+use Rattle.event_world.specs.Worlds.{AreNew}
+use Rattle.event_world.proofs.Events.{new_posts}
 use Rattle.programs_refine.specs.StepTraffic.{traffic_of}
 use Rattle.programs_refine.specs.Programs.{Acts, BringsNoMore, HasOpenedNone}
 use Rattle.programs_refine.proofs.Passed.{Passed, Traffics, has_starved, is_starved, starved_with, no_traffics, only_sent, passed_after, passed_first, passed_of, passes_full, passes_other, passes_own, passes_refuses, passes_stops, passes_turned, passes_waits, traffics_of}

@@ -16,12 +16,12 @@ use Rattle.in_flight.proofs.Calls.{frames_alike, other_flying, own_flying}
 use Rattle.interleaving.specs.Interleavings.{Traffic}
 use Rattle.interleaving.specs.Interleavings.Traffic.{Reads as ReadsBytes, Takes as TakesBytes}
 use Rattle.interleaving.specs.HandingOn.{HaveOneSession, Owner}
-use Rattle.scan_world.specs.declared.event.JobEvent.TheVariants as events
-use Rattle.scan_world.specs.declared.endpoint.Endpoint.{Endpoint}
-use Rattle.scan_world.specs.Endpoints.{IsNew}
-use Rattle.scan_world.specs.FileInvariant.{AllFilesRepresent}
-use Rattle.scan_world.specs.JobEvents.{IsFlowing}
-use Rattle.scan_world.specs.Worlds.{WorldCore}
+use Rattle.event_world.specs.declared.event.JobEvent.TheVariants as events
+use Rattle.event_world.specs.declared.endpoint.Endpoint.{Endpoint}
+use Rattle.event_world.specs.Endpoints.{IsNew}
+use Rattle.event_world.specs.FileInvariant.{AllFilesRepresent}
+use Rattle.event_world.specs.JobEvents.{IsFlowing}
+use Rattle.event_world.specs.Worlds.{WorldCore}
 use Rattle.world_refines.proofs.state.ListEntries.{nil_both}
 use Rattle.programs_refine.specs.WorldHistory.{AlwaysHearsInTurn}
 use Rattle.programs_refine.specs.StepTraffic.{traffic_of}

@@ -19,9 +19,9 @@ use Rattle.interleaving.specs.Interleavings.JointAction.{OfJob, OfServer}
 use Rattle.interleaving.specs.Interleavings.Traffic.{Writes as WritesBytes, Reads as ReadsBytes, Dials as MakesConnection, Takes as TakesBytes, NoTraffic}
 use Rattle.interleaving.specs.HandingOn.{HandsOn, IsHandedOn, MayMove, MayServe, Owner}
 use Rattle.interleaving.proofs.Sooner.{of_other}
-use Rattle.scan_world.specs.Worlds.{WorldCore}
-use Rattle.world_contract.specs.Histories.{History}
-use Rattle.world_contract.specs.Promise.{PageIsKept}
+use Rattle.event_world.specs.Worlds.{WorldCore}
+use Rattle.scan_world.specs.Histories.{History}
+use Rattle.scan_world.specs.Promise.{PageIsKept}
 use Rattle.programs_refine.specs.StepTraffic.{traffic_of}
 use Rattle.programs_refine.specs.Programs.{Acts, BringsNoMore, HasFilesOf, IsDoneBatch, LostBringNoMore, RunOverConnections, WentOut}
 use Rattle.programs_refine.specs.Keeping.{LoopIsKept, ProgramsKeepAll, StoppedIsKept, history_of}

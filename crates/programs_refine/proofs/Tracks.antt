@@ -18,13 +18,13 @@ use Rattle.saned_core.specs.declared.session_slot.SessionId.{SessionId}
 use Rattle.saned_core.specs.DaemonStates.{Core, session_slot_of}
 use Rattle.in_flight.specs.InFlight.{DiffersInFlight}
 use Rattle.interleaving.specs.HandingOn.{Owner}
-use Rattle.scan_world.specs.declared.event.Event.{Event}
-use Rattle.scan_world.specs.declared.event.JobEvent.{JobEvent}
-use Rattle.scan_world.specs.declared.endpoint.Endpoint.{Endpoint}
-use Rattle.scan_world.specs.declared.endpoint.Image.{Image}
-use Rattle.scan_world.specs.Endpoints.{IsNew, after_link_loss, with_data_opened}
-use Rattle.scan_world.specs.JobEvents.{Can, Does, Happens, IsFlowing, frame_state_at, is_done}
-use Rattle.scan_world.specs.Worlds.{AtEndpoint, Leads, Runs, WorldCore}
+use Rattle.event_world.specs.declared.event.Event.{Event}
+use Rattle.event_world.specs.declared.event.JobEvent.{JobEvent}
+use Rattle.event_world.specs.declared.endpoint.Endpoint.{Endpoint}
+use Rattle.event_world.specs.declared.endpoint.Image.{Image}
+use Rattle.event_world.specs.Endpoints.{IsNew, after_link_loss, with_data_opened}
+use Rattle.event_world.specs.JobEvents.{Can, Does, Happens, IsFlowing, frame_state_at, is_done}
+use Rattle.event_world.specs.Worlds.{AtEndpoint, Leads, Runs, WorldCore}
 use Rattle.in_flight.proofs.Slots.{decide}
 use Rattle.programs_refine.specs.Programs.{HasFilesOf}
 use Rattle.programs_refine.specs.WorldHistory.{AreOfConnections, IsOfConnections, LeadsBy}

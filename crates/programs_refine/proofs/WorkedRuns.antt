@@ -7,7 +7,7 @@ use Rattle.rand_chacha.specs.ChaCha.{ChaCha}
 use Rattle.md5_auth.specs.declared.users.Entry.{Entry}
 use Rattle.device_api.specs.State.{DeviceState}
 use Rattle.dispatch.specs.Table.{Table, fresh_table}
-use Rattle.scan_world.specs.Worlds.{IsFitJob}
+use Rattle.event_world.specs.Worlds.{IsFitJob}
 use Rattle.programs_refine.specs.Keeping.{ProgramsKeepAll}
 use Rattle.scan_job.specs.declared.job.Job.{Job}
 use Rattle.scan_job.specs.JobSize.{HasCount}

@@ -12,11 +12,11 @@ use Rattle.net_jobs.specs.JobSteps.{files_by_steps, given_by_steps}
 use Rattle.saned_core.specs.DaemonStates.{Core}
 use Rattle.interleaving.specs.Interleavings.{job_journal}
 use Rattle.interleaving.specs.HandingOn.{Owner}
-use Rattle.scan_world.specs.declared.event.Event.{Event}
-use Rattle.scan_world.specs.Worlds.{IsFitJob, WorldCore}
+use Rattle.event_world.specs.declared.event.Event.{Event}
+use Rattle.event_world.specs.Worlds.{IsFitJob, WorldCore}
 use Rattle.world_refines.specs.NewWorlds.{IsNewDaemon}
-use Rattle.world_contract.specs.Histories.{History, LedTo}
-use Rattle.world_contract.specs.Promise.{CountIsKept, FileIsKept, OutcomeIsKept, PageIsKept}
+use Rattle.scan_world.specs.Histories.{History, LedTo}
+use Rattle.scan_world.specs.Promise.{CountIsKept, FileIsKept, OutcomeIsKept, PageIsKept}
 use Rattle.programs_refine.specs.Programs.{Acts, EndsAlike, IsWorldOf, RunOverConnections, StopsAlike}
 use Rattle.programs_refine.specs.WorldHistory.{AlwaysHearsInTurn, AlwaysWantsBeforeItFlows, AreOfConnections}
 

@@ -9,7 +9,7 @@ use Rattle.sane_fixed.specs.declared.status.Status.TheVariants as statuses
 use Rattle.scan_job.specs.declared.outcome.Outcome.{Outcome}
 use Rattle.scan_job.specs.declared.outcome.Outcome.TheVariants.{Ended}
 use Rattle.scan_job.specs.declared.outcome.Why.TheVariants as whys
-use Rattle.scan_world.specs.JobEvents.{is_done}
+use Rattle.event_world.specs.JobEvents.{is_done}
 use Rattle.scan_job.specs.JobSize.{HasCount}
 use Rattle.client_replies.specs.ProtocolStates.{is_batch, is_running}
 use Rattle.net_client.specs.ClientStates.{ClientState, IsNewClient}
@@ -22,9 +22,9 @@ use Rattle.interleaving.specs.Interleavings.{JointAction, Traffic, job_journal, 
 use Rattle.interleaving.specs.Interleavings.JointAction.{OfJob, OfServer}
 use Rattle.interleaving.specs.Interleavings.Traffic.{Takes}
 use Rattle.interleaving.specs.HandingOn.{HandsOn, HaveOneSession, Owner}
-use Rattle.scan_world.specs.declared.event.Event.{Event}
-use Rattle.scan_world.specs.declared.endpoint.Endpoint.{Endpoint}
-use Rattle.scan_world.specs.Worlds.{AreNew, Runs, WorldCore}
+use Rattle.event_world.specs.declared.event.Event.{Event}
+use Rattle.event_world.specs.declared.endpoint.Endpoint.{Endpoint}
+use Rattle.event_world.specs.Worlds.{AreNew, Runs, WorldCore}
 use Rattle.programs_refine.specs.StepTraffic.{traffic_of}
 use Rattle.programs_refine.specs.WorldHistory.{AlwaysHearsInTurn, AlwaysWantsBeforeItFlows, AreLosses, LeadsBy}
 

@@ -11,9 +11,9 @@ use Rattle.saned_serve.specs.ListenerTraces.{ListenerTrace}
 use Rattle.saned_serve.specs.Journal.{JournalLeads}
 use Rattle.interleaving.specs.Interleavings.{job_journal, server_journal}
 use Rattle.interleaving.specs.HandingOn.{HandsOn, Owner}
-use Rattle.scan_world.specs.declared.event.Event.{Event}
-use Rattle.scan_world.specs.Worlds.{WorldCore}
-use Rattle.world_contract.specs.Histories.{LedTo}
+use Rattle.event_world.specs.declared.event.Event.{Event}
+use Rattle.event_world.specs.Worlds.{WorldCore}
+use Rattle.scan_world.specs.Histories.{LedTo}
 use Rattle.programs_refine.specs.StepTraffic.{traffic_of}
 use Rattle.programs_refine.specs.Programs.{Acts, HasOpenedNone, LostBringNoMore, OwnersAreJobs}
 use Rattle.programs_refine.specs.WorldHistory.{AreOfConnections}

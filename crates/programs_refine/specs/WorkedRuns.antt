@@ -23,7 +23,7 @@ use Rattle.saned_serve.specs.SessionActions.SessionAction.{Feed, Hears, Opens, T
 use Rattle.saned_serve.specs.Journal.LoopAction.{Of}
 use Rattle.interleaving.specs.Interleavings.JointAction.{OfJob, OfServer}
 use Rattle.interleaving.specs.HandingOn.{Owner}
-use Rattle.scan_world.specs.Worlds.{IsFitJob}
+use Rattle.event_world.specs.Worlds.{IsFitJob}
 use Rattle.programs_refine.specs.Keeping.{AllLoopsAreKept, AreFit}
 use Rattle.programs_refine.specs.Programs.{Acts, RunOverConnections}
 

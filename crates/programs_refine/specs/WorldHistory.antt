@@ -5,13 +5,13 @@ use Rattle.page_picture.specs.declared.sources.kinds.Source.{Source}
 use Rattle.saned_core.specs.declared.session_slot.SessionId.{SessionId}
 use Rattle.client_replies.specs.ProtocolStates.{is_running, wanted_port}
 use Rattle.net_client.specs.ClientStates.{HasEarlyReply}
-use Rattle.scan_world.specs.declared.event.Event.{Event}
-use Rattle.scan_world.specs.declared.event.Event.TheVariants.{Connect, ToDaemon, ToClient, DataConnect, DataTurn}
-use Rattle.scan_world.specs.declared.event.Event.TheVariants.{DataToClient, LoseControl, LoseImage, Cancel, Load}
-use Rattle.scan_world.specs.declared.event.Event.TheVariants.{Unplug}
-use Rattle.scan_world.specs.declared.endpoint.Endpoint.{Endpoint}
-use Rattle.scan_world.specs.JobEvents.{IsFlowing, frame_state_at}
-use Rattle.scan_world.specs.Worlds.{Runs, WorldCore}
+use Rattle.event_world.specs.declared.event.Event.{Event}
+use Rattle.event_world.specs.declared.event.Event.TheVariants.{Connect, ToDaemon, ToClient, DataConnect, DataTurn}
+use Rattle.event_world.specs.declared.event.Event.TheVariants.{DataToClient, LoseControl, LoseImage, Cancel, Load}
+use Rattle.event_world.specs.declared.event.Event.TheVariants.{Unplug}
+use Rattle.event_world.specs.declared.endpoint.Endpoint.{Endpoint}
+use Rattle.event_world.specs.JobEvents.{IsFlowing, frame_state_at}
+use Rattle.event_world.specs.Worlds.{Runs, WorldCore}
 
 -- no job is given up, no page laid in and no device taken out
 abbrev pub IsOfConnections : Event → Type 0

@@ -10,9 +10,9 @@ mod stopped_loops;
 mod worked_runs;
 
 pub use led_into::{loops_lead, loops_lead_into_runs};
+use scan_world::all_is_right;
 pub use stopped_loops::programs_keep_each;
 pub use worked_runs::{a_run_is_kept, there_are_runs};
-use world_contract::all_is_right;
 use world_refines::{a_new_world_refines, a_run_refines};
 
 /// Whatever a server and any number of jobs' loops did over connections, in one order, some events of connections lead the new world

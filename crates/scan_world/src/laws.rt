@@ -1,63 +1,108 @@
-//! Laws of worlds.
+//! The laws.
 
-ghost use Rattle.std.specs.Prelude.{ℕ, ◌≡◌, ◌-◌, ◌<◌, ◌≤◌, List, Some, None, true, false, slice_get};
-ghost use Rattle.page_picture.specs.Source.{SourceState};
-ghost use Rattle.page_picture.specs.declared.sources.kinds.Source.{Source};
-ghost use Rattle.netpbm.specs.Pnm.{IsWhole};
-ghost use Rattle.scan_job.specs.declared.job.Job.{Job};
-ghost use Rattle.scan_job.specs.declared.job.Task.TheVariants as tasks;
-ghost use Rattle.saned_core.specs.DaemonStates.{Core};
-ghost use Rattle.scan_world.specs.declared.event.Event.{Event};
-ghost use Rattle.scan_world.specs.declared.event.JobEvent.{JobEvent};
-ghost use Rattle.scan_world.specs.declared.endpoint.Endpoint.{Endpoint};
-ghost use Rattle.scan_world.specs.JobEvents.{Can, Happens, is_done};
-ghost use Rattle.scan_world.specs.JobMoves.{IsNextMove, moves_left_of};
-ghost use Rattle.scan_world.specs.Endpoints.{finished_page};
-ghost use Rattle.scan_world.specs.Rounds.{RestsAt};
-ghost use Rattle.scan_world.specs.FileInvariant.{AllFilesRepresent, FilesRepresent, IsFileOf};
-ghost use Rattle.scan_world.specs.Worlds.{AreNew, Leads, MayRun, Runs, WorldCore};
+ghost use Rattle.std.specs.Prelude.{List};
+ghost use Rattle.page_picture.specs.SourceView.{source_state};
+ghost use Rattle.event_world.specs.declared.event.Event.{Event};
+ghost use Rattle.event_world.specs.Worlds.{Runs, WorldCore};
+ghost use Rattle.scan_world.specs.Calls.{CancelEnds, MoveLowers, MovesFall, OthersStay, OverStays, StarvedStays};
+ghost use Rattle.scan_world.specs.Clear.{AllAreListed, ClearsBy, FeederIsClear, PlainIsClear};
+ghost use Rattle.scan_world.specs.Laws.{AllFollow, AllIsRight, Below};
+ghost use Rattle.scan_world.specs.Trays.{TraysAreTaken};
 
-pub fn files_are_represented()
-    /// In a new world, and behind any events, the files of each job are those of what its client was told.
-    ensures new { (jobs : List Job) (endpoints : List Endpoint)
-        → MayRun jobs → AreNew jobs endpoints → AllFilesRepresent endpoints }
-    ensures run { (source : Source → SourceState) (events : List Event) (w v : WorldCore)
-        → Runs source events w v → AllFilesRepresent w.endpoints → AllFilesRepresent v.endpoints }
+use system_model::{
+    causes_are_grounded, every_history_keeps_the_invariant, marks_are_enabled, notes_are_true,
+    outcomes_last, settings_mean_the_same,
+};
+use world_refines::{
+    a_new_world_refines, a_run_refines, a_scan_is_meant, all_is_kept, losses_are_explained,
+    outcomes_are_right, pages_are_meant,
+};
+
+/// What the laws below come to.
+#[tactic(none)]
+pub fn all_follow()
+    ensures right { AllFollow }
+    ensures listed { Below → AllAreListed }
+    ensures taken { Below → TraysAreTaken }
+    ensures clear { Below → (events : List Event) (w v : WorldCore) → ClearsBy events w v }
 {}
 
-/// What these files tell: that of a finished page is whole, and of the picture that the page's frames show, and so is that of a
-/// scan that is done. The file under way of a job that is not done is never whole. Where there is none a growth was refused.
-pub fn files_tell()
-    /// Each finished page of a batch is a whole file of the picture that the page's frames show, and so is the file
-    /// of a scan that is done.
-    ensures page { (p : Endpoint) (k : ℕ) (file : List ℕ)
-        → FilesRepresent p → finished_page p k ≡ Some file → IsFileOf file }
-    ensures scan { (p : Endpoint) (file : List ℕ) → FilesRepresent p → p.task ≡ tasks.Scan
-        → is_done p.client.outcome ≡ true → p.file ≡ Some file → IsFileOf file }
-    /// The file under way of a job that is not done is never whole, and a file is none only where the job is told as
-    /// out of memory.
-    ensures short { (p : Endpoint) (file : List ℕ) → FilesRepresent p
-        → is_done p.client.outcome ≡ false → p.file ≡ Some file → IsWhole file → ⊥ }
-    ensures none { (p : Endpoint) → FilesRepresent p → p.file ≡ None → p.out_of_memory ≡ true }
-    ensures no_page { (p : Endpoint) (k : ℕ) → FilesRepresent p
-        → 0 < k → k ≤ p.finished → k ≤ 16 → finished_page p k ≡ None → p.out_of_memory ≡ true }
+/// The laws of the crates below.
+#[tactic(none)]
+pub(crate) fn what_stands_below()
+    ensures { Below }
+{
+    all_is_kept();
+    a_new_world_refines();
+    a_run_refines();
+    outcomes_are_right();
+    losses_are_explained();
+    a_scan_is_meant();
+    pages_are_meant();
+    notes_are_true();
+    every_history_keeps_the_invariant();
+    marks_are_enabled();
+    outcomes_last();
+    causes_are_grounded();
+    settings_mean_the_same();
+}
+
+/// ALL IS KEPT: what the calls of a world answer of each job is right, whatever was handed to it, in whatever order and pieces.
+#[tactic(none)]
+pub fn all_is_right()
+    /// All of it at once, of what the calls answer of one job.
+    /// Carried by: `all_is_right`: `JobIsKept`
+    ensures { AllIsRight }
+{
+    what_stands_below();
+}
+
+/// A job that is over keeps what it shows, one that no event came to is as it was, moves never come back, an event of a job that can
+/// happen lowers its moves, and a cancel ends a job that runs.
+#[tactic(none)]
+pub fn jobs_end_once()
+    ensures over { (events : List Event) (w v : WorldCore)
+        → Runs source_state events w v → OverStays w v }
+    ensures others { (events : List Event) (w v : WorldCore)
+        → Runs source_state events w v → OthersStay events w v }
+    ensures starved { (events : List Event) (w v : WorldCore)
+        → Runs source_state events w v → StarvedStays w v }
+    ensures moves { (events : List Event) (w v : WorldCore)
+        → Runs source_state events w v → MovesFall w v }
+    ensures lowers { (events : List Event) (w v : WorldCore)
+        → Runs source_state events w v → MoveLowers events w v }
+    ensures cancel { (events : List Event) (w v : WorldCore)
+        → Runs source_state events w v → CancelEnds events w v }
 {}
 
-/// What happens to a job takes one from the moves that it may still take, and no event raises them.
-pub fn moves_fall()
-    ensures spent { (d e : Core) (p q : Endpoint) (job_event : JobEvent)
-        → Can d p job_event → Happens d p job_event e q → q.budget ≡ p.budget - 1 }
-    ensures less { (d e : Core) (p q : Endpoint) (job_event : JobEvent) → 0 < moves_left_of p
-        → Can d p job_event → Happens d p job_event e q → moves_left_of q < moves_left_of p }
-    ensures never_more { (source : Source
-        → SourceState) (event : Event) (w v : WorldCore) (i : ℕ) (p q : Endpoint)
-        → Leads source event w v → slice_get w.endpoints i ≡ Some p
-        → slice_get v.endpoints i ≡ Some q → moves_left_of q ≤ moves_left_of p }
+/// A job in whose way nothing stands.
+#[tactic(none)]
+pub fn a_plain_job_is_clear()
+    /// As a world is new, a job without settings is clear that is alone on a flatbed whose page means a picture at its
+    /// defaults, where its source cannot fail, and its password is right, if a line of the users names its backend.
+    /// Carried by: `flatbed` of `a_plain_job_is_clear`
+    ///
+    /// So it is on a feeder with one page at least, where this is so of each of its pages.
+    /// Carried by: `feeder` of `a_plain_job_is_clear`
+    ensures flatbed { PlainIsClear }
+    ensures feeder { FeederIsClear }
 {}
 
-/// A job that rests behind all rounds has no next move, as long as it has moves left.
-pub fn rest_is_quiet()
-    ensures { (w : WorldCore) (i : ℕ) (p : Endpoint) (event : Event)
-        → RestsAt w i → slice_get w.endpoints i ≡ Some p
-        → IsNextMove w.daemon i p (Some event) → moves_left_of p ≡ 0 }
-{}
+/// What becomes of a tray.
+#[tactic(none)]
+pub fn trays_are_taken()
+    /// As a job asks for a start while so many of its pages are finished, a feeder which it alone names, and into which no
+    /// event laid a page, has at rest the pages of its first tray but as many; and there were as many in it.
+    ensures { TraysAreTaken }
+{
+    what_stands_below();
+}
+
+/// Where no event took a device out.
+#[tactic(none)]
+pub fn all_are_listed()
+    /// In a world with a job, to which no event led that took a device out, all devices are listed, once, in their order.
+    ensures { AllAreListed }
+{
+    what_stands_below();
+}

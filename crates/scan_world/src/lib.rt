@@ -1,19 +1,18 @@
-//! One daemon and the clients of some jobs, and what may happen to them, event by event.
+//! Worlds whose calls carry what is promised, in the words of those who hand them jobs.
 #![tactic(auto)]
 
-mod devices;
-mod draining;
-mod endpoint;
-mod event;
-mod file;
-mod job_events;
+mod example;
 mod laws;
-mod moves;
+mod lies;
 mod world;
-mod world_fault;
 
-pub use devices::parts_of;
-pub use event::Event;
-pub use laws::{files_are_represented, files_tell, moves_fall, rest_is_quiet};
-pub use world::{Endpoints, World};
-pub use world_fault::WorldFault;
+pub use event_world::{Event, WorldFault};
+pub use example::{scan_beside, scan_once, scan_with_another};
+pub use laws::{
+    a_plain_job_is_clear, all_are_listed, all_is_right, jobs_end_once, trays_are_taken,
+};
+pub use lies::{
+    a_file_is_no_lie, a_holder_is_no_lie, a_move_is_no_lie, a_refusal_is_no_lie,
+    a_report_is_no_lie, a_run_is_no_lie, an_ending_is_no_lie,
+};
+pub use world::World;

@@ -1,271 +1,431 @@
-//! One daemon and the clients of some jobs.
+//! A world, whose calls carry what is promised.
 
-ghost use Rattle.std.specs.Prelude.{◌≡◌, ◌↔◌, Some, None, All, false, IfOk, IfErr, IfSome, IsNone, IsTrue, OnOk, min, option_and_then, option_map, slice_get};
-ghost use Rattle.scan_world.specs.declared.endpoint.Endpoint.{Endpoint};
-ghost use Rattle.scan_world.specs.Endpoints.{finished_page};
-ghost use Rattle.scan_world.specs.Worlds.{AreNew, AtEndpoint, HasWorldFault, IsFitJob, Leads, MayRun, Runs, seen_world};
+ghost use Rattle.std.specs.Prelude.{ℕ, ◌≡◌, ◌≢◌, ◌<◌, ◌≤◌, All, IfErr, IfOk, IfSome, IsSome, None, OnOk, Some, false, map, option_map};
+ghost use Rattle.device_api.specs.ScannerLimits.{HasLimits};
+ghost use Rattle.dispatch.specs.RegistryFault.{AreRegistrable};
+ghost use Rattle.scan_job.specs.declared.outcome.Outcome.{Outcome as AnOutcome};
+ghost use Rattle.page_picture.specs.SourceView.{source_state};
+ghost use Rattle.world_refines.specs.MainTheorem.{IsTrueLoad};
+ghost use Rattle.event_world.specs.Worlds.{HasFaultAmong, IsInitialWorld, MayRun, Runs, seen_world};
+ghost use Rattle.scan_world.specs.Histories.{History, LedTo, and_then, begun};
+ghost use Rattle.scan_world.specs.Calls.{CancelEnds, FewMoves, ForEach, ImageLossEnds, IsGoodMove, IsMoveAt, KeepsEnding, KeepsOutcome, KeepsPage, KeepsPageCount, KeepsScanFile, LossEnds, MoveLowers, MovesFall, OneHolder, OthersStay, OverStays, PageStays, RunsOut, ScansStay, SessionsStay, StartsOnFirst, StarvedStays, file_answered, finished_at, left_at, outcome_at, page_answered, starved_at};
+ghost use Rattle.scan_world.specs.Clear.{ClearsBy, ClearsUp, SharesClear};
+ghost use Rattle.scan_world.specs.Trays.{BatchIsCounted, KeepsTray};
+ghost use Rattle.scan_world.specs.Promise.{MovesAreKept};
 
-use crate::endpoint::Endpoint;
-use crate::event::{Event, JobEvent};
-use crate::job_events::happen;
-use crate::world_fault::WorldFault;
+use crate::laws::what_stands_below;
 use device_api::Device;
+use event_world::{Event, WorldFault, parts_of};
+use md5_auth::Users;
 use net_backend::{Job, Outcome};
-use page_picture::{PageSource, Source};
-use sane_fixed::NoMem;
+use page_picture::PageSource;
 use saned_core::Daemon;
 use std::alloc::Global;
-use std::marker::Model;
-
-/// The most jobs of a world.
-const MOST_JOBS: usize = 8;
 
 /// A daemon, and the clients of at most eight jobs.
 #[derive(Drop)]
-pub struct World<D = Box<dyn Device>> {
-    pub(crate) alloc: Global,
-    pub(crate) daemon: Daemon<D>,
-    pub(crate) endpoints: Vec<Endpoint>,
+pub struct World {
+    inner: event_world::EventWorld<Box<dyn Device>>,
 }
 
-impl<D> Model for World<D> {
-    ghost use Rattle.scan_world.specs.Worlds.{WorldState};
-
-    ghost Value = { WorldState D };
-
-    ghost view = { λ w. record { daemon = w.daemon; endpoints = w.endpoints.items } };
-}
-
-/// An endpoint for each of some jobs.
-#[derive(Drop)]
-pub struct Endpoints {
-    pub(crate) endpoints: Vec<Endpoint>,
-}
-
-impl Model for Endpoints {
-    ghost use Rattle.std.specs.Prelude.{List};
-    ghost use Rattle.scan_world.specs.declared.endpoint.Endpoint.{Endpoint};
-
-    ghost Value = { List Endpoint };
-
-    ghost view = { λ e. e.endpoints.items };
-}
-
-/// Why no world is made for these jobs, apart from out of memory.
-pub(crate) fn fault_of(jobs: &[Job]) -> Option<WorldFault>
-    ensures some { IfSome result (λ f. HasWorldFault f jobs.now) }
-    ensures none { IsNone result → HasWorldFault WorldFault.NoMem jobs.now }
+/// Each device tells of itself, and so that it is within its limits.
+fn ask_limits<D: Device>(devices: &[D])
+    ensures { All (λ device. HasLimits (D.state device)) devices.now }
 {
-    if jobs.len() > MOST_JOBS {
-        return Some(WorldFault::TooManyJobs);
+    for device in devices {
+        let _ = device.params();
     }
-    if !are_fit(jobs) {
-        return Some(WorldFault::BadJob);
-    }
-    None
 }
 
-/// Whether clients take all the jobs.
-fn are_fit(jobs: &[Job]) -> bool
-    ensures { IsTrue result ↔ All IsFitJob jobs.now }
+/// The page that an event brings tells its size, and so that it is within its limits.
+fn ask_page(event: &Event)
+    ensures { IsTrueLoad source_state event.now }
 {
-    for job in jobs {
-        if !is_fit(job) {
-            return false;
-        }
+    if let Event::Load(_, source) = event {
+        let _ = source.size();
     }
-    true
 }
 
-fn is_fit(job: &Job) -> bool
-    ensures { IsTrue result ↔ IsFitJob job.now }
+/// So does each of theirs.
+fn ask_pages(events: &[Event])
+    ensures { All (IsTrueLoad source_state) events.now }
 {
-    job.has_size() && job.task.has_count()
+    for event in events {
+        ask_page(event);
+    }
 }
 
-/// AN endpoint for each job.
-pub(crate) fn endpoints_of(alloc: Global, jobs: Vec<Job>) -> Result<Vec<Endpoint>, NoMem>
-    ensures { IfOk result (λ endpoints. AreNew jobs.items endpoints.items) }
-{
-    let mut endpoints = Vec::new(alloc);
-    for job in jobs {
-        let Ok(endpoint) = Endpoint::new(alloc, job) else {
-            return Err(NoMem);
-        };
-        endpoints.push(endpoint)?;
-    }
-    Ok(endpoints)
-}
-
-impl<D: Device> World<D> {
-    /// A daemon and these endpoints.
-    pub fn over(alloc: Global, daemon: Daemon<D>, endpoints: Endpoints) -> World<D>
-        ensures daemon { result.daemon ≡ daemon }
-        ensures endpoints { result.endpoints ≡ endpoints }
-    {
-        World {
-            alloc,
-            daemon,
-            endpoints: endpoints.endpoints,
-        }
-    }
-
-    /// The clients of these jobs beside a daemon; to none of them anything has happened. Where it is refused the daemon comes
-    /// back: `TooManyJobs` above eight, `BadJob` where a client refuses one; `NoMem` comes only where neither stands.
-    pub fn beside_daemon(
+impl World {
+    /// A world of these devices, users and jobs, whose daemon's challenges come from the seed: nothing has happened, and each
+    /// device was reset. Where it is refused the devices come back as they were: `SameName` where two of them have one name,
+    /// `TooManyDevices` above sixteen, `TooManyJobs` above eight, `BadJob` where a client refuses one, in this order; `NoMem`
+    /// comes only where none of these stands.
+    pub fn new(
         alloc: Global,
-        daemon: Daemon<D>,
+        devices: Vec<Box<dyn Device>>,
+        users: Users,
+        seed: [u8; 32],
         jobs: Vec<Job>,
-    ) -> Result<World<D>, (WorldFault, Daemon<D>)>
-        ensures begins { IfOk result (λ w. (w.daemon ≡ daemon) × AreNew jobs.items w.endpoints) }
-        ensures accepted { OnOk result (MayRun jobs.items) }
-        ensures fault { IfErr result (λ e. HasWorldFault e.0 jobs.items) }
-        ensures back { IfErr result (λ e. e.1 ≡ daemon) }
+    ) -> Result<World, (WorldFault, Vec<Box<dyn Device>>)>
+        /// `World::new` takes and refuses what `event_world` says, and gives refused devices back as they were; to a new
+        /// world led that nothing has happened.
+        /// Carried by: `led`, `accepted`, `fault`, `back` of `World::new`
+        ensures led { let states = map ⟦<Box<dyn Device> as Device>⟧.state devices.items in
+            let h = begun states users jobs.items in
+            IfOk result (λ w. LedTo h (seen_world ⟦<Box<dyn Device> as Device>⟧.state w.inner)) }
+        // It is the new world of these devices, users and jobs.
+        ensures begins { let states = map ⟦<Box<dyn Device> as Device>⟧.state devices.items in
+            IfOk result (λ w. IsInitialWorld states users seed jobs.items
+            (seen_world ⟦<Box<dyn Device> as Device>⟧.state w.inner)) }
+        /// A job of a new world has at most 2^34 moves left, and a batch at most 2^36.
+        /// Carried by: `budget` of `World::new`
+        ensures budget { IfOk result (λ w. FewMoves jobs.items
+            (seen_world ⟦<Box<dyn Device> as Device>⟧.state w.inner)) }
+        ensures accepted { let states = map ⟦<Box<dyn Device> as Device>⟧.state devices.items in
+            OnOk result (AreRegistrable states × MayRun jobs.items) }
+        ensures fault { let states = map ⟦<Box<dyn Device> as Device>⟧.state devices.items in
+            IfErr result (λ refused. HasFaultAmong refused.0 states jobs.items) }
+        ensures back { IfErr result (λ refused. refused.1 ≡ devices) }
     {
-        if let Some(fault) = fault_of(jobs.as_slice()) {
-            return Err((fault, daemon));
-        }
-        match endpoints_of(alloc, jobs) {
-            Ok(endpoints) => Ok(World {
-                alloc,
-                daemon,
-                endpoints,
+        ask_limits(devices.as_slice());
+        match parts_of(alloc, devices, jobs) {
+            Ok((registry, endpoints)) => Ok(World {
+                inner: event_world::EventWorld::over(
+                    alloc,
+                    Daemon::new(registry, users, seed),
+                    endpoints,
+                ),
             }),
-            Err(NoMem) => Err((WorldFault::NoMem, daemon)),
+            Err(refused) => Err(refused),
         }
     }
+}
 
-    /// Events in this order. One that cannot happen changes nothing.
+impl World {
+    /// Events in this order; one that cannot happen changes nothing.
     pub fn run(&mut self, events: Vec<Event>)
-        /// `World::run` does to daemon and clients exactly what its events say, one after another, and nothing where
-        /// an event cannot happen; but that it does not tell which data port a session is opened with (1, by the
-        /// private `connect`), which no call of a world shows.
-        /// Carried by: `World::run`: `Runs`, `Happens`
+        /// `run` adds its events to whatever led to the world, and does exactly these.
+        /// Carried by: `led`, `runs` of `World::run`
+        ensures runs { let w = seen_world ⟦<Box<dyn Device> as Device>⟧.state self.old.inner in
+            let v = seen_world ⟦<Box<dyn Device> as Device>⟧.state self.new.inner in
+            Runs source_state events.items w v }
+        ensures led { let seen = seen_world ⟦<Box<dyn Device> as Device>⟧.state in
+            let w = seen self.old.inner in
+            let v = seen self.new.inner in
+            (h : History) → LedTo h w → LedTo (and_then h events.items) v }
+        /// A job that is over keeps its outcome, its file and its finished pages, whatever comes.
+        /// Carried by: `over` of `World::run`, `World::run_all` and `jobs_end_once`
+        ensures over { let w = seen_world ⟦<Box<dyn Device> as Device>⟧.state self.old.inner in
+            let v = seen_world ⟦<Box<dyn Device> as Device>⟧.state self.new.inner in
+            OverStays w v }
+        /// A job that no event came to is as it was: its outcome, its files, whether memory ran out.
+        /// Carried by: `others` of `World::run` and `jobs_end_once`
+        ensures others { let w = seen_world ⟦<Box<dyn Device> as Device>⟧.state self.old.inner in
+            let v = seen_world ⟦<Box<dyn Device> as Device>⟧.state self.new.inner in
+            OthersStay events.items w v }
+        /// That memory ran out for a job, once it is told, stays told, whatever comes.
+        /// Carried by: `starved` of `World::run`, `World::run_all` and `jobs_end_once`
+        ensures starved { let w = seen_world ⟦<Box<dyn Device> as Device>⟧.state self.old.inner in
+            let v = seen_world ⟦<Box<dyn Device> as Device>⟧.state self.new.inner in
+            StarvedStays w v }
+        /// No event brings moves back, and one event that can happen to a job lowers the moves of that job, where it
+        /// has any left.
+        /// Carried by: `moves`, `lowers` of `World::run` and `jobs_end_once`
+        ensures moves { let w = seen_world ⟦<Box<dyn Device> as Device>⟧.state self.old.inner in
+            let v = seen_world ⟦<Box<dyn Device> as Device>⟧.state self.new.inner in
+            MovesFall w v }
+        ensures lowers { let w = seen_world ⟦<Box<dyn Device> as Device>⟧.state self.old.inner in
+            let v = seen_world ⟦<Box<dyn Device> as Device>⟧.state self.new.inner in
+            MoveLowers events.items w v }
+        /// A job that runs ends by a cancel as cancelled, wherever that stands among the events; by the loss of its
+        /// control connection as lost, where the event that connects it came before; and so by the loss of its data
+        /// connection, where that stands.
+        /// Carried by: `cancel`, `loss`, `image_loss` of `World::run`; `cancel` of `jobs_end_once`
+        ensures cancel { let w = seen_world ⟦<Box<dyn Device> as Device>⟧.state self.old.inner in
+            let v = seen_world ⟦<Box<dyn Device> as Device>⟧.state self.new.inner in
+            CancelEnds events.items w v }
+        ensures loss { let seen = seen_world ⟦<Box<dyn Device> as Device>⟧.state in
+            let w = seen self.old.inner in
+            let v = seen self.new.inner in
+            (h : History) → LedTo h w → LossEnds h events.items w v }
+        ensures image_loss { let seen = seen_world ⟦<Box<dyn Device> as Device>⟧.state in
+            let w = seen self.old.inner in
+            let v = seen self.new.inner in
+            (h : History) → LedTo h w → ImageLossEnds events.items w v }
+        /// Two clients never hold one device: jobs whose sessions have a device of one name are one job.
+        /// Carried by: `one_holder` of `World::run` and `World::run_all`
+        ensures one_holder { let seen = seen_world ⟦<Box<dyn Device> as Device>⟧.state in
+            let w = seen self.old.inner in
+            let v = seen self.new.inner in
+            (h : History) → LedTo h w → OneHolder v }
+        /// Events of other jobs, and devices that are taken out, leave a session as it stands, with all that it has.
+        /// These, and pages that are laid in, leave a device that it has within a scan as it is.
+        /// Carried by: `sessions`, `scans` of `World::run`
+        ensures sessions { let seen = seen_world ⟦<Box<dyn Device> as Device>⟧.state in
+            let w = seen self.old.inner in
+            let v = seen self.new.inner in
+            (h : History) → LedTo h w → SessionsStay events.items w v }
+        ensures scans { let seen = seen_world ⟦<Box<dyn Device> as Device>⟧.state in
+            let w = seen self.old.inner in
+            let v = seen self.new.inner in
+            (h : History) → LedTo h w → ScansStay events.items w v }
+        /// Within a scan the page stays: a device that a session has in front of an event and behind it, neither time
+        /// at rest, has the same first page both times.
+        /// Carried by: `page_stays` of `World::run`
         ///
-        /// A delivery moves the first so many bytes, at most 4,096, of those that wait, and feeds just these to the
-        /// daemon or to the client.
-        ///
-        /// A turn puts one record behind those on the way, or loses the connection where memory runs out.
-        ///
-        /// `LoseControl` takes the data connection along; a loss, a cancel, a page and a device taken out are the
-        /// calls of daemon and client.
-        ///
-        /// No event of one job touches another's endpoint.
-        ensures { Runs ⟦<Source as PageSource>⟧.source events.items
-            (seen_world D.state self.old) (seen_world D.state self.new) }
+        /// A start takes the first page: where requests of a job were delivered, a device that its session had and has,
+        /// and has within a scan now, has the first page that it had.
+        /// Carried by: `first_page` of `World::run`
+        ensures page_stays { let seen = seen_world ⟦<Box<dyn Device> as Device>⟧.state in
+            let w = seen self.old.inner in
+            let v = seen self.new.inner in
+            (h : History) → LedTo h w → PageStays events.items w v }
+        ensures first_page { let seen = seen_world ⟦<Box<dyn Device> as Device>⟧.state in
+            let w = seen self.old.inner in
+            let v = seen self.new.inner in
+            (h : History) → LedTo h w → StartsOnFirst events.items w v }
+        /// Where its events are next moves, one after another, a job in whose way nothing stood in front of them, and which
+        /// is over behind them, is done, or is told as out of memory, or lost its connection as its next move.
+        /// Carried by: `clear` of `World::run`: `ClearsBy`
+        ensures clear { let w = seen_world ⟦<Box<dyn Device> as Device>⟧.state self.old.inner in
+            let v = seen_world ⟦<Box<dyn Device> as Device>⟧.state self.new.inner in
+            ClearsBy events.items w v }
     {
-        for event in events {
-            self.step(event);
-        }
+        ask_pages(events.as_slice());
+        what_stands_below();
+        self.inner.run(events)
     }
 
-    /// An event of a job.
-    fn at(&mut self, i: usize, job_event: JobEvent)
-        ensures { AtEndpoint (seen_world D.state self.old) i job_event
-            (seen_world D.state self.new) }
+    /// Next moves of all jobs by turns.
+    pub fn run_all(&mut self)
+        /// `run_all` adds next moves alone: each is that of a job in the world to which those before it led; they are
+        /// at most as many as `moves_left` counts of all jobs, and then no job runs.
+        /// Carried by: `kept` of `World::run_all`: `RunsOut`, `AreNextMoves`
+        ensures kept { let w = seen_world ⟦<Box<dyn Device> as Device>⟧.state self.old.inner in
+            let v = seen_world ⟦<Box<dyn Device> as Device>⟧.state self.new.inner in
+            (h : History) → LedTo h w → RunsOut h w v }
+        /// A job in whose way nothing stood in front of these moves is done behind them, or is told as out of memory, or
+        /// lost its connection as its next move, for want of memory or at a reply that cannot be said.
+        /// Carried by: `clear` of `World::run_all`: `ClearsUp`
+        ///
+        /// Nothing stands in its way where its device is there, and no other job names it; its settings can be in force and
+        /// name no status; its password is allowed; no event cancels it, loses its connections, or takes its device out;
+        /// and a device that it scans is so that a scan ends well.
+        /// Carried by: `clear` of `World::run_all`: `IsClear`
+        ///
+        /// Such a device cannot fail, has a picture on each page, and as a feeder one page at least at first.
+        /// Carried by: `clear` of `World::run_all`: `IsClear`
+        ensures clear { let w = seen_world ⟦<Box<dyn Device> as Device>⟧.state self.old.inner in
+            let v = seen_world ⟦<Box<dyn Device> as Device>⟧.state self.new.inner in
+            ClearsUp w v }
+        /// Of two jobs that name one device, where else nothing stood in the way of either, each comes to the same, or was
+        /// answered DEVICE_BUSY; and one at most was.
+        /// Carried by: `shared` of `World::run_all`: `SharesClear`
+        ensures shared { let w = seen_world ⟦<Box<dyn Device> as Device>⟧.state self.old.inner in
+            let v = seen_world ⟦<Box<dyn Device> as Device>⟧.state self.new.inner in
+            SharesClear w v }
+        ensures over { let w = seen_world ⟦<Box<dyn Device> as Device>⟧.state self.old.inner in
+            let v = seen_world ⟦<Box<dyn Device> as Device>⟧.state self.new.inner in
+            OverStays w v }
+        ensures starved { let w = seen_world ⟦<Box<dyn Device> as Device>⟧.state self.old.inner in
+            let v = seen_world ⟦<Box<dyn Device> as Device>⟧.state self.new.inner in
+            StarvedStays w v }
+        ensures one_holder { let seen = seen_world ⟦<Box<dyn Device> as Device>⟧.state in
+            let w = seen self.old.inner in
+            let v = seen self.new.inner in
+            (h : History) → LedTo h w → OneHolder v }
     {
-        if i < self.endpoints.len() {
-            happen(
-                self.alloc,
-                &mut self.daemon,
-                &mut self.endpoints[i],
-                job_event,
-            );
-        }
-    }
-
-    /// An event.
-    pub(crate) fn step(&mut self, event: Event)
-        ensures { Leads ⟦<Source as PageSource>⟧.source event
-            (seen_world D.state self.old) (seen_world D.state self.new) }
-    {
-        match event {
-            Event::Connect(i) => self.at(i, JobEvent::Connect),
-            Event::ToDaemon(i, n) => self.at(i, JobEvent::ToDaemon(n)),
-            Event::ToClient(i, n) => self.at(i, JobEvent::ToClient(n)),
-            Event::DataConnect(i) => self.at(i, JobEvent::DataConnect),
-            Event::DataTurn(i) => self.at(i, JobEvent::DataTurn),
-            Event::DataToClient(i, n) => self.at(i, JobEvent::DataToClient(n)),
-            Event::LoseControl(i) => self.at(i, JobEvent::LoseControl),
-            Event::LoseImage(i) => self.at(i, JobEvent::LoseImage),
-            Event::Cancel(i) => self.at(i, JobEvent::Cancel),
-            Event::Load(name, page) => {
-                let _ = self.daemon.load(name.as_bytes(), page);
-            }
-            Event::Unplug(name) => {
-                let _ = self.daemon.unplug(name.as_bytes());
-            }
-        }
-    }
-
-    /// The endpoint of job i.
-    pub(crate) fn endpoint(&self, i: usize) -> Option<&Endpoint>
-        ensures { option_map (λ p. p.now) result ≡ slice_get self.now.endpoints i }
-    {
-        if i >= self.endpoints.len() {
-            return None;
-        }
-        Some(&self.endpoints[i])
+        what_stands_below();
+        self.inner.run_all()
     }
 
     /// How far job i is; none where there is no such job.
     pub fn outcome(&self, i: usize) -> Option<&Outcome>
-        /// The calls tell a job's outcome, files, finished pages and whether it ran out of memory.
-        /// Carried by: `World::outcome`, `file`, `file_at`, `finished`, `starved`
-        ensures { option_map (λ o. o.now) result
-            ≡ option_map (λ p. p.client.outcome) (slice_get self.now.endpoints i) }
+        ensures is { let w = seen_world ⟦<Box<dyn Device> as Device>⟧.state self.now.inner in
+            option_map (λ o. o.now) result ≡ outcome_at w i }
+        /// A job that is done, but for a list, was answered each setting with the nearest admitted value of a device
+        /// that is there and has its name, and with INEXACT just where it differs.
+        /// Carried by: `kept` of `World::outcome`: `answered` of `JobIsDone`
+        ///
+        /// A show that is done tells each option of its device, and no other, with its descriptor and the value in force, where
+        /// that can be read, as the job's settings left them.
+        /// Carried by: `kept` of `World::outcome`: `shown` of `JobIsDone`
+        ///
+        /// As it asked for its device that was listed, no session had it, and the job was permitted: no line of the users
+        /// names its backend, or its user and password are allowed for the challenge that its session had sent.
+        /// Carried by: `kept` of `World::outcome`: `opened` of `JobIsDone`: `WasOpened`
+        ///
+        /// A list that is done tells the devices that were listed as the last bytes of its request were delivered: all,
+        /// once, in their order.
+        /// Carried by: `kept` of `World::outcome`: `listed`
+        ///
+        /// A job that ended otherwise names a status that is neither GOOD nor EOF, and the table of endings has its
+        /// status and its why, with what explains them.
+        /// Carried by: `kept` of `World::outcome`: `ended` of `OutcomeIsKept`, `IsEndingExplained`
+        ///
+        /// What explains an ending is an event of the job, and but for a cancel one that came as the job ran and changed
+        /// the world: those before it led to the world in front of it, and it and those behind it to the world asked.
+        /// Without one are told only settings no device can have, and memory.
+        /// Carried by: `Happened`, `Asked`, `Moment` of `IsEndingExplained`
+        ///
+        /// An answered status is the one that `read-return-value` says, as the job's settings put it in force, in a
+        /// turn of its frame, where the job scans; or else it is explained only as follows. As too short, which is
+        /// IO_ERROR, a job ended only where that says EOF.
+        /// Carried by: `NamesStatus` of `IsEndingExplained`
+        ///
+        /// Else DEVICE_BUSY was answered only where another job's session had the device as the job asked for it;
+        /// ACCESS_DENIED only where a line of the users names its backend, and its user and password are not allowed
+        /// for the challenge that its session had sent.
+        /// Carried by: `AnswerIsExplained`, `HasPassed` of `IsEndingExplained`
+        ///
+        /// Else INVAL was answered only where the device was not listed as the job asked for it; where settings can be
+        /// in force on no device of the name, as also where a setting ended the job; or where a device, as a scan was
+        /// to start, had the settings' options, which mean no picture on its page.
+        /// Carried by: `AnswerIsExplained`, `IsUnforced`, `HadNoPicture` of `IsEndingExplained`
+        ///
+        /// Else NO_DOCS was answered only to a job that scans, where the device that its session had had no page, as the
+        /// job asked for a start while none of its pages was finished.
+        /// Carried by: `HadNoPage` of `IsEndingExplained`
+        ///
+        /// Else IO_ERROR was answered only to a job that scans, where a page that can fail came for its device, and the
+        /// source of the first page failed as it asked for a start, or in a turn of its frame: its session had the device,
+        /// and behind the event that is stopped, and the failure counted.
+        /// Carried by: `HadFailed`, `DeviceFailed` of `IsEndingExplained`
+        ///
+        /// In a turn the end with IO_ERROR came behind the bytes of the frame; so the end of a page that a feeder gave
+        /// whole is none, though it lets go of that page with its count.
+        /// Carried by: `SendsFailure` of `HadFailed`
+        ///
+        /// As lost a job ended only where a connection of it that stood was lost, or where it is told as out of memory;
+        /// as starved, which is NO_MEM, only where a piece came to its client; as cancelled only where it was
+        /// cancelled.
+        /// Carried by: `IsEndingExplained`
+        ensures kept { let w = seen_world ⟦<Box<dyn Device> as Device>⟧.state self.now.inner in
+            IfSome result (λ o. KeepsOutcome w i o.now) }
+        /// Of each job of the world an outcome is told.
+        ensures there { let w = seen_world ⟦<Box<dyn Device> as Device>⟧.state self.now.inner in
+            ForEach w i (λ h job. IsSome result) }
+        /// A job that ended did so in one of the events: the world in front of it had it running, the world behind it
+        /// had it ended so, and what explains it is among the events up to that one.
+        /// Carried by: `ended` of `World::outcome`: `EndedIn`
+        ensures ended { let w = seen_world ⟦<Box<dyn Device> as Device>⟧.state self.now.inner in
+            IfSome result (λ o. KeepsEnding w i o.now) }
     {
-        match self.endpoint(i) {
-            Some(endpoint) => Some(endpoint.client.outcome()),
-            None => None,
-        }
+        what_stands_below();
+        self.inner.outcome(i)
     }
 
-    /// The file of job i under way, as far as it has come: that of a batch's next page is empty. None where there is no such
-    /// job, or a growth of the file was refused.
+    /// The file of job i under way, as far as it has come.
     pub fn file(&self, i: usize) -> Option<&[u8]>
-        ensures { option_map (λ f. f.now) result
-            ≡ option_and_then (λ p. p.file) (slice_get self.now.endpoints i) }
+        ensures is { let w = seen_world ⟦<Box<dyn Device> as Device>⟧.state self.now.inner in
+            option_map (λ f. f.now) result ≡ file_answered w i }
+        /// The file of a scan that is done denotes exactly the picture that the job's settings mean on a page that came
+        /// for its device, where all that did as it ran, and changed the world, are steady; one that is not takes this
+        /// from the jobs of that device alone, and none that comes later takes it.
+        /// Carried by: `kept` of `World::file`: `scanned` of `FileIsKept`
+        ///
+        /// That page is the one which the device that its session had, at rest, had first as the job asked for a start,
+        /// while none of its pages was finished.
+        /// Carried by: `kept` of `World::file`: `StartedOn` of `IsScan`
+        ///
+        /// The file of a job that runs, that ended otherwise or that is no scan is not whole; that of a job which does
+        /// not scan is there, and empty.
+        /// Carried by: `kept` of `World::file`: `whole`, `empty` of `FileIsKept`
+        ///
+        /// A file is missing only where there was no memory for it, and then the job is told as out of memory.
+        /// Carried by: `missing` of `FileIsKept` and of `PageIsKept`; `file`, `pages` of `World::starved`
+        ensures kept { let w = seen_world ⟦<Box<dyn Device> as Device>⟧.state self.now.inner in
+            KeepsScanFile w i (file_answered w i) }
     {
-        match self.endpoint(i) {
-            Some(endpoint) => endpoint.file_now(),
-            None => None,
-        }
+        what_stands_below();
+        self.inner.file(i)
     }
 
-    /// The file of the k-th finished page of a batch, from 1. None where k is 0 or above `finished`, or a growth of that file
-    /// was refused.
+    /// The file of the k-th finished page of a batch, from 1: none where k is 0 or above `finished`, or a growth of that
+    /// file was refused.
     pub fn file_at(&self, i: usize, k: u32) -> Option<&[u8]>
-        ensures { option_map (λ f. f.now) result
-            ≡ option_and_then (λ p. finished_page p k) (slice_get self.now.endpoints i) }
+        ensures is { let w = seen_world ⟦<Box<dyn Device> as Device>⟧.state self.now.inner in
+            option_map (λ f. f.now) result ≡ page_answered w i k }
+        /// The file of each finished page of a batch denotes that picture too, where they are steady, whatever became
+        /// of the job: of page k on the page that the device had first as the job asked for a start while k - 1 pages
+        /// were finished.
+        /// Carried by: `kept` of `World::file_at`: `PageIsKept`, `StartedOn`
+        ensures kept { let w = seen_world ⟦<Box<dyn Device> as Device>⟧.state self.now.inner in
+            KeepsPage w i k (option_map (λ f. f.now) result) }
+        /// Where the job names a feeder that no other names, and into which no event laid a page, that is the k-th of
+        /// the pages that lay in its tray as the world was made, if they are steady.
+        /// Carried by: `tray` of `World::file_at`: `OwnTray`, `IsOfTray`
+        ensures tray { let w = seen_world ⟦<Box<dyn Device> as Device>⟧.state self.now.inner in
+            IfSome result (λ f. KeepsTray w i k f.now) }
     {
-        match self.endpoint(i) {
-            Some(endpoint) => endpoint.page(k as usize),
-            None => None,
-        }
+        what_stands_below();
+        self.inner.file_at(i, k)
     }
 
-    /// How many pages of a batch are finished, at most 16; 0 where there is no such job.
+    /// How many pages of a batch are finished; 0 where there is no such job.
     pub fn finished(&self, i: usize) -> u32
-        ensures is { (p : Endpoint)
-            → slice_get self.now.endpoints i ≡ Some p → result ≡ min p.finished 16 }
-        ensures none { slice_get self.now.endpoints i ≡ None → result ≡ 0 }
+        ensures is { let w = seen_world ⟦<Box<dyn Device> as Device>⟧.state self.now.inner in
+            result ≡ finished_at w i }
+        /// A batch that is done has finished as many pages as it wanted, or fewer and at least one; then its device had no
+        /// page more as it asked for a start behind just these.
+        /// Carried by: `kept` of `World::finished`: `CountIsKept`
+        ensures kept { let w = seen_world ⟦<Box<dyn Device> as Device>⟧.state self.now.inner in
+            KeepsPageCount w i result }
+        /// A batch that is done has finished as many pages as it wanted, on a device that is no feeder; and as many, or
+        /// all that lay in its tray as the world was made, whichever are fewer, on such a feeder.
+        /// Carried by: `tray` of `World::finished`: `CountsPages`
+        ensures tray { let w = seen_world ⟦<Box<dyn Device> as Device>⟧.state self.now.inner in
+            ForEach w i (λ h job. BatchIsCounted h w i job result) }
     {
-        match self.endpoint(i) {
-            Some(endpoint) => endpoint.finished.min(16) as u32,
-            None => 0,
-        }
+        what_stands_below();
+        self.inner.finished(i)
     }
 
-    /// Whether a growth was refused on a connection of job i, in its session or for a file of it.
+    /// Whether a growth was refused on a connection of job i, in its session or for a file of it: no file is missing else.
     pub fn starved(&self, i: usize) -> bool
-        ensures is { (p : Endpoint)
-            → slice_get self.now.endpoints i ≡ Some p → result ≡ p.out_of_memory }
-        ensures none { slice_get self.now.endpoints i ≡ None → result ≡ false }
+        ensures is { let w = seen_world ⟦<Box<dyn Device> as Device>⟧.state self.now.inner in
+            result ≡ starved_at w i }
+        ensures file { let w = seen_world ⟦<Box<dyn Device> as Device>⟧.state self.now.inner in
+            ForEach w i (λ h job. result ≡ false → file_answered w i ≢ None) }
+        ensures pages { let w = seen_world ⟦<Box<dyn Device> as Device>⟧.state self.now.inner in
+            ForEach w i (λ h job. result ≡ false → (k : ℕ) → 0 < k → k ≤ finished_at w i
+            → page_answered w i k ≢ None) }
     {
-        match self.endpoint(i) {
-            Some(endpoint) => endpoint.out_of_memory,
-            None => false,
-        }
+        what_stands_below();
+        self.inner.starved(i)
+    }
+
+    /// The next move of job i.
+    pub fn next_move(&self, i: usize) -> Option<Event>
+        ensures is { let w = seen_world ⟦<Box<dyn Device> as Device>⟧.state self.now.inner in
+            IsMoveAt w i result }
+        /// A job has a next move just where it runs.
+        /// Carried by: `kept` of `World::next_move`: `MoveIsKept`
+        ///
+        /// It is the loss of its control connection only where the job is told as out of memory, or where its session, as
+        /// it stood in front of a delivery of the request that its client waits for, answers that with a reply that
+        /// passes a limit of the wire or has no spelling.
+        /// Carried by: `kept` of `World::next_move`: `loss` of `IsGoodMove`
+        ensures kept { let w = seen_world ⟦<Box<dyn Device> as Device>⟧.state self.now.inner in
+            ForEach w i (λ h job. IsGoodMove h w i job result) }
+    {
+        what_stands_below();
+        self.inner.next_move(i)
+    }
+
+    /// More moves than job i may still take: 0 just where it does not run, or there is no such job.
+    pub fn moves_left(&self, i: usize) -> u64
+        /// What these calls answer is, exactly, what `event_world` says.
+        /// Carried by: `is` of `World::outcome`, `file`, `file_at`, `finished`, `starved`, `next_move`, `moves_left`
+        ensures is { let w = seen_world ⟦<Box<dyn Device> as Device>⟧.state self.now.inner in
+            result ≡ left_at w i }
+        /// A job that runs has moves left, and any other has none.
+        /// Carried by: `kept` of `World::moves_left`: `MovesAreKept`
+        ensures kept { let w = seen_world ⟦<Box<dyn Device> as Device>⟧.state self.now.inner in
+            ForEach w i (λ h job. (o : AnOutcome) → outcome_at w i ≡ Some o
+            → MovesAreKept o result) }
+    {
+        what_stands_below();
+        self.inner.moves_left(i)
     }
 }

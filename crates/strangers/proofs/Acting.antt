@@ -29,8 +29,8 @@ use Rattle.daemon_refines.proofs.Changes.{Held}
 use Rattle.daemon_refines.proofs.Cores.{stands_as}
 use Rattle.daemon_refines.proofs.OtherSessions.{leaves_all}
 use Rattle.in_flight.proofs.Slots.{decide, none_free, own_slot, unused}
-use Rattle.scan_world.specs.declared.endpoint.Endpoint.{Endpoint}
-use Rattle.scan_world.specs.Worlds.{WorldCore}
+use Rattle.event_world.specs.declared.endpoint.Endpoint.{Endpoint}
+use Rattle.event_world.specs.Worlds.{WorldCore}
 use Rattle.world_refines.specs.GhostStates.{Ghost}
 use Rattle.world_refines.specs.WorldRefinement.{IsBelow}
 use Rattle.world_refines.proofs.state.CoreCallsKeep.{on_number}

@@ -35,7 +35,7 @@ use Rattle.daemon_refines.proofs.Cores.{own_slot}
 use Rattle.daemon_refines.proofs.FeedRefines.{feeds_agree}
 use Rattle.daemon_refines.proofs.Leaves.{ends_leave}
 use Rattle.daemon_refines.proofs.OtherSessions.{leaves_all}
-use Rattle.scan_world.specs.Worlds.{WorldCore}
+use Rattle.event_world.specs.Worlds.{WorldCore}
 use Rattle.world_refines.specs.GhostStates.{Ghost}
 use Rattle.world_refines.proofs.state.CoreCallsKeep.{on_number}
 use Rattle.strangers.specs.LeavingJobs.{IsStrangers, JobsStand, StrangersConnect, StrangersLeave, StrangersLoseData, StrangersSayAnything}

@@ -5,7 +5,7 @@ use Rattle.device_api.specs.State.{DeviceState}
 use Rattle.saned_requests.specs.declared.session.Session.{Session as RequestSession}
 use Rattle.saned_core.specs.declared.session_slot.SessionSlot.{SessionSlot}
 use Rattle.saned_core.specs.DaemonStates.{is_slot_number, session_in, session_slot_of}
-use Rattle.scan_world.specs.Worlds.{WorldCore}
+use Rattle.event_world.specs.Worlds.{WorldCore}
 use Rattle.world_refines.specs.GhostStates.{Ghost}
 use Rattle.strangers.specs.Among.{IsNobodys, MayHaveStrangers, StandsAmong, StrangersMayCome}
 

@@ -24,8 +24,8 @@ use Rattle.daemon_refines.specs.Cores.{SessionRefines}
 use Rattle.daemon_refines.proofs.Changes.{Held}
 use Rattle.daemon_refines.proofs.Cores.{stands_as}
 use Rattle.in_flight.proofs.Slots.{decide}
-use Rattle.scan_world.specs.declared.endpoint.Endpoint.{Endpoint}
-use Rattle.scan_world.specs.Worlds.{WorldCore}
+use Rattle.event_world.specs.declared.endpoint.Endpoint.{Endpoint}
+use Rattle.event_world.specs.Worlds.{WorldCore}
 use Rattle.world_refines.specs.GhostStates.{Ghost}
 use Rattle.world_refines.specs.Speaks.{AsksAsHeld, SetsAsHeld, Speaks}
 use Rattle.world_refines.specs.WorldRefinement.{EndpointRefinesAt, IsServed, WiresMatch, session_by, slot_of_link}

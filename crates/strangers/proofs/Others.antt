@@ -32,8 +32,8 @@ use Rattle.daemon_refines.proofs.Beginning.{openings_show}
 use Rattle.daemon_refines.proofs.CoreCalls.{core_turns, core_turns_off}
 use Rattle.daemon_refines.proofs.Cores.{own_slot}
 use Rattle.daemon_refines.proofs.OtherSessions.{leaves_all}
-use Rattle.scan_world.specs.declared.endpoint.Endpoint.{Endpoint}
-use Rattle.scan_world.specs.Worlds.{WorldCore}
+use Rattle.event_world.specs.declared.endpoint.Endpoint.{Endpoint}
+use Rattle.event_world.specs.Worlds.{WorldCore}
 use Rattle.world_refines.specs.GhostStates.{Ghost}
 use Rattle.world_refines.specs.WorldRefinement.{IsBelow}
 use Rattle.world_refines.proofs.job_events.Fresh.{fresh_there}

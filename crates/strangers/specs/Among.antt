@@ -12,8 +12,8 @@ use Rattle.system_model.specs.AbstractSessions.{AbstractSession}
 use Rattle.system_model.specs.SystemStates.{device_for}
 use Rattle.daemon_refines.specs.ContextRefinement.{TableRefines}
 use Rattle.daemon_refines.specs.Cores.{SessionRefines}
-use Rattle.scan_world.specs.declared.endpoint.Endpoint.{Endpoint}
-use Rattle.scan_world.specs.Worlds.{WorldCore}
+use Rattle.event_world.specs.declared.endpoint.Endpoint.{Endpoint}
+use Rattle.event_world.specs.Worlds.{WorldCore}
 use Rattle.world_refines.specs.GhostStates.{Ghost}
 use Rattle.world_refines.specs.WorldRefinement.{WorldRefines}
 use Rattle.strangers.specs.LeavingJobs.{JobsStand, ghost_with}

@@ -15,8 +15,8 @@ use Rattle.system_model.specs.Invariants.{Invariant}
 use Rattle.daemon_refines.specs.ContextRefinement.{TableRefines}
 use Rattle.daemon_refines.specs.OtherSessions.{LeavesOthers}
 use Rattle.daemon_refines.specs.Cores.{RefinesAfterFeed, SessionRefines}
-use Rattle.scan_world.specs.declared.endpoint.Endpoint.{Endpoint}
-use Rattle.scan_world.specs.Worlds.{WorldCore}
+use Rattle.event_world.specs.declared.endpoint.Endpoint.{Endpoint}
+use Rattle.event_world.specs.Worlds.{WorldCore}
 use Rattle.world_refines.specs.GhostStates.{Ghost}
 use Rattle.world_refines.specs.Speaks.{AsksAsHeld}
 use Rattle.world_refines.specs.WorldRefinement.{EndpointRefinesAt, IsBelow}

@@ -14,9 +14,9 @@ use Rattle.net_client.specs.ClientStates.{ClientState, IsNewClient}
 use Rattle.net_jobs.specs.JobSteps.{StepsLead, files_by_steps, given_by_steps}
 use Rattle.saned_core.specs.DaemonStates.{Core}
 use Rattle.interleaving.specs.Interleavings.{job_journal}
-use Rattle.scan_world.specs.Worlds.{WorldCore}
-use Rattle.world_contract.specs.Histories.{History}
-use Rattle.world_contract.specs.Page.{IsScan, IsSteady}
+use Rattle.event_world.specs.Worlds.{WorldCore}
+use Rattle.scan_world.specs.Histories.{History}
+use Rattle.scan_world.specs.Page.{IsScan, IsSteady}
 use Rattle.programs_refine.specs.Keeping.{AllLoopsAreKept, AreFit, ProgramsKeepAll, history_of}
 use Rattle.programs_refine.specs.Programs.{HasOpenedNone, WentOut}
 use Rattle.programs_refine.specs.WorkedRuns.{owned_by_first}

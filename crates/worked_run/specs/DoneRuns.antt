@@ -9,7 +9,7 @@ use Rattle.net_client.specs.ClientStates.{ClientState}
 use Rattle.net_jobs.specs.JobSteps.{given_by_steps}
 use Rattle.saned_core.specs.DaemonStates.{Core}
 use Rattle.interleaving.specs.Interleavings.{job_journal}
-use Rattle.world_contract.specs.Page.{IsScan, IsSteady}
+use Rattle.scan_world.specs.Page.{IsScan, IsSteady}
 use Rattle.programs_refine.specs.Keeping.{AllLoopsAreKept, history_of}
 use Rattle.programs_refine.specs.Programs.{Acts, RunOverConnections}
 use Rattle.programs_refine.specs.WorkedRuns.{owned_by_first}

@@ -12,14 +12,14 @@ use Rattle.device_api.specs.Values.{defaults}
 use Rattle.scan_job.specs.declared.job.Job.{Job}
 use Rattle.scan_job.specs.declared.outcome.Outcome.TheVariants.{Done}
 use Rattle.scan_job.specs.declared.report.Reports.{Reports}
-use Rattle.scan_world.specs.declared.event.Event.TheVariants.{Load}
-use Rattle.scan_world.specs.Worlds.{WorldCore}
-use Rattle.world_contract.specs.Calls.{ForEach, KeepsPage, outcome_at}
-use Rattle.world_contract.specs.Clear.{ClearsUp, FeederIsClear}
-use Rattle.world_contract.specs.Histories.{LedTo, begun}
-use Rattle.world_contract.specs.Page.{IsScan}
-use Rattle.world_contract.specs.Trays.{BatchIsCounted, IsOfTray, KeepsTray, OwnTray, first_tray}
-use Rattle.world_contract.proofs.Lists.{in_list}
+use Rattle.event_world.specs.declared.event.Event.TheVariants.{Load}
+use Rattle.event_world.specs.Worlds.{WorldCore}
+use Rattle.scan_world.specs.Calls.{ForEach, KeepsPage, outcome_at}
+use Rattle.scan_world.specs.Clear.{ClearsUp, FeederIsClear}
+use Rattle.scan_world.specs.Histories.{LedTo, begun}
+use Rattle.scan_world.specs.Page.{IsScan}
+use Rattle.scan_world.specs.Trays.{BatchIsCounted, IsOfTray, KeepsTray, OwnTray, first_tray}
+use Rattle.scan_world.proofs.Lists.{in_list}
 use Rattle.worked_worlds.specs.Inside.{IsKeptPage}
 use Rattle.worked_worlds.specs.Worked.{HasBrokenOff, IsFedScanOf, IsPlainBatch, feeder_with, memory_source}
 use Rattle.worked_worlds.proofs.Worked.{Came, IsOther, Moved, at_there, came_off, history_of, only_one, settled_on, steady_tray}

@@ -24,23 +24,23 @@ use Rattle.scan_job.specs.declared.outcome.Outcome.{Outcome}
 use Rattle.scan_job.specs.declared.outcome.Outcome.TheVariants.{Done, Ended}
 use Rattle.scan_job.specs.declared.outcome.Why.TheVariants.{Answer, Memory}
 use Rattle.scan_job.specs.declared.report.Reports.{Reports}
-use Rattle.scan_world.specs.declared.event.Event.{Event}
-use Rattle.scan_world.specs.declared.event.Event.TheVariants.{Load, Unplug}
-use Rattle.scan_world.specs.Worlds.{HasFaultAmong, IsFitJob, WorldCore}
-use Rattle.scan_world.specs.declared.world_fault.WorldFault.{WorldFault}
-use Rattle.scan_world.specs.declared.world_fault.WorldFault.TheVariants as faults
+use Rattle.event_world.specs.declared.event.Event.{Event}
+use Rattle.event_world.specs.declared.event.Event.TheVariants.{Load, Unplug}
+use Rattle.event_world.specs.Worlds.{HasFaultAmong, IsFitJob, WorldCore}
+use Rattle.event_world.specs.declared.world_fault.WorldFault.{WorldFault}
+use Rattle.event_world.specs.declared.world_fault.WorldFault.TheVariants as faults
 use Rattle.world_refines.specs.GhostStates.{backend_of, is_allowed_for, is_guarded}
-use Rattle.world_contract.specs.Calls.{ForEach, IsJobAt, KeepsPage, RunsOut, outcome_at, starved_at}
-use Rattle.world_contract.specs.Clear.{AllAreListed, ClearsUp, IsClear, PlainIsClear}
-use Rattle.world_contract.specs.Examples.{IsScanOf}
-use Rattle.world_contract.specs.Endings.{AnswerIsExplained, HadNoPage, HasPassed, NamesStatus}
-use Rattle.world_contract.specs.Histories.{History, LedTo, and_then, begun, history_up_to}
-use Rattle.world_contract.specs.Page.{CameInTime, IsSteady, Settled}
-use Rattle.world_contract.specs.Page.CameInTime.{FromFirst, AsItRan}
-use Rattle.world_contract.specs.Promise.{FileIsKept, OutcomeIsKept}
-use Rattle.world_contract.specs.Settings.{AreSettingsPut}
-use Rattle.world_contract.proofs.Lists.{In, in_list, in_split}
-use Rattle.world_contract.proofs.NextMoves.{LoadsNothing, quiet_moves}
+use Rattle.scan_world.specs.Calls.{ForEach, IsJobAt, KeepsPage, RunsOut, outcome_at, starved_at}
+use Rattle.scan_world.specs.Clear.{AllAreListed, ClearsUp, IsClear, PlainIsClear}
+use Rattle.scan_world.specs.Examples.{IsScanOf}
+use Rattle.scan_world.specs.Endings.{AnswerIsExplained, HadNoPage, HasPassed, NamesStatus}
+use Rattle.scan_world.specs.Histories.{History, LedTo, and_then, begun, history_up_to}
+use Rattle.scan_world.specs.Page.{CameInTime, IsSteady, Settled}
+use Rattle.scan_world.specs.Page.CameInTime.{FromFirst, AsItRan}
+use Rattle.scan_world.specs.Promise.{FileIsKept, OutcomeIsKept}
+use Rattle.scan_world.specs.Settings.{AreSettingsPut}
+use Rattle.scan_world.proofs.Lists.{In, in_list, in_split}
+use Rattle.scan_world.proofs.NextMoves.{LoadsNothing, quiet_moves}
 use Rattle.worked_worlds.specs.Worked.{AreScans, DoneFrom, HasBrokenOff, IsPlainScan, LedFrom, ListsAll, IsDisallowed, IsUnlisted, SaysAnswered, SaysDone, ShowsOptions, WasPassed, feeder_with, flatbed_with, memory_source}
 
 -- ---- where the world came from

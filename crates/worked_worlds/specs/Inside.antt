@@ -1,8 +1,8 @@
 -- What private functions alone promise.
 use Rattle.std.specs.Prelude.{ℕ, Some, List}
-use Rattle.scan_world.specs.Worlds.{WorldCore}
-use Rattle.world_contract.specs.Calls.{KeepsPage}
-use Rattle.world_contract.specs.Trays.{KeepsTray}
+use Rattle.event_world.specs.Worlds.{WorldCore}
+use Rattle.scan_world.specs.Calls.{KeepsPage}
+use Rattle.scan_world.specs.Trays.{KeepsTray}
 
 -- **a page that is kept (`IsKeptPage`)**: that a file is kept as that of page k of a world's first job, and as that of
 -- the k-th page of its tray.

@@ -21,17 +21,17 @@ use Rattle.scan_job.specs.declared.job.Task.TheVariants as tasks
 use Rattle.scan_job.specs.declared.outcome.Outcome.TheVariants.{Done}
 use Rattle.scan_job.specs.declared.outcome.Why.TheVariants.{Answer}
 use Rattle.scan_job.specs.declared.report.Reports.{Reports}
-use Rattle.scan_world.specs.Worlds.{IsFitJob, WorldCore}
+use Rattle.event_world.specs.Worlds.{IsFitJob, WorldCore}
 use Rattle.world_refines.specs.GhostStates.{backend_of, is_allowed_for, is_guarded}
-use Rattle.world_contract.specs.Calls.{IsJobAt, outcome_at, starved_at}
-use Rattle.world_contract.specs.Histories.{History, LedTo}
-use Rattle.world_contract.specs.Clear.{BrokeOff, IsAllowedAlways}
-use Rattle.world_contract.specs.Endings.{HasPassed, IsEndingExplained}
-use Rattle.world_contract.specs.Page.{IsScan}
-use Rattle.world_contract.specs.Promise.{JobIsDone}
-use Rattle.world_contract.specs.Reports.{AreOptionsShown}
-use Rattle.world_contract.specs.Sessions.{Asked, IsAtOpen}
-use Rattle.world_contract.specs.Settings.{AreSettingsPut}
+use Rattle.scan_world.specs.Calls.{IsJobAt, outcome_at, starved_at}
+use Rattle.scan_world.specs.Histories.{History, LedTo}
+use Rattle.scan_world.specs.Clear.{BrokeOff, IsAllowedAlways}
+use Rattle.scan_world.specs.Endings.{HasPassed, IsEndingExplained}
+use Rattle.scan_world.specs.Page.{IsScan}
+use Rattle.scan_world.specs.Promise.{JobIsDone}
+use Rattle.scan_world.specs.Reports.{AreOptionsShown}
+use Rattle.scan_world.specs.Sessions.{Asked, IsAtOpen}
+use Rattle.scan_world.specs.Settings.{AreSettingsPut}
 
 -- ---- the devices
 

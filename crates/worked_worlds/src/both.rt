@@ -11,8 +11,8 @@ use md5_auth::Users;
 use net_backend::Job;
 use page_picture::Page;
 use sane_fixed::Text;
+use scan_world::{World, a_plain_job_is_clear};
 use std::alloc::Global;
-use world_contract::{World, a_plain_job_is_clear};
 
 /// A batch on a feeder with these two pages, over the net, and both files.
 pub fn scan_both_surely(

@@ -7,14 +7,14 @@ ghost use Rattle.scan_job.specs.declared.outcome.Outcome.TheVariants.{Done, Ende
 ghost use Rattle.scan_job.specs.declared.outcome.Outcome.{Outcome as AnOutcome};
 ghost use Rattle.scan_job.specs.declared.outcome.Why.TheVariants.{Memory};
 ghost use Rattle.scan_job.specs.declared.report.Reports.{Reports};
-ghost use Rattle.scan_world.specs.Worlds.{seen_world};
-ghost use Rattle.world_contract.specs.Calls.{outcome_at, starved_at};
+ghost use Rattle.event_world.specs.Worlds.{seen_world};
+ghost use Rattle.scan_world.specs.Calls.{outcome_at, starved_at};
 ghost use Rattle.worked_worlds.specs.Worked.{SaysAnswered, SaysDone};
 
 use device_api::Device;
 use net_backend::{Outcome, Why};
 use sane_fixed::Status;
-use world_contract::World;
+use scan_world::World;
 
 /// Whether it is done: then so that it is right.
 pub(crate) fn is_done(world: &World) -> bool

@@ -1,4 +1,4 @@
-//! Worked worlds: of each definition of the promise on the calls a run that meets it, beside the scans of `world_contract`: a list, a
+//! Worked worlds: of each definition of the promise on the calls a run that meets it, beside the scans of `scan_world`: a list, a
 //! show, a guarded device with the right and with a wrong password, a device taken out, an empty tray, and batches.
 #![tactic(auto)]
 

@@ -10,8 +10,8 @@ use md5_auth::Users;
 use net_backend::Job;
 use page_picture::Page;
 use sane_fixed::Text;
+use scan_world::{World, all_are_listed};
 use std::alloc::Global;
-use world_contract::{World, all_are_listed};
 
 /// Lists two flatbeds. Whether the job is done.
 pub fn list_both(

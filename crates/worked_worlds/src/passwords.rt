@@ -10,8 +10,8 @@ use md5_auth::Users;
 use net_backend::Job;
 use page_picture::Page;
 use sane_fixed::Text;
+use scan_world::World;
 use std::alloc::Global;
-use world_contract::World;
 
 /// Scans on a flatbed whose backend these users may guard. Whether the job is done.
 pub fn scan_with_password(alloc: Global, name: Text, page: Page, users: Users, job: Job) -> bool

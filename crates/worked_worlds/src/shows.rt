@@ -10,8 +10,8 @@ use md5_auth::Users;
 use net_backend::Job;
 use page_picture::Page;
 use sane_fixed::Text;
+use scan_world::World;
 use std::alloc::Global;
-use world_contract::World;
 
 /// Shows the options of a flatbed. Whether the job is done.
 pub fn show_options(alloc: Global, name: Text, page: Page, users: Users, job: Job) -> bool

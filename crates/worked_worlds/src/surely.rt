@@ -2,8 +2,8 @@
 
 ghost use Rattle.std.specs.Prelude.{◌≡◌, ◌⊎◌, IfErr, IfOk, [], ◌∷◌};
 ghost use Rattle.scan_job.specs.declared.job.Task.TheVariants as tasks;
-ghost use Rattle.scan_world.specs.declared.world_fault.WorldFault.TheVariants as faults;
-ghost use Rattle.world_contract.specs.Examples.{IsScanOf};
+ghost use Rattle.event_world.specs.declared.world_fault.WorldFault.TheVariants as faults;
+ghost use Rattle.scan_world.specs.Examples.{IsScanOf};
 ghost use Rattle.worked_worlds.specs.Worked.{HasBrokenOff, IsPlainScan, flatbed_with};
 
 use crate::ends::{End, end_of};
@@ -12,9 +12,9 @@ use md5_auth::Users;
 use net_backend::Job;
 use page_picture::Page;
 use sane_fixed::Text;
+use scan_world::{World, WorldFault, a_plain_job_is_clear};
 use std::alloc::Global;
 use thiserror::Error;
-use world_contract::{World, WorldFault, a_plain_job_is_clear};
 
 /// Why there is no file.
 #[derive(Clone, Copy, Debug, PartialEq, Eq, Error)]

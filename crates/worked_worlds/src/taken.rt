@@ -5,7 +5,7 @@ ghost use Rattle.page_picture.specs.Meaning.{meaning_of};
 ghost use Rattle.page_picture.specs.declared.scene.DeviceKind.TheVariants.{Flatbed};
 ghost use Rattle.device_api.specs.Values.{defaults};
 ghost use Rattle.sane_fixed.specs.declared.byte_order.ByteOrder.TheVariants.{Little};
-ghost use Rattle.scan_world.specs.declared.event.Event.TheVariants.{Unplug};
+ghost use Rattle.event_world.specs.declared.event.Event.TheVariants.{Unplug};
 ghost use Rattle.worked_worlds.specs.Worked.{IsUnlisted, LedFrom, flatbed_with};
 
 use crate::ends::was_invalid;
@@ -14,8 +14,8 @@ use md5_auth::Users;
 use net_backend::Job;
 use page_picture::Page;
 use sane_fixed::Text;
+use scan_world::{Event, World};
 use std::alloc::Global;
-use world_contract::{Event, World};
 
 /// The device of that name is taken out.
 fn taken_out(alloc: Global, name: Text) -> Option<Vec<Event>>

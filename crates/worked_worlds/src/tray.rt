@@ -4,8 +4,8 @@ ghost use Rattle.std.specs.Prelude.{◌≡◌, IfSome, true, List, [], ◌∷◌
 ghost use Rattle.page_picture.specs.SourceView.{source_state};
 ghost use Rattle.page_picture.specs.Page.{PageView};
 ghost use Rattle.device_api.specs.State.{DeviceState};
-ghost use Rattle.scan_world.specs.Worlds.{seen_world};
-ghost use Rattle.world_contract.specs.Endings.{HadNoPage};
+ghost use Rattle.event_world.specs.Worlds.{seen_world};
+ghost use Rattle.scan_world.specs.Endings.{HadNoPage};
 ghost use Rattle.worked_worlds.specs.Inside.{IsKeptPage};
 ghost use Rattle.worked_worlds.specs.Worked.{AreScans, LedFrom, feeder_with, memory_source};
 
@@ -17,8 +17,8 @@ use md5_auth::Users;
 use net_backend::Job;
 use page_picture::{MemoryPage, Page, Source};
 use sane_fixed::{ByteOrder, Text};
+use scan_world::World;
 use std::alloc::Global;
-use world_contract::World;
 
 /// Scans on a feeder with an empty tray. Whether that was answered NO_DOCS.
 pub fn scan_no_page(alloc: Global, name: Text, users: Users, job: Job) -> bool

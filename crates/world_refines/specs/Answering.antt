@@ -7,7 +7,7 @@ use Rattle.system_model.specs.AbstractMessages.{AbstractRequest}
 use Rattle.system_model.specs.Actions as actions
 use Rattle.system_model.specs.Deliveries.{Chance, answers}
 use Rattle.system_model.specs.Transitions.{By, Transition}
-use Rattle.scan_world.specs.JobEvents.{bytes_not_delivered, delivered_bytes}
+use Rattle.event_world.specs.JobEvents.{bytes_not_delivered, delivered_bytes}
 use Rattle.world_refines.specs.GhostStates.{Ghost, job_state, wires}
 use Rattle.world_refines.specs.Wires.{SpellsAsked}
 use Rattle.world_refines.specs.GhostEvents.{GhostTakes}

@@ -10,7 +10,7 @@ use Rattle.system_model.specs.Client.{Allowing, ClientView, Running, JobStage, r
 use Rattle.system_model.specs.ClientReplies.{hear_in}
 use Rattle.system_model.specs.Actions as actions
 use Rattle.system_model.specs.Transitions.{By, IsHistory, IsUnderWay, Transition}
-use Rattle.scan_world.specs.JobEvents.{bytes_not_delivered, delivered_bytes}
+use Rattle.event_world.specs.JobEvents.{bytes_not_delivered, delivered_bytes}
 use Rattle.world_refines.specs.GhostStates.{Ghost, Wires, job_state, ghost_after, wires}
 use Rattle.world_refines.specs.Wires.{SpellsAsked}
 use Rattle.world_refines.specs.GhostEvents.{GhostTakes}

@@ -3,8 +3,8 @@ use Rattle.std.specs.Prelude.{ℕ, ◌≡◌, ◌+◌, ◌≤◌, Option, Some, 
 use Rattle.system_model.specs.Client.{Done, Ended, Idle, Running, JobStage}
 use Rattle.system_model.specs.Variant.{control_variant}
 use Rattle.system_model.specs.Transitions.{IsUnderWay}
-use Rattle.scan_world.specs.declared.endpoint.Endpoint.{Endpoint}
-use Rattle.scan_world.specs.Worlds.{WorldCore}
+use Rattle.event_world.specs.declared.endpoint.Endpoint.{Endpoint}
+use Rattle.event_world.specs.Worlds.{WorldCore}
 use Rattle.world_refines.specs.GhostStates.{Ghost, Wires, job_state, wires}
 
 abbrev pub on_its_way : Option (List ℕ) → ℕ

@@ -12,7 +12,7 @@ use Rattle.system_model.specs.Client.{requests_sent}
 use Rattle.system_model.specs.Actions as actions
 use Rattle.system_model.specs.Transitions.{Transition, By, IsHistory, IsUnderWay}
 use Rattle.client_refines.specs.PieceRefinement.{RecordsBring}
-use Rattle.scan_world.specs.JobEvents.{bytes_not_delivered, delivered_bytes}
+use Rattle.event_world.specs.JobEvents.{bytes_not_delivered, delivered_bytes}
 use Rattle.world_refines.specs.GhostStates.{Ghost, Wires, job_state, ghost_after, wires}
 use Rattle.world_refines.specs.Wires.{CarriesFlight, SpellsAsked}
 

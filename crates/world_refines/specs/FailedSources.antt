@@ -26,9 +26,9 @@ use Rattle.system_model.specs.AbstractMessages.{Parameters, Start}
 use Rattle.system_model.specs.Actions.{Answers, Breaks, TurnsFault}
 use Rattle.system_model.specs.SystemStates.{SystemState}
 use Rattle.system_model.specs.Transitions.{By, IsUnderWay, Transition, after_transition}
-use Rattle.scan_world.specs.declared.event.Event.{Event}
-use Rattle.scan_world.specs.declared.endpoint.Endpoint.{Endpoint}
-use Rattle.scan_world.specs.Worlds.{Leads, Runs, WorldCore}
+use Rattle.event_world.specs.declared.event.Event.{Event}
+use Rattle.event_world.specs.declared.endpoint.Endpoint.{Endpoint}
+use Rattle.event_world.specs.Worlds.{Leads, Runs, WorldCore}
 use Rattle.world_refines.specs.GhostStates.{Ghost}
 
 -- ---- in an event

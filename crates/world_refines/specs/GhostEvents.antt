@@ -16,12 +16,12 @@ use Rattle.system_model.specs.AbstractDevices.{Resting}
 use Rattle.system_model.specs.Transitions.{Transition, By, Loads, Unplugs, IsHistory, IsImaging, IsUnderWay, after_all}
 use Rattle.saned_core.specs.Loading.{core_after_load}
 use Rattle.dispatch.specs.Table.{after_unplug}
-use Rattle.scan_world.specs.declared.event.JobEvent.{JobEvent}
-use Rattle.scan_world.specs.declared.event.JobEvent.TheVariants.{Connect, ToDaemon, ToClient, DataConnect, DataTurn}
-use Rattle.scan_world.specs.declared.event.JobEvent.TheVariants.{DataToClient, LoseControl, LoseImage, Cancel}
+use Rattle.event_world.specs.declared.event.JobEvent.{JobEvent}
+use Rattle.event_world.specs.declared.event.JobEvent.TheVariants.{Connect, ToDaemon, ToClient, DataConnect, DataTurn}
+use Rattle.event_world.specs.declared.event.JobEvent.TheVariants.{DataToClient, LoseControl, LoseImage, Cancel}
 use Rattle.world_refines.specs.GhostStates.{Ghost, Wires, name_at, job_state, wires, wired_then}
 use Rattle.world_refines.specs.Wires.{SpellsAsked}
-use Rattle.scan_world.specs.Worlds.{AtEndpoint, WorldCore}
+use Rattle.event_world.specs.Worlds.{AtEndpoint, WorldCore}
 use Rattle.world_refines.specs.WorldRefinement.{WorldRefines, client_at_greeting}
 use Rattle.daemon_refines.specs.ContextRefinement.{HasSource}
 use Rattle.device_api.specs.ScannerLimits.{IsHeldPage}

@@ -19,18 +19,18 @@ use Rattle.system_model.specs.Devices.{Make}
 use Rattle.system_model.specs.Marks.{MarksLead, device_view}
 use Rattle.system_model.specs.MoveRuns.{all_marks}
 use Rattle.system_model.specs.Transitions.{IsHistory, Transition, after_all, IsUnderWay}
-use Rattle.scan_world.specs.declared.event.Event.{Event}
-use Rattle.scan_world.specs.declared.event.Event.TheVariants.{Connect, ToDaemon, ToClient, DataConnect, DataTurn}
-use Rattle.scan_world.specs.declared.event.Event.TheVariants.{DataToClient, LoseControl, LoseImage, Cancel, Load}
-use Rattle.scan_world.specs.declared.event.Event.TheVariants.{Unplug}
-use Rattle.scan_world.specs.declared.event.JobEvent.TheVariants as actions
+use Rattle.event_world.specs.declared.event.Event.{Event}
+use Rattle.event_world.specs.declared.event.Event.TheVariants.{Connect, ToDaemon, ToClient, DataConnect, DataTurn}
+use Rattle.event_world.specs.declared.event.Event.TheVariants.{DataToClient, LoseControl, LoseImage, Cancel, Load}
+use Rattle.event_world.specs.declared.event.Event.TheVariants.{Unplug}
+use Rattle.event_world.specs.declared.event.JobEvent.TheVariants as actions
 use Rattle.client_replies.specs.ProtocolStates.{is_running}
-use Rattle.scan_world.specs.declared.endpoint.Endpoint.{Endpoint}
-use Rattle.scan_world.specs.JobEvents.{is_done}
-use Rattle.scan_world.specs.JobMoves.{IsNextMove, moves_left_of}
-use Rattle.scan_world.specs.Endpoints.{finished_page}
-use Rattle.scan_world.specs.Rounds.{RestsAt}
-use Rattle.scan_world.specs.Worlds.{AreNew, IsFitJob, Runs, WorldCore}
+use Rattle.event_world.specs.declared.endpoint.Endpoint.{Endpoint}
+use Rattle.event_world.specs.JobEvents.{is_done}
+use Rattle.event_world.specs.JobMoves.{IsNextMove, moves_left_of}
+use Rattle.event_world.specs.Endpoints.{finished_page}
+use Rattle.event_world.specs.Rounds.{RestsAt}
+use Rattle.event_world.specs.Worlds.{AreNew, IsFitJob, Runs, WorldCore}
 use Rattle.world_refines.specs.GhostStates.{Ghost, job_state}
 use Rattle.world_refines.specs.WorldRefinement.{WorldRefines}
 use Rattle.world_refines.specs.Costs.{Pays}

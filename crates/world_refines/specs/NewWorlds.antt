@@ -16,8 +16,8 @@ use Rattle.system_model.specs.Devices.{Make}
 use Rattle.system_model.specs.ModelPromises.{initial_state}
 use Rattle.daemon_refines.specs.ContextRefinement.{HaveSources}
 use Rattle.daemon_refines.specs.Cores.{fresh_devices}
-use Rattle.scan_world.specs.declared.endpoint.Endpoint.{Endpoint}
-use Rattle.scan_world.specs.Worlds.{AreNew, IsFitJob, WorldCore}
+use Rattle.event_world.specs.declared.endpoint.Endpoint.{Endpoint}
+use Rattle.event_world.specs.Worlds.{AreNew, IsFitJob, WorldCore}
 use Rattle.world_refines.specs.GhostStates.{Ghost, Wires, abstract_job}
 use Rattle.world_refines.specs.WorldRefinement.{WorldRefines, numbers_from}
 use Rattle.world_refines.specs.Costs.{Pays}

@@ -36,11 +36,11 @@ use Rattle.client_replies.specs.GivenValues.{given_like, wire_value_in}
 use Rattle.saned_requests.specs.declared.session.StringSize.{StringSize}
 use Rattle.saned_requests.specs.OptionValues.{sent_as}
 use Rattle.wire_message.specs.WireValues.{wire_of}
-use Rattle.scan_world.specs.declared.event.Event.{Event}
-use Rattle.scan_world.specs.declared.event.Event.TheVariants.{LoseControl}
-use Rattle.scan_world.specs.declared.endpoint.Endpoint.{Endpoint}
-use Rattle.scan_world.specs.JobMoves.{IsNextMove}
-use Rattle.scan_world.specs.Worlds.{WorldCore}
+use Rattle.event_world.specs.declared.event.Event.{Event}
+use Rattle.event_world.specs.declared.event.Event.TheVariants.{LoseControl}
+use Rattle.event_world.specs.declared.endpoint.Endpoint.{Endpoint}
+use Rattle.event_world.specs.JobMoves.{IsNextMove}
+use Rattle.event_world.specs.Worlds.{WorldCore}
 use Rattle.world_refines.specs.GhostStates.{Ghost, job_state}
 use Rattle.world_refines.specs.WorldRefinement.{WorldRefines}
 

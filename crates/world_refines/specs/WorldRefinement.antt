@@ -39,11 +39,11 @@ use Rattle.system_model.specs.Invariants.{Invariant}
 use Rattle.client_refines.specs.ClientRefinement.{ClientRefines}
 use Rattle.daemon_refines.specs.ContextRefinement.{TableRefines}
 use Rattle.daemon_refines.specs.Cores.{SessionRefines}
-use Rattle.scan_world.specs.declared.endpoint.Image.{Image}
-use Rattle.scan_world.specs.declared.endpoint.Endpoint.{Endpoint}
-use Rattle.scan_world.specs.FileDraining.{HasFiles}
-use Rattle.scan_world.specs.JobEvents.{is_done}
-use Rattle.scan_world.specs.Worlds.{WorldCore}
+use Rattle.event_world.specs.declared.endpoint.Image.{Image}
+use Rattle.event_world.specs.declared.endpoint.Endpoint.{Endpoint}
+use Rattle.event_world.specs.FileDraining.{HasFiles}
+use Rattle.event_world.specs.JobEvents.{is_done}
+use Rattle.event_world.specs.Worlds.{WorldCore}
 use Rattle.world_refines.specs.GhostStates.{Ghost, Wires, name_at, place_of_info, abstract_job}
 use Rattle.world_refines.specs.Wires.{FlightMatches, SpellsAsked, SpellsReplies}
 use Rattle.world_refines.specs.WorldPending.{Pends}

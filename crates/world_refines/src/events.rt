@@ -2,7 +2,7 @@
 //! nothing changes.
 
 ghost use Rattle.std.specs.Prelude.{ℕ};
-ghost use Rattle.scan_world.specs.declared.event.JobEvent.TheVariants.{Cancel, Connect, DataConnect, DataToClient, DataTurn, LoseControl, LoseImage, ToClient, ToDaemon};
+ghost use Rattle.event_world.specs.declared.event.JobEvent.TheVariants.{Cancel, Connect, DataConnect, DataToClient, DataTurn, LoseControl, LoseImage, ToClient, ToDaemon};
 ghost use Rattle.world_refines.specs.Answering.{AnswersSome};
 ghost use Rattle.world_refines.specs.ClientDeliveries.{GhostHears};
 ghost use Rattle.world_refines.specs.GhostEvents.{GhostConnects, Dials, EventRefines, GivesUp, LosesControl, LosesImage, GhostTurns};

@@ -1,11 +1,11 @@
 use device_api::Device;
+use event_world::{Event, EventWorld};
 use md5_auth::Users;
 use net_backend::{Job, Outcome, Reports, Task, Why};
 use option_desc::Value;
 use page_picture::{DeviceKind, MemoryPage, Source, read_page};
 use pnm_writer::read_pnm;
 use sane_fixed::{ByteOrder, Info, Status, Text};
-use scan_world::{Event, World};
 use std::alloc::Global;
 use std::process::Abort;
 use virtual_scanner::VirtualScanner;
@@ -183,7 +183,7 @@ fn all_jobs(rt: &impl Abort, alloc: Global, asked: &[Asked<'_>]) -> Vec<Job> {
 }
 
 /// An event happens, where it can.
-fn happens(rt: &impl Abort, alloc: Global, world: &mut World, event: Event) {
+fn happens(rt: &impl Abort, alloc: Global, world: &mut EventWorld, event: Event) {
     let mut events = Vec::new(alloc);
     events.push(event).expect(rt, "memory");
     world.run(events);
@@ -203,7 +203,7 @@ fn within(event: Event, most: usize) -> Event {
 fn moves(
     rt: &impl Abort,
     alloc: Global,
-    world: &mut World,
+    world: &mut EventWorld,
     i: usize,
     count: u64,
     most: usize,
@@ -222,7 +222,7 @@ fn moves(
 fn until_data(
     rt: &impl Abort,
     alloc: Global,
-    world: &mut World,
+    world: &mut EventWorld,
     i: usize,
     count: u64,
     most: usize,
@@ -245,7 +245,7 @@ fn until_data(
 }
 
 /// What is done, or what must hold, in a world that stands. Says how many moves were made.
-fn act(rt: &impl Abort, alloc: Global, world: &mut World, step: Step<'_>) -> u64 {
+fn act(rt: &impl Abort, alloc: Global, world: &mut EventWorld, step: Step<'_>) -> u64 {
     let event = match step {
         Step::Moves(i, count, most) => return moves(rt, alloc, world, i, count, most),
         Step::UntilData(i, count, most) => {
@@ -295,7 +295,13 @@ fn play(
         }
     }
     let users = Users::parse(alloc, users).expect(rt, "users");
-    let mut world = match World::new(alloc, devices, users, NO_SEED, all_jobs(rt, alloc, asked)) {
+    let mut world = match EventWorld::new(
+        alloc,
+        devices,
+        users,
+        NO_SEED,
+        all_jobs(rt, alloc, asked),
+    ) {
         Ok(world) => world,
         Err(_) => panic!(rt; "no world"),
     };
@@ -307,7 +313,7 @@ fn play(
     made
 }
 
-fn how(rt: &impl Abort, world: &World, i: usize) -> Over {
+fn how(rt: &impl Abort, world: &EventWorld, i: usize) -> Over {
     match world.outcome(i).expect(rt, "a job") {
         Outcome::Running => Over::Running,
         Outcome::Done(_) => Over::Done,
@@ -316,13 +322,13 @@ fn how(rt: &impl Abort, world: &World, i: usize) -> Over {
 }
 
 /// A job stands so, and no growth was refused on its connections, in its session or for its files.
-fn expect_over(rt: &impl Abort, world: &World, i: usize, over: Over) {
+fn expect_over(rt: &impl Abort, world: &EventWorld, i: usize, over: Over) {
     assert_eq!(rt; how(rt, world, i), over);
     assert!(rt; !world.starved(i));
 }
 
 /// What a job shows is this.
-fn shows(rt: &impl Abort, alloc: Global, world: &World, i: usize, shown: Shown<'_>) {
+fn shows(rt: &impl Abort, alloc: Global, world: &EventWorld, i: usize, shown: Shown<'_>) {
     match shown {
         Shown::File(file) => assert!(rt; world.file(i) == Some(file)),
         Shown::FileIfMemory(file) => memory::done_or_wanting(rt, alloc, world, i, file),
@@ -371,7 +377,7 @@ fn extent(alloc: Global, file: Option<&[u8]>) -> Option<(u32, u32)> {
     Some(extent)
 }
 
-fn reports<'a>(rt: &impl Abort, world: &'a World, i: usize) -> &'a Reports {
+fn reports<'a>(rt: &impl Abort, world: &'a EventWorld, i: usize) -> &'a Reports {
     match world.outcome(i) {
         Some(Outcome::Done(reports)) => reports,
         _ => panic!(rt; "job {i} is not done"),

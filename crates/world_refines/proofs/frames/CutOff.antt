@@ -13,9 +13,9 @@ use Rattle.system_model.specs.SystemStates.{JobState, with_entry}
 use Rattle.system_model.specs.Transitions.{By, IsUnderWay}
 use Rattle.system_model.proofs.JobPromises.{sound_after_all}
 use Rattle.daemon_refines.proofs.Moved.{put_there}
-use Rattle.scan_world.specs.declared.endpoint.Endpoint.{Endpoint}
-use Rattle.scan_world.specs.Endpoints.{image_out_of_memory}
-use Rattle.scan_world.specs.Worlds.{WorldCore}
+use Rattle.event_world.specs.declared.endpoint.Endpoint.{Endpoint}
+use Rattle.event_world.specs.Endpoints.{image_out_of_memory}
+use Rattle.event_world.specs.Worlds.{WorldCore}
 use Rattle.world_refines.specs.GhostStates.{Ghost, Wires, place_of_info, wired_then}
 use Rattle.world_refines.specs.WorldRefinement.{WiresMatch, IsNobody, IsServed, EndpointRefines, EndpointRefinesAt, WorldRefines, slot_of_link, session_by, AreStartedViews}
 use Rattle.world_refines.specs.GhostEvents.{wires_with_image}

@@ -42,13 +42,13 @@ use Rattle.daemon_refines.specs.Cores.{SessionRefines}
 use Rattle.daemon_refines.specs.ContextRefinement.{TransferRefines}
 use Rattle.daemon_refines.specs.DataRefinement.{transfer_connected}
 use Rattle.daemon_refines.proofs.Moved.{put_there, unsome}
-use Rattle.scan_world.specs.declared.event.JobEvent.TheVariants as events
-use Rattle.scan_world.specs.declared.endpoint.Image.{Image}
-use Rattle.scan_world.specs.declared.endpoint.Endpoint.{Endpoint}
-use Rattle.scan_world.specs.Endpoints.{with_data_opened, after_move}
-use Rattle.scan_world.specs.Endpoints as endpoints
-use Rattle.scan_world.specs.JobEvents as world
-use Rattle.scan_world.specs.Worlds.{WorldCore}
+use Rattle.event_world.specs.declared.event.JobEvent.TheVariants as events
+use Rattle.event_world.specs.declared.endpoint.Image.{Image}
+use Rattle.event_world.specs.declared.endpoint.Endpoint.{Endpoint}
+use Rattle.event_world.specs.Endpoints.{with_data_opened, after_move}
+use Rattle.event_world.specs.Endpoints as endpoints
+use Rattle.event_world.specs.JobEvents as world
+use Rattle.event_world.specs.Worlds.{WorldCore}
 use Rattle.world_refines.specs.GhostStates.{Ghost, Wires, place_of_info, wired_then}
 use Rattle.world_refines.specs.Wires.{CarriesFlight, FlightMatches, SpellsReplies, IsNotDialled}
 use Rattle.world_refines.specs.WorldRefinement.{WiresMatch, IsServed, KeepsFiles, Means, WorldRefines, EndpointClientRefines, is_laid, slot_of_link, session_by, client_at_greeting, AreStartedViews}

@@ -22,10 +22,10 @@ use Rattle.client_refines.specs.RequestRefinement.{asks_of}
 use Rattle.client_refines.specs.PieceRefinement.{SpellsSent}
 use Rattle.client_refines.proofs.ClientEndings.{pulls_unseen}
 use Rattle.client_refines.proofs.PieceReceiving.{all_taken}
-use Rattle.scan_world.specs.declared.endpoint.Endpoint.{Endpoint}
-use Rattle.scan_world.specs.JobEvents.{is_done}
-use Rattle.scan_world.specs.FileDraining.{HasDrained, Drains, HasFiles, HasPlace, HoldsHistory, IsLaid, RunsDry, TurnsTo}
-use Rattle.scan_world.proofs.Pulls.{snoc_at}
+use Rattle.event_world.specs.declared.endpoint.Endpoint.{Endpoint}
+use Rattle.event_world.specs.JobEvents.{is_done}
+use Rattle.event_world.specs.FileDraining.{HasDrained, Drains, HasFiles, HasPlace, HoldsHistory, IsLaid, RunsDry, TurnsTo}
+use Rattle.event_world.proofs.Pulls.{snoc_at}
 use Rattle.world_refines.specs.Wires.{SpellsAsked}
 use Rattle.world_refines.specs.WorldRefinement.{IsFinished}
 

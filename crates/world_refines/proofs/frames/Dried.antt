@@ -16,10 +16,10 @@ use Rattle.system_model.specs.SystemStates.{JobState}
 use Rattle.client_refines.specs.ClientRefinement.{ClientRefines}
 use Rattle.client_refines.proofs.ClientEndings.{pulls_unseen}
 use Rattle.client_refines.proofs.Outcomes.{outcomes_alike}
-use Rattle.scan_world.specs.declared.endpoint.Endpoint.{Endpoint}
-use Rattle.scan_world.specs.JobEvents.{is_done}
-use Rattle.scan_world.specs.FileDraining.{HasDrained, Drains, HasFiles, IsLaid, RunsDry, StaysOutOfMemory}
-use Rattle.scan_world.specs.Endpoints.{after_move}
+use Rattle.event_world.specs.declared.endpoint.Endpoint.{Endpoint}
+use Rattle.event_world.specs.JobEvents.{is_done}
+use Rattle.event_world.specs.FileDraining.{HasDrained, Drains, HasFiles, IsLaid, RunsDry, StaysOutOfMemory}
+use Rattle.event_world.specs.Endpoints.{after_move}
 use Rattle.world_refines.specs.WorldRefinement.{KeepsFiles, EndpointClientRefines, is_laid, client_at_greeting}
 use Rattle.world_refines.proofs.replies.Heeded.{Reaches}
 

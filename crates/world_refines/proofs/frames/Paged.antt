@@ -19,10 +19,10 @@ use Rattle.system_model.specs.Sync.{ArePictures, IsPictureOfStart}
 use Rattle.system_model.proofs.JobPromises.{pages_right}
 use Rattle.client_refines.specs.ClientRefinement.{wholes}
 use Rattle.daemon_refines.proofs.Moved.{unsome}
-use Rattle.scan_world.specs.declared.endpoint.Endpoint.{Endpoint}
-use Rattle.scan_world.specs.JobEvents.{is_done}
-use Rattle.scan_world.specs.FileDraining.{HasFiles, KeepsFile}
-use Rattle.scan_world.specs.Worlds.{WorldCore}
+use Rattle.event_world.specs.declared.endpoint.Endpoint.{Endpoint}
+use Rattle.event_world.specs.JobEvents.{is_done}
+use Rattle.event_world.specs.FileDraining.{HasFiles, KeepsFile}
+use Rattle.event_world.specs.Worlds.{WorldCore}
 use Rattle.world_refines.specs.GhostStates.{Ghost}
 use Rattle.world_refines.specs.WorldRefinement.{IsFinished, KeepsFiles, WorldRefines, is_laid, client_at_greeting}
 use Rattle.world_refines.specs.WorldPromises.{HasScannedPage, PagesAreMeant}

@@ -44,15 +44,15 @@ use Rattle.client_refines.specs.ClientRefinement.{ClientRefines, WaitsAs, task_o
 use Rattle.client_refines.specs.RequestRefinement.{asks_of}
 use Rattle.client_refines.specs.PieceRefinement.{SpellsSent}
 use Rattle.daemon_refines.proofs.Moved.{put_there, unsome}
-use Rattle.scan_world.specs.declared.event.JobEvent.TheVariants as events
-use Rattle.scan_world.specs.declared.endpoint.Image.{Image}
-use Rattle.scan_world.specs.declared.endpoint.Endpoint.{Endpoint}
-use Rattle.scan_world.specs.Endpoints.{laid_by}
-use Rattle.scan_world.specs.FileDraining.{Drains, HasFiles, IsLaid}
-use Rattle.scan_world.specs.JobEvents.{without_ended_image, with_last_page, is_done, bytes_not_delivered, delivered_bytes, still_open, with_image}
-use Rattle.scan_world.specs.JobEvents as world
-use Rattle.scan_world.specs.Worlds.{WorldCore}
-use Rattle.scan_world.proofs.Pulls.{files_laid, laid_always, laid_starved, laid_then}
+use Rattle.event_world.specs.declared.event.JobEvent.TheVariants as events
+use Rattle.event_world.specs.declared.endpoint.Image.{Image}
+use Rattle.event_world.specs.declared.endpoint.Endpoint.{Endpoint}
+use Rattle.event_world.specs.Endpoints.{laid_by}
+use Rattle.event_world.specs.FileDraining.{Drains, HasFiles, IsLaid}
+use Rattle.event_world.specs.JobEvents.{without_ended_image, with_last_page, is_done, bytes_not_delivered, delivered_bytes, still_open, with_image}
+use Rattle.event_world.specs.JobEvents as world
+use Rattle.event_world.specs.Worlds.{WorldCore}
+use Rattle.event_world.proofs.Pulls.{files_laid, laid_always, laid_starved, laid_then}
 use Rattle.world_refines.specs.GhostStates.{Ghost, Wires, place_of_info, ghost_after}
 use Rattle.world_refines.specs.Wires.{CarriesFlight, IsDialled, FlightMatches, FlowsAt, SpellsAsked, SpellsReplies}
 use Rattle.world_refines.specs.WorldRefinement.{WiresMatch, IsServed, KeepsFiles, Means, WorldRefines, EndpointClientRefines, image_bytes, is_laid, slot_of_link, session_by, client_at_greeting, AreStartedViews}

@@ -50,11 +50,11 @@ use Rattle.client_refines.specs.PieceRefinement.{RecordsBring, EndRecordRefines,
 use Rattle.client_refines.proofs.Outcomes.{outcomes_alike}
 use Rattle.client_refines.proofs.PieceReceiving.{all_received}
 use Rattle.client_refines.proofs.Said.{next_word}
-use Rattle.scan_world.specs.declared.endpoint.Image.{Image}
-use Rattle.scan_world.specs.declared.endpoint.Endpoint.{Endpoint}
-use Rattle.scan_world.specs.Endpoints.{after_move}
-use Rattle.scan_world.specs.FileDraining.{HasFiles, KeepsFile}
-use Rattle.scan_world.specs.JobEvents.{is_done, bytes_not_delivered, delivered_bytes, with_image}
+use Rattle.event_world.specs.declared.endpoint.Image.{Image}
+use Rattle.event_world.specs.declared.endpoint.Endpoint.{Endpoint}
+use Rattle.event_world.specs.Endpoints.{after_move}
+use Rattle.event_world.specs.FileDraining.{HasFiles, KeepsFile}
+use Rattle.event_world.specs.JobEvents.{is_done, bytes_not_delivered, delivered_bytes, with_image}
 use Rattle.world_refines.specs.GhostStates.{Ghost, place_of_info}
 use Rattle.world_refines.specs.WorldRefinement.{HasNoEnd, KeepsFiles, EndpointClientRefines, is_laid}
 use Rattle.world_refines.specs.Wires.{CarriesFlight, IsDialled, FlightMatches, FlowsAt, SpellsAsked}

@@ -33,8 +33,8 @@ use Rattle.daemon_refines.proofs.Cores.{own_slot}
 use Rattle.daemon_refines.proofs.Leaves.{IsKept, changed, kept, leaves_kept, put_one}
 use Rattle.daemon_refines.proofs.Moved.{put_there}
 use Rattle.daemon_refines.proofs.OtherSessions.{own_of}
-use Rattle.scan_world.specs.declared.endpoint.Endpoint.{Endpoint}
-use Rattle.scan_world.specs.JobEvents as world
+use Rattle.event_world.specs.declared.endpoint.Endpoint.{Endpoint}
+use Rattle.event_world.specs.JobEvents as world
 use Rattle.world_refines.specs.WorldRefinement.{AreFaithful, IsBelow, IsFaithfulLease, IsFaithfulPlace, IsFaithfulSessionSlot, IsFaithfulSession, info_at, session_by}
 use Rattle.world_refines.proofs.state.EndpointSlots.{Replaces, replaces_with, with_number}
 use Rattle.world_refines.proofs.state.CoreCallsKeep.{word_wanted}

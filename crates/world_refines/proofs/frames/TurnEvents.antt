@@ -36,12 +36,12 @@ use Rattle.system_model.proofs.JobPromises.{sound_after_all}
 use Rattle.daemon_refines.specs.Cores.{SessionRefines}
 use Rattle.daemon_refines.specs.ContextRefinement.{TransferRefines}
 use Rattle.daemon_refines.proofs.Moved.{put_there, unsome}
-use Rattle.scan_world.specs.declared.event.JobEvent.TheVariants as events
-use Rattle.scan_world.specs.declared.endpoint.Image.{Image}
-use Rattle.scan_world.specs.declared.endpoint.Endpoint.{Endpoint}
-use Rattle.scan_world.specs.Endpoints.{image_out_of_memory, after_move}
-use Rattle.scan_world.specs.JobEvents as world
-use Rattle.scan_world.specs.Worlds.{WorldCore}
+use Rattle.event_world.specs.declared.event.JobEvent.TheVariants as events
+use Rattle.event_world.specs.declared.endpoint.Image.{Image}
+use Rattle.event_world.specs.declared.endpoint.Endpoint.{Endpoint}
+use Rattle.event_world.specs.Endpoints.{image_out_of_memory, after_move}
+use Rattle.event_world.specs.JobEvents as world
+use Rattle.event_world.specs.Worlds.{WorldCore}
 use Rattle.world_refines.specs.GhostStates.{Ghost, Wires, place_of_info, wired_then}
 use Rattle.world_refines.specs.Wires.{CarriesFlight, IsDialled, FlightMatches, FlowsAt}
 use Rattle.world_refines.specs.WorldRefinement.{WiresMatch, HasNoEnd, IsServed, KeepsFiles, Means, WorldRefines, EndpointClientRefines, image_bytes, is_laid, slot_of_link, session_by, AreStartedViews}

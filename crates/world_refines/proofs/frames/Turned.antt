@@ -27,8 +27,8 @@ use Rattle.system_model.specs.Devices.{Make, abstract_status}
 use Rattle.system_model.specs.AbstractDevices.{AbstractDevice, ScanPhase, Resting, ended_phase, read_on}
 use Rattle.system_model.specs.SystemStates.{SessionView, JobState}
 use Rattle.daemon_refines.specs.Streams.{SendsAs}
-use Rattle.scan_world.specs.declared.endpoint.Endpoint.{Endpoint}
-use Rattle.scan_world.specs.JobEvents as world
+use Rattle.event_world.specs.declared.endpoint.Endpoint.{Endpoint}
+use Rattle.event_world.specs.JobEvents as world
 use Rattle.world_refines.specs.GhostEvents.{IsRecordOf}
 
 pub data Turn : Type 0 where

@@ -30,12 +30,12 @@ use Rattle.system_model.specs.Transitions.{By, IsImaging, IsUnderWay}
 use Rattle.system_model.proofs.JobPromises.{sound_after_all}
 use Rattle.client_refines.specs.ClientRefinement.{ClientRefines, OutcomeRefines, WaitsAs}
 use Rattle.daemon_refines.proofs.Moved.{put_there}
-use Rattle.scan_world.specs.declared.event.JobEvent.TheVariants as events
-use Rattle.scan_world.specs.declared.endpoint.Image.{Image}
-use Rattle.scan_world.specs.declared.endpoint.Endpoint.{Endpoint}
-use Rattle.scan_world.specs.Endpoints.{after_move, without_image_link}
-use Rattle.scan_world.specs.JobEvents as world
-use Rattle.scan_world.specs.Worlds.{WorldCore}
+use Rattle.event_world.specs.declared.event.JobEvent.TheVariants as events
+use Rattle.event_world.specs.declared.endpoint.Image.{Image}
+use Rattle.event_world.specs.declared.endpoint.Endpoint.{Endpoint}
+use Rattle.event_world.specs.Endpoints.{after_move, without_image_link}
+use Rattle.event_world.specs.JobEvents as world
+use Rattle.event_world.specs.Worlds.{WorldCore}
 use Rattle.world_refines.specs.GhostStates.{Ghost, Wires, place_of_info, wired_then}
 use Rattle.world_refines.specs.Wires.{FlightMatches, FlowsBy}
 use Rattle.world_refines.specs.WorldRefinement.{WiresMatch, HasNoEnd, IsServed, Means, WorldRefines, EndpointClientRefines, image_bytes, slot_of_link, session_by, client_at_greeting, AreStartedViews}

@@ -33,10 +33,10 @@ use Rattle.daemon_refines.specs.ContextRefinement.{TableRefines, page_views, Hav
 use Rattle.daemon_refines.specs.Cores.{fresh_device, fresh_devices}
 use Rattle.daemon_refines.proofs.Beginning.{registries_show}
 use Rattle.daemon_refines.proofs.Moved.{unsome}
-use Rattle.scan_world.specs.declared.endpoint.Endpoint.{Endpoint}
-use Rattle.scan_world.specs.Endpoints.{IsNew, budget_of, no_pages}
-use Rattle.scan_world.specs.JobEvents.{is_done}
-use Rattle.scan_world.specs.Worlds.{AreNew, WorldCore}
+use Rattle.event_world.specs.declared.endpoint.Endpoint.{Endpoint}
+use Rattle.event_world.specs.Endpoints.{IsNew, budget_of, no_pages}
+use Rattle.event_world.specs.JobEvents.{is_done}
+use Rattle.event_world.specs.Worlds.{AreNew, WorldCore}
 use Rattle.world_refines.specs.GhostStates.{name_at, place_of_info, abstract_job}
 use Rattle.world_refines.specs.WorldRefinement.{HaveDifferentNames, SlotsAreOfEndpoints, IsBelow, IsFaithful, IsFaithfulPlace, IsFaithfulSessionSlot, IsFaithfulPage, KeepsFiles, Means, EndpointRefines, EndpointRefinesAt, EndpointClientRefines, info_at, is_laid}
 use Rattle.world_refines.proofs.state.EndpointSlots.{none_in_slot}

@@ -36,11 +36,11 @@ use Rattle.client_refines.specs.RequestRefinement.{asks_of}
 use Rattle.client_refines.specs.PieceRefinement.{SpellsSent}
 use Rattle.client_refines.proofs.SilentCalls.{cancelled_alike}
 use Rattle.daemon_refines.proofs.Moved.{put_there}
-use Rattle.scan_world.specs.declared.event.JobEvent.TheVariants as events
-use Rattle.scan_world.specs.declared.endpoint.Endpoint.{Endpoint}
-use Rattle.scan_world.specs.Endpoints.{IsCancelled, after_move}
-use Rattle.scan_world.specs.JobEvents.{is_done}
-use Rattle.scan_world.specs.Worlds.{WorldCore}
+use Rattle.event_world.specs.declared.event.JobEvent.TheVariants as events
+use Rattle.event_world.specs.declared.endpoint.Endpoint.{Endpoint}
+use Rattle.event_world.specs.Endpoints.{IsCancelled, after_move}
+use Rattle.event_world.specs.JobEvents.{is_done}
+use Rattle.event_world.specs.Worlds.{WorldCore}
 use Rattle.world_refines.specs.GhostStates.{Ghost, Wires, place_of_info, wired_then}
 use Rattle.world_refines.specs.Wires.{FlightMatches, SpellsAsked}
 use Rattle.world_refines.specs.WorldRefinement.{KeepsFiles, Means, WorldRefines, EndpointClientRefines, is_laid, slot_of_link, client_at_greeting, AreStartedViews}

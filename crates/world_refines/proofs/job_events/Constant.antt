@@ -8,9 +8,9 @@ use Rattle.scan_job.specs.declared.job.Job.{Job}
 use Rattle.system_model.specs.Actions as model_actions
 use Rattle.system_model.specs.SystemStates.{SystemState}
 use Rattle.system_model.specs.Transitions.{By, Loads, Transition, Unplugs, after_all, after_transition}
-use Rattle.scan_world.specs.declared.event.Event.{Event}
-use Rattle.scan_world.specs.declared.event.Event.TheVariants.{Connect, ToDaemon, ToClient, DataConnect, DataTurn, DataToClient, LoseControl, LoseImage, Cancel, Load, Unplug}
-use Rattle.scan_world.specs.declared.event.JobEvent.TheVariants as events
+use Rattle.event_world.specs.declared.event.Event.{Event}
+use Rattle.event_world.specs.declared.event.Event.TheVariants.{Connect, ToDaemon, ToClient, DataConnect, DataTurn, DataToClient, LoseControl, LoseImage, Cancel, Load, Unplug}
+use Rattle.event_world.specs.declared.event.JobEvent.TheVariants as events
 use Rattle.world_refines.specs.GhostStates.{Ghost, Wires}
 use Rattle.world_refines.specs.Answering.{AnswersSome}
 use Rattle.world_refines.specs.Answering.AnswersSome.{GoesOn, IsOver, BreaksOff, WasOver}

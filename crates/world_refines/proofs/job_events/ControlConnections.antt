@@ -29,11 +29,11 @@ use Rattle.client_refines.specs.ClientRefinement.{ClientRefines}
 use Rattle.daemon_refines.specs.ContextRefinement.{TableRefines}
 use Rattle.daemon_refines.proofs.SessionEndings.{no_place, same_tables}
 use Rattle.daemon_refines.proofs.Moved.{put_elsewhere, put_there}
-use Rattle.scan_world.specs.declared.event.JobEvent.TheVariants as events
-use Rattle.scan_world.specs.declared.endpoint.Endpoint.{Endpoint}
-use Rattle.scan_world.specs.Endpoints.{with_link, shut_out, after_move}
-use Rattle.scan_world.specs.JobEvents as world
-use Rattle.scan_world.specs.Worlds.{WorldCore}
+use Rattle.event_world.specs.declared.event.JobEvent.TheVariants as events
+use Rattle.event_world.specs.declared.endpoint.Endpoint.{Endpoint}
+use Rattle.event_world.specs.Endpoints.{with_link, shut_out, after_move}
+use Rattle.event_world.specs.JobEvents as world
+use Rattle.event_world.specs.Worlds.{WorldCore}
 use Rattle.world_refines.specs.GhostStates.{Ghost, Wires, place_of_info, wired_then}
 use Rattle.world_refines.specs.Wires.{FlightMatches, NothingFlows, SpellsAsked}
 use Rattle.world_refines.specs.WorldRefinement.{WiresMatch, IsServed, KeepsFiles, Means, WorldRefines, EndpointClientRefines, is_laid, slot_of_link, session_by, client_at_greeting, AreStartedViews}

@@ -17,14 +17,14 @@ use Rattle.scan_job.specs.declared.outcome.Why.{Why}
 use Rattle.system_model.specs.SystemStates.{SystemState, make_for}
 use Rattle.system_model.specs.Transitions.{By, IsHistory, Loads, Transition, Unplugs, after_all}
 use Rattle.system_model.proofs.RunMarks.{histories_legal}
-use Rattle.scan_world.specs.declared.event.Event.{Event}
-use Rattle.scan_world.specs.declared.event.Event.TheVariants.{Connect, ToDaemon, ToClient, DataConnect, DataTurn, DataToClient, LoseControl, LoseImage, Cancel, Load, Unplug}
-use Rattle.scan_world.specs.declared.event.JobEvent.{JobEvent}
-use Rattle.scan_world.specs.declared.event.JobEvent.TheVariants as actions
-use Rattle.scan_world.specs.declared.endpoint.Endpoint.{Endpoint}
-use Rattle.scan_world.specs.Worlds.{AtEndpoint, Leads, Runs, WorldCore}
-use Rattle.scan_world.proofs.Events.{stands_run}
-use Rattle.scan_world.proofs.FilesSay.{none_tells, page_none_tells, short_tells}
+use Rattle.event_world.specs.declared.event.Event.{Event}
+use Rattle.event_world.specs.declared.event.Event.TheVariants.{Connect, ToDaemon, ToClient, DataConnect, DataTurn, DataToClient, LoseControl, LoseImage, Cancel, Load, Unplug}
+use Rattle.event_world.specs.declared.event.JobEvent.{JobEvent}
+use Rattle.event_world.specs.declared.event.JobEvent.TheVariants as actions
+use Rattle.event_world.specs.declared.endpoint.Endpoint.{Endpoint}
+use Rattle.event_world.specs.Worlds.{AtEndpoint, Leads, Runs, WorldCore}
+use Rattle.event_world.proofs.Events.{stands_run}
+use Rattle.event_world.proofs.FilesSay.{none_tells, page_none_tells, short_tells}
 use Rattle.world_refines.specs.GhostStates.{Ghost, Wires}
 use Rattle.world_refines.specs.WorldRefinement.{WorldRefines}
 use Rattle.world_refines.specs.Costs.{Pays}

@@ -39,8 +39,8 @@ use Rattle.daemon_refines.proofs.OpenSteps.{found_slot}
 use Rattle.daemon_refines.proofs.OtherSessions.{IsThere, same_name}
 use Rattle.daemon_refines.proofs.TableRefinement.{loads_agree, pages_agree, refusals_agree}
 use Rattle.daemon_refines.proofs.Leaves.{devices_leave}
-use Rattle.scan_world.specs.declared.endpoint.Endpoint.{Endpoint}
-use Rattle.scan_world.specs.Worlds.{WorldCore}
+use Rattle.event_world.specs.declared.endpoint.Endpoint.{Endpoint}
+use Rattle.event_world.specs.Worlds.{WorldCore}
 use Rattle.world_refines.specs.GhostStates.{Ghost, Wires, name_at}
 use Rattle.world_refines.specs.Speaks.{Speaks}
 use Rattle.world_refines.specs.WorldRefinement.{HaveDifferentNames, WiresMatch, IsFaithful, IsFaithfulLease, IsFaithfulPlace, IsFaithfulSlot, IsServed, WorldRefines, slot_of_link, session_by}

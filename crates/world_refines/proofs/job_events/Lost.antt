@@ -26,9 +26,9 @@ use Rattle.system_model.specs.Transitions.{IsUnderWay}
 use Rattle.system_model.specs.SystemStates.{SessionView, JobState}
 use Rattle.client_refines.specs.ClientRefinement.{ClientRefines}
 use Rattle.client_refines.proofs.SilentCalls.{lost_alike}
-use Rattle.scan_world.specs.declared.endpoint.Endpoint.{Endpoint}
-use Rattle.scan_world.specs.JobEvents.{is_done}
-use Rattle.scan_world.specs.FileDraining.{HasFiles, KeepsFile}
+use Rattle.event_world.specs.declared.endpoint.Endpoint.{Endpoint}
+use Rattle.event_world.specs.JobEvents.{is_done}
+use Rattle.event_world.specs.FileDraining.{HasFiles, KeepsFile}
 use Rattle.world_refines.specs.WorldRefinement.{KeepsFiles, EndpointClientRefines, is_laid, client_at_greeting}
 use Rattle.world_refines.proofs.state.GhostClients.{run_is, runs_under, stopped_over, stopped_woken, stops_idle, stops_over}
 

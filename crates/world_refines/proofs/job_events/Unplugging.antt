@@ -27,7 +27,7 @@ use Rattle.daemon_refines.proofs.Moved.{put_elsewhere, put_there, unsome}
 use Rattle.daemon_refines.proofs.OpenSteps.{found_slot, held_there}
 use Rattle.daemon_refines.proofs.OtherSessions.{IsThere}
 use Rattle.daemon_refines.proofs.TableRefinement.{unplugs_agree}
-use Rattle.scan_world.specs.Worlds.{WorldCore}
+use Rattle.event_world.specs.Worlds.{WorldCore}
 use Rattle.world_refines.specs.GhostStates.{Ghost, name_at}
 use Rattle.world_refines.specs.WorldRefinement.{HaveDifferentNames, IsServed, WorldRefines, info_at, session_by}
 use Rattle.world_refines.specs.GhostEvents.{CanUnplug, GhostLeadsTo, TakesOut, UnplugsFollow}

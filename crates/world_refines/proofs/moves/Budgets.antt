@@ -16,14 +16,14 @@ use Rattle.system_model.specs.SystemStates.{device_for}
 use Rattle.system_model.specs.Transitions.{IsUnderWay, Loads, Transition, Unplugs, IsEnabled, after_transition, after_all}
 use Rattle.system_model.proofs.VariantSteps.{numbers_bounded, others_raise_none}
 use Rattle.system_model.proofs.StageVariants.{at_least}
-use Rattle.scan_world.specs.declared.event.JobEvent.{JobEvent as Event}
-use Rattle.scan_world.specs.declared.endpoint.Endpoint.{Endpoint}
-use Rattle.scan_world.specs.JobEvents as world
-use Rattle.scan_world.specs.JobMoves.{IsNextMove, moves_left_of}
-use Rattle.scan_world.specs.Endpoints.{budget_of}
-use Rattle.scan_world.specs.Rounds.{RestsAt}
-use Rattle.scan_world.specs.Worlds.{AtEndpoint, WorldCore}
-use Rattle.scan_world.proofs.Falling.{spends}
+use Rattle.event_world.specs.declared.event.JobEvent.{JobEvent as Event}
+use Rattle.event_world.specs.declared.endpoint.Endpoint.{Endpoint}
+use Rattle.event_world.specs.JobEvents as world
+use Rattle.event_world.specs.JobMoves.{IsNextMove, moves_left_of}
+use Rattle.event_world.specs.Endpoints.{budget_of}
+use Rattle.event_world.specs.Rounds.{RestsAt}
+use Rattle.event_world.specs.Worlds.{AtEndpoint, WorldCore}
+use Rattle.event_world.proofs.Falling.{spends}
 use Rattle.world_refines.specs.GhostStates.{Ghost, job_state, place_of_info, abstract_job}
 use Rattle.world_refines.specs.WorldRefinement.{WorldRefines}
 use Rattle.world_refines.specs.Costs.{Pays, cost}

@@ -20,7 +20,7 @@ use Rattle.scan_job.specs.declared.job.Job.{Job}
 use Rattle.system_model.specs.AbstractMessages.{AbstractReply, AbstractRequest}
 use Rattle.system_model.specs.Client as model
 use Rattle.system_model.specs.Variant.{exchange_cost}
-use Rattle.scan_world.specs.JobEvents.{bytes_not_delivered, delivered_bytes}
+use Rattle.event_world.specs.JobEvents.{bytes_not_delivered, delivered_bytes}
 use Rattle.world_refines.specs.Wires.{SpellsAwaitedReply, SpellsAsked, SpellsReplies}
 use Rattle.world_refines.proofs.requests.Cut.{sent}
 use Rattle.world_refines.proofs.requests.RequestDeliveries.{moved_left}

@@ -16,10 +16,10 @@ use Rattle.system_model.specs.SystemStates.{JobState, SystemState, make_for, dev
 use Rattle.system_model.specs.Transitions.{By, IsHistory, IsImaging, IsUnderWay, Transition, after_transition, after_all}
 use Rattle.system_model.proofs.Over.{ends_end}
 use Rattle.daemon_refines.proofs.Moved.{put_there}
-use Rattle.scan_world.specs.declared.event.JobEvent.TheVariants as events
-use Rattle.scan_world.specs.declared.endpoint.Endpoint.{Endpoint}
-use Rattle.scan_world.specs.JobEvents.{bytes_not_delivered, delivered_bytes}
-use Rattle.scan_world.specs.Worlds.{WorldCore}
+use Rattle.event_world.specs.declared.event.JobEvent.TheVariants as events
+use Rattle.event_world.specs.declared.endpoint.Endpoint.{Endpoint}
+use Rattle.event_world.specs.JobEvents.{bytes_not_delivered, delivered_bytes}
+use Rattle.event_world.specs.Worlds.{WorldCore}
 use Rattle.world_refines.specs.GhostStates.{Ghost, Wires, job_state, place_of_info, ghost_after, wires}
 use Rattle.world_refines.specs.Wires.{FlightMatches}
 use Rattle.world_refines.specs.WorldRefinement.{WorldRefines}

@@ -21,14 +21,14 @@ use Rattle.system_model.specs.Invariants as sound
 use Rattle.system_model.specs.Sync as sync
 use Rattle.system_model.specs.SystemStates.{make_for, device_for}
 use Rattle.system_model.specs.Transitions.{IsUnderWay}
-use Rattle.scan_world.specs.declared.event.Event.{Event as AnyEvent}
-use Rattle.scan_world.specs.declared.event.JobEvent.{JobEvent}
-use Rattle.scan_world.specs.declared.event.JobEvent.TheVariants as events
-use Rattle.scan_world.specs.declared.endpoint.Image.{Image}
-use Rattle.scan_world.specs.declared.endpoint.Endpoint.{Endpoint}
-use Rattle.scan_world.specs.JobEvents as world
-use Rattle.scan_world.specs.JobMoves.{HasNone, IsNext, in_order, IsFirstMove}
-use Rattle.scan_world.specs.Worlds.{WorldCore}
+use Rattle.event_world.specs.declared.event.Event.{Event as AnyEvent}
+use Rattle.event_world.specs.declared.event.JobEvent.{JobEvent}
+use Rattle.event_world.specs.declared.event.JobEvent.TheVariants as events
+use Rattle.event_world.specs.declared.endpoint.Image.{Image}
+use Rattle.event_world.specs.declared.endpoint.Endpoint.{Endpoint}
+use Rattle.event_world.specs.JobEvents as world
+use Rattle.event_world.specs.JobMoves.{HasNone, IsNext, in_order, IsFirstMove}
+use Rattle.event_world.specs.Worlds.{WorldCore}
 use Rattle.world_refines.specs.GhostStates.{Ghost, place_of_info}
 use Rattle.world_refines.specs.Wires.{CarriesFlight, IsDialled, FlightMatches, FlowsAt, SpellsAsked, SpellsReplies}
 use Rattle.world_refines.specs.WorldPending.{HasNoRequest}
@@ -50,7 +50,7 @@ use Rattle.world_refines.proofs.frames.TurnEvents.{turn_decides}
 use Rattle.std.specs.List.{AllByRecursion}
 use Rattle.system_model.specs.Causes.{IsCauseAmong, WasUnsaid}
 use Rattle.saned_core.specs.DaemonStates.{Core}
-use Rattle.scan_world.specs.declared.event.Event.TheVariants.{Connect, ToDaemon, ToClient, DataConnect, DataTurn, DataToClient, LoseControl, LoseImage, Cancel}
+use Rattle.event_world.specs.declared.event.Event.TheVariants.{Connect, ToDaemon, ToClient, DataConnect, DataTurn, DataToClient, LoseControl, LoseImage, Cancel}
 
 -- ---- a reader that has not ended wants more
 

@@ -12,9 +12,9 @@ use Rattle.client_replies.specs.ProtocolStates.{is_batch}
 use Rattle.system_model.specs.Causes.{IsCauseAmong, TrayRanOut}
 use Rattle.system_model.proofs.JobPromises.{batches_counted}
 use Rattle.client_refines.specs.ClientRefinement.{task_of, wholes}
-use Rattle.scan_world.specs.declared.endpoint.Endpoint.{Endpoint}
-use Rattle.scan_world.specs.JobEvents.{is_done}
-use Rattle.scan_world.specs.Worlds.{WorldCore}
+use Rattle.event_world.specs.declared.endpoint.Endpoint.{Endpoint}
+use Rattle.event_world.specs.JobEvents.{is_done}
+use Rattle.event_world.specs.Worlds.{WorldCore}
 use Rattle.world_refines.specs.GhostStates.{Ghost}
 use Rattle.world_refines.specs.WorldRefinement.{KeepsFiles, WorldRefines, is_laid}
 use Rattle.world_refines.specs.WorldPromises.{BatchesAreCounted, PagesAreCounted}

@@ -36,10 +36,10 @@ use Rattle.client_refines.specs.ClientLives.{EndAlike}
 use Rattle.client_refines.specs.ClientRefinement.{OnlyReadableHaveValues, ShowRefines, descs, common_abstract_report, common_report, known_values, task_of, wholes, requested_setting}
 use Rattle.client_refines.proofs.Filled.{is_filled}
 use Rattle.client_refines.proofs.Outcomes.{outcomes_alike}
-use Rattle.scan_world.specs.declared.endpoint.Endpoint.{Endpoint}
-use Rattle.scan_world.specs.JobEvents.{is_done}
-use Rattle.scan_world.specs.FileDraining.{KeepsFile}
-use Rattle.scan_world.specs.Worlds.{WorldCore}
+use Rattle.event_world.specs.declared.endpoint.Endpoint.{Endpoint}
+use Rattle.event_world.specs.JobEvents.{is_done}
+use Rattle.event_world.specs.FileDraining.{KeepsFile}
+use Rattle.event_world.specs.Worlds.{WorldCore}
 use Rattle.world_refines.specs.GhostStates.{Ghost, place_of_info}
 use Rattle.world_refines.specs.WorldRefinement.{IsFinished, KeepsFiles, AreListedBelow, WorldRefines, is_laid, client_at_greeting}
 use Rattle.world_refines.specs.WorldPromises.{AreListed, AreReported, AreShown, HasCause, IsMeant, IsOutcome, KeepsPromise, OutcomesAreRight, ScansAreMeant}

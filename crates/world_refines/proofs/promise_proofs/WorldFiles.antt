@@ -2,10 +2,10 @@
 use Rattle.std.specs.Prelude.{All}
 use Rattle.std.proofs.Common.{◌≡◌, suc, zero, List, [], ◌∷◌, None, Some, arith}
 use Rattle.scan_job.specs.declared.job.Job.{Job}
-use Rattle.scan_world.specs.declared.endpoint.Endpoint.{Endpoint}
-use Rattle.scan_world.specs.FileInvariant.{AllFilesRepresent}
-use Rattle.scan_world.specs.Worlds.{AreNew, IsFitJob}
-use Rattle.scan_world.proofs.Events.{stands_new}
+use Rattle.event_world.specs.declared.endpoint.Endpoint.{Endpoint}
+use Rattle.event_world.specs.FileInvariant.{AllFilesRepresent}
+use Rattle.event_world.specs.Worlds.{AreNew, IsFitJob}
+use Rattle.event_world.proofs.Events.{stands_new}
 
 only : (job : Job) → IsFitJob job → All IsFitJob (job ∷ [])
 only job h zero other low = h

@@ -27,11 +27,11 @@ use Rattle.system_model.specs.Sync as sync
 use Rattle.system_model.specs.Transitions.{IsImaging, IsRunning, IsUnderWay, Transition}
 use Rattle.system_model.proofs.JobPromises.{sound_after_all}
 use Rattle.daemon_refines.proofs.Moved.{put_there}
-use Rattle.scan_world.specs.declared.endpoint.Image.{Image}
-use Rattle.scan_world.specs.declared.endpoint.Endpoint.{Endpoint}
-use Rattle.scan_world.specs.JobEvents as world
-use Rattle.scan_world.specs.JobEvents.{is_done, bytes_not_delivered, delivered_bytes}
-use Rattle.scan_world.specs.Worlds.{WorldCore}
+use Rattle.event_world.specs.declared.endpoint.Image.{Image}
+use Rattle.event_world.specs.declared.endpoint.Endpoint.{Endpoint}
+use Rattle.event_world.specs.JobEvents as world
+use Rattle.event_world.specs.JobEvents.{is_done, bytes_not_delivered, delivered_bytes}
+use Rattle.event_world.specs.Worlds.{WorldCore}
 use Rattle.world_refines.specs.GhostStates.{Ghost, Wires, place_of_info, ghost_after}
 use Rattle.world_refines.specs.Wires.{SpellsAwaitedReply, FlightMatches, FlowsBy, NothingFlows, SpellsAsked, SpellsReplies}
 use Rattle.world_refines.specs.WorldRefinement.{WiresMatch, IsServed, Means, WorldRefines, EndpointClientRefines, slot_of_link, session_by, AreStartedViews}

@@ -27,11 +27,11 @@ use Rattle.system_model.specs.SystemStates.{JobState, make_for, device_for}
 use Rattle.system_model.specs.Transitions.{IsImaging, IsUnderWay, Transition}
 use Rattle.client_refines.specs.ClientRefinement.{ClientRefines, WaitsAs}
 use Rattle.client_refines.proofs.Outcomes.{outcomes_alike}
-use Rattle.scan_world.specs.declared.endpoint.Endpoint.{Endpoint}
-use Rattle.scan_world.specs.Endpoints.{after_move}
-use Rattle.scan_world.specs.JobEvents as world
-use Rattle.scan_world.specs.JobEvents.{is_done, bytes_not_delivered, delivered_bytes}
-use Rattle.scan_world.specs.Worlds.{WorldCore}
+use Rattle.event_world.specs.declared.endpoint.Endpoint.{Endpoint}
+use Rattle.event_world.specs.Endpoints.{after_move}
+use Rattle.event_world.specs.JobEvents as world
+use Rattle.event_world.specs.JobEvents.{is_done, bytes_not_delivered, delivered_bytes}
+use Rattle.event_world.specs.Worlds.{WorldCore}
 use Rattle.world_refines.specs.GhostStates.{Ghost, Wires, place_of_info, ghost_after}
 use Rattle.world_refines.specs.Wires.{SpellsAwaitedReply, FlightMatches, SpellsAsked, SpellsReplies}
 use Rattle.world_refines.specs.WorldRefinement.{KeepsFiles, Means, WorldRefines, EndpointClientRefines, is_laid, slot_of_link, client_at_greeting}
@@ -48,8 +48,8 @@ use Rattle.client_replies.specs.declared.progress.Notes.{Notes}
 use Rattle.client_refines.specs.ClientRefinement.{task_of}
 use Rattle.client_refines.specs.RequestRefinement.{asks_of}
 use Rattle.client_refines.specs.PieceRefinement.{SpellsSent}
-use Rattle.scan_world.specs.declared.event.JobEvent.TheVariants as events
-use Rattle.scan_world.specs.FileDraining.{Drains}
+use Rattle.event_world.specs.declared.event.JobEvent.TheVariants as events
+use Rattle.event_world.specs.FileDraining.{Drains}
 use Rattle.world_refines.specs.GhostEvents.{GhostCan, GhostLeads}
 use Rattle.world_refines.specs.ClientDeliveries.{HistoryExtends, GhostHears, IsBefore}
 use Rattle.world_refines.proofs.replies.Delivering.{IsDueTo, carries_taken, delivered_stands, due_to, flows_begun, flows_still, waits_for}

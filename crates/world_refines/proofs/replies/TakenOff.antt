@@ -18,10 +18,10 @@ use Rattle.daemon_refines.specs.Cores.{SessionRefines}
 use Rattle.daemon_refines.proofs.SessionEndings.{same_tables}
 use Rattle.daemon_refines.proofs.Moved.{unsome}
 use Rattle.daemon_refines.proofs.OtherSessions.{leaves_all, leaves_same}
-use Rattle.scan_world.specs.JobEvents as world
-use Rattle.scan_world.specs.JobEvents.{bytes_not_delivered, delivered_bytes}
-use Rattle.scan_world.specs.declared.endpoint.Endpoint.{Endpoint}
-use Rattle.scan_world.specs.Worlds.{WorldCore}
+use Rattle.event_world.specs.JobEvents as world
+use Rattle.event_world.specs.JobEvents.{bytes_not_delivered, delivered_bytes}
+use Rattle.event_world.specs.declared.endpoint.Endpoint.{Endpoint}
+use Rattle.event_world.specs.Worlds.{WorldCore}
 use Rattle.world_refines.specs.GhostStates.{Ghost}
 use Rattle.world_refines.specs.WorldRefinement.{IsBelow, IsFaithfulSessionSlot, IsServed, WorldRefines, session_by}
 use Rattle.world_refines.specs.ClientDeliveries.{asking_left}

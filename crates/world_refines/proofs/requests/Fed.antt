@@ -16,9 +16,9 @@ use Rattle.system_model.specs.SystemStates.{JobState}
 use Rattle.system_model.specs.Transitions.{IsHistory, IsUnderWay, Transition, after_all}
 use Rattle.system_model.proofs.JobPromises.{sound_after_all}
 use Rattle.daemon_refines.proofs.Moved.{put_elsewhere, put_there}
-use Rattle.scan_world.specs.declared.endpoint.Image.{Image}
-use Rattle.scan_world.specs.declared.endpoint.Endpoint.{Endpoint}
-use Rattle.scan_world.specs.Worlds.{WorldCore}
+use Rattle.event_world.specs.declared.endpoint.Image.{Image}
+use Rattle.event_world.specs.declared.endpoint.Endpoint.{Endpoint}
+use Rattle.event_world.specs.Worlds.{WorldCore}
 use Rattle.net_client.specs.ClientStates.{ClientState}
 use Rattle.world_refines.specs.GhostStates.{Ghost, Wires, place_of_info, wired_then}
 use Rattle.world_refines.specs.Speaks.{Speaks, WaitsQuietly}

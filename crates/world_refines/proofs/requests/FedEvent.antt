@@ -45,11 +45,11 @@ use Rattle.daemon_refines.specs.Failures.{FailedAt}
 use Rattle.daemon_refines.specs.Feeds.{IsSessionBegun}
 use Rattle.daemon_refines.specs.Cores.{SessionRefines}
 use Rattle.system_model.specs.AbstractSessions.{AbstractSession as RuledSession}
-use Rattle.scan_world.specs.declared.event.JobEvent.TheVariants as events
-use Rattle.scan_world.specs.declared.endpoint.Endpoint.{Endpoint}
-use Rattle.scan_world.specs.JobEvents as world
-use Rattle.scan_world.specs.JobEvents.{after_fed, bytes_not_delivered, delivered_bytes}
-use Rattle.scan_world.specs.Worlds.{WorldCore}
+use Rattle.event_world.specs.declared.event.JobEvent.TheVariants as events
+use Rattle.event_world.specs.declared.endpoint.Endpoint.{Endpoint}
+use Rattle.event_world.specs.JobEvents as world
+use Rattle.event_world.specs.JobEvents.{after_fed, bytes_not_delivered, delivered_bytes}
+use Rattle.event_world.specs.Worlds.{WorldCore}
 use Rattle.world_refines.specs.GhostStates.{Ghost, place_of_info, wired_then}
 use Rattle.world_refines.specs.Wires.{FlightMatches, FlowsBy, SpellsAsked, SpellsReplies}
 use Rattle.world_refines.specs.WorldRefinement.{HasNoEnd, IsFaithfulLease, IsFaithfulSessionSlot, IsFaithfulSession, IsServed, WorldRefines, slot_of_link, session_by, AreStartedViews}

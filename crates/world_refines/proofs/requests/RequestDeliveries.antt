@@ -36,7 +36,7 @@ use Rattle.daemon_refines.proofs.Changes.{Held}
 use Rattle.dispatch.specs.Table.{Table}
 use Rattle.saned_requests.specs.LeaseLaws.{HoldsWell}
 use Rattle.world_refines.proofs.requests.Lent.{holds_well}
-use Rattle.scan_world.specs.JobEvents.{bytes_not_delivered, delivered_bytes}
+use Rattle.event_world.specs.JobEvents.{bytes_not_delivered, delivered_bytes}
 use Rattle.world_refines.specs.GhostStates.{Ghost, place_of_info}
 use Rattle.world_refines.specs.Wires.{SpellsAsked, SpellsReplies}
 use Rattle.world_refines.proofs.requests.Closing.{Closed, answers_then, breaks, breaks_behind_one, broken, closed_behind, ends_by_request}

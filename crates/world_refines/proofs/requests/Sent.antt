@@ -17,9 +17,9 @@ use Rattle.system_model.specs.Client.{Idle, ClientView}
 use Rattle.system_model.specs.SystemStates.{JobState}
 use Rattle.system_model.specs.Transitions.{IsUnderWay}
 use Rattle.client_refines.specs.ClientRefinement.{ClientRefines}
-use Rattle.scan_world.specs.declared.endpoint.Endpoint.{Endpoint}
-use Rattle.scan_world.specs.FileDraining.{HasFiles, KeepsFile}
-use Rattle.scan_world.specs.JobEvents.{is_done}
+use Rattle.event_world.specs.declared.endpoint.Endpoint.{Endpoint}
+use Rattle.event_world.specs.FileDraining.{HasFiles, KeepsFile}
+use Rattle.event_world.specs.JobEvents.{is_done}
 use Rattle.world_refines.specs.WorldRefinement.{KeepsFiles, EndpointClientRefines, is_laid, client_at_greeting}
 use Rattle.world_refines.proofs.job_events.Lost.{keeps_lost}
 use Rattle.world_refines.proofs.state.EndpointSlots.{Single, later}

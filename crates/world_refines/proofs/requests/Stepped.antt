@@ -25,4 +25,3 @@ pub step_is : (s : SystemState) (i : ℕ) (r : AbstractRequest) (rest : List Abs
     after_transition s (By i (actions.Answers challenge fault)) ≡ state_with_job s i (job_after_answer (s.job i) (serving i s.make (listed_devices s) s.device (s.job i) r challenge fault)) (serving i s.make (listed_devices s) s.device (s.job i) r challenge fault).device
 step_is s i r rest challenge fault e =
     ap (λ (todo : List AbstractRequest). state_with_job s i (answer_next i (make_for s i) (listed_devices s) (s.job i) (device_for s i) challenge fault todo) (device_after_answer i (make_for s i) (listed_devices s) (s.job i) (device_for s i) challenge fault todo)) e
-

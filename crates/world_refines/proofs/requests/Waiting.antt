@@ -19,8 +19,8 @@ use Rattle.system_model.specs.Devices.{Make, abstract_status}
 use Rattle.system_model.specs.Invariants.{StageInvariant}
 use Rattle.system_model.specs.SystemStates.{JobState, device_for, make_for}
 use Rattle.system_model.specs.Transitions.{IsUnderWay}
-use Rattle.scan_world.specs.declared.endpoint.Endpoint.{Endpoint}
-use Rattle.scan_world.specs.Worlds.{WorldCore}
+use Rattle.event_world.specs.declared.endpoint.Endpoint.{Endpoint}
+use Rattle.event_world.specs.Worlds.{WorldCore}
 use Rattle.world_refines.specs.FailedSources.{AwaitsAnswer}
 use Rattle.world_refines.specs.GhostStates.{Ghost, place_of_info}
 use Rattle.world_refines.specs.WorldRefinement.{WorldRefines, client_at_greeting}

@@ -12,8 +12,8 @@ use Rattle.scan_job.specs.declared.job.Job.{Job}
 use Rattle.system_model.specs.Devices.{Make}
 use Rattle.system_model.specs.SystemStates.{JobState}
 use Rattle.system_model.specs.Invariants.{Invariant}
-use Rattle.scan_world.specs.declared.endpoint.Endpoint.{Endpoint}
-use Rattle.scan_world.specs.Worlds.{WorldCore}
+use Rattle.event_world.specs.declared.endpoint.Endpoint.{Endpoint}
+use Rattle.event_world.specs.Worlds.{WorldCore}
 use Rattle.saned_core.specs.DaemonStates.{session_in}
 use Rattle.world_refines.specs.Speaks.{AsksAsHeld, Speaks}
 use Rattle.world_refines.specs.GhostStates.{Ghost, Wires}

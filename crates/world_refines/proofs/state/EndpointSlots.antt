@@ -10,7 +10,7 @@ use Rattle.saned_core.specs.declared.session_slot.SessionSlot.{SessionSlot}
 use Rattle.saned_core.specs.declared.session_slot.SessionId.{SessionId}
 use Rattle.saned_core.specs.DaemonStates.{Core, after_end_session, new_session_slot, is_slot_number, no_more, on_session_slot, on_session, after_open_session, with_session_slot, with_session}
 use Rattle.daemon_refines.proofs.Moved.{unsome}
-use Rattle.scan_world.specs.declared.endpoint.Endpoint.{Endpoint}
+use Rattle.event_world.specs.declared.endpoint.Endpoint.{Endpoint}
 use Rattle.world_refines.specs.WorldRefinement.{SlotsAreOfEndpoints, IsBelow, IsLinked}
 use Rattle.world_refines.proofs.state.ListEntries.{is_same, set_elsewhere, set_there}
 

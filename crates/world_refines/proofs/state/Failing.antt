@@ -5,8 +5,8 @@ use Rattle.saned_core.specs.DaemonStates.{Core}
 use Rattle.system_model.specs.Actions.{Answers, Breaks, TurnsFault}
 use Rattle.system_model.specs.SystemStates.{SystemState}
 use Rattle.system_model.specs.Transitions.{By, Transition, after_all, after_transition}
-use Rattle.scan_world.specs.declared.event.JobEvent.{JobEvent as Event}
-use Rattle.scan_world.specs.Worlds.{WorldCore}
+use Rattle.event_world.specs.declared.event.JobEvent.{JobEvent as Event}
+use Rattle.event_world.specs.Worlds.{WorldCore}
 use Rattle.world_refines.specs.GhostStates.{Ghost}
 use Rattle.world_refines.specs.GhostEvents.{GhostHappens, GhostLeads}
 use Rattle.world_refines.specs.FailedSources.{AllAlong, FailsIn, FailsSo}

@@ -12,7 +12,7 @@ use Rattle.system_model.specs.Transitions.{By, Loads, Transition, Unplugs, after
 use Rattle.system_model.proofs.Noted.{notes_true}
 use Rattle.system_model.proofs.OtherJobs.{put_same}
 use Rattle.daemon_refines.proofs.Moved.{unsome}
-use Rattle.scan_world.specs.Worlds.{WorldCore}
+use Rattle.event_world.specs.Worlds.{WorldCore}
 use Rattle.world_refines.specs.GhostStates.{Ghost}
 use Rattle.world_refines.specs.WorldRefinement.{AreListedBelow, WorldRefines, numbers_from}
 

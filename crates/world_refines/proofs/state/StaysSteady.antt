@@ -286,4 +286,3 @@ falters_greeted d (Some awaited) q new g = absurd g
 falters_by : (d : RequestContext) (b : Bool) (q : Asked) (new : RequestContext) → OutOfMemoryBy b d q new → Keeps d new
 falters_by d true q new g = falters_greeted d d.session.awaited q new g
 falters_by d false q new g = absurd g
-

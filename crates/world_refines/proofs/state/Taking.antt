@@ -19,14 +19,14 @@ use Rattle.daemon_refines.proofs.SessionEndings.{same_tables}
 use Rattle.daemon_refines.proofs.Moved.{put_elsewhere, put_there}
 use Rattle.daemon_refines.proofs.OtherSessions.{leaves_all, leaves_same}
 use Rattle.saned_requests.specs.RequestAnswers.{RequestContext}
-use Rattle.scan_world.specs.declared.event.JobEvent.{JobEvent as Event}
-use Rattle.scan_world.specs.declared.endpoint.Endpoint.{Endpoint}
-use Rattle.scan_world.specs.JobEvents as world
-use Rattle.scan_world.specs.Worlds.{AtEndpoint, WorldCore}
+use Rattle.event_world.specs.declared.event.JobEvent.{JobEvent as Event}
+use Rattle.event_world.specs.declared.endpoint.Endpoint.{Endpoint}
+use Rattle.event_world.specs.JobEvents as world
+use Rattle.event_world.specs.Worlds.{AtEndpoint, WorldCore}
 use Rattle.world_refines.specs.GhostStates.{Ghost, Wires, ghost_after}
 use Rattle.world_refines.specs.WorldRefinement.{IsNobody, IsServed, EndpointRefines, EndpointRefinesAt, WorldRefines, session_by}
 use Rattle.world_refines.specs.GhostEvents.{GhostCan, EventRefines, HasSomeBytes, GhostLeads}
-use Rattle.scan_world.specs.declared.event.JobEvent.TheVariants as events
+use Rattle.event_world.specs.declared.event.JobEvent.TheVariants as events
 use Rattle.world_refines.proofs.state.Changing.{IsChange}
 use Rattle.world_refines.proofs.state.ListEntries.{there, within}
 use Rattle.world_refines.proofs.state.Sees.{Leaves}

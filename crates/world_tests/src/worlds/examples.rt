@@ -2,11 +2,11 @@
 
 use super::*;
 use page_picture::{FailingPage, Page};
+use scan_world::{scan_beside, scan_once, scan_with_another};
 use worked_worlds::{
     NoFile, list_both, scan_both_surely, scan_no_page, scan_of_taken_out, scan_pages, scan_surely,
     scan_with_password, scan_with_wrong_password, show_options,
 };
-use world_contract::{scan_beside, scan_once, scan_with_another};
 
 /// A page of one gray dot, and its file.
 const DOT: &[u8] = b"P5\n1 1\n255\n\x07";

@@ -6,7 +6,7 @@ use super::*;
 
 /// It is done with its file, or without one where a growth was refused; or it ended for lack of memory, at the client or as
 /// a lost connection, and has no whole file.
-pub fn done_or_wanting(rt: &impl Abort, alloc: Global, world: &World, i: usize, whole: &[u8]) {
+pub fn done_or_wanting(rt: &impl Abort, alloc: Global, world: &EventWorld, i: usize, whole: &[u8]) {
     let file = world.file(i);
     let is_starved = world.starved(i);
     match how(rt, world, i) {

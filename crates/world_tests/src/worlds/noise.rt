@@ -39,7 +39,7 @@ struct NoiseRun {
     finished: u32,
 }
 
-fn runs_of(rt: &impl Abort, world: &World, i: usize) -> NoiseRun {
+fn runs_of(rt: &impl Abort, world: &EventWorld, i: usize) -> NoiseRun {
     NoiseRun {
         over: how(rt, world, i),
         moves: world.moves_left(i),
@@ -48,7 +48,7 @@ fn runs_of(rt: &impl Abort, world: &World, i: usize) -> NoiseRun {
     }
 }
 
-fn all_runs(rt: &impl Abort, world: &World) -> [NoiseRun; JOBS] {
+fn all_runs(rt: &impl Abort, world: &EventWorld) -> [NoiseRun; JOBS] {
     let none = NoiseRun {
         over: Over::Running,
         moves: 0,
@@ -63,7 +63,7 @@ fn all_runs(rt: &impl Abort, world: &World) -> [NoiseRun; JOBS] {
 }
 
 /// Something that may happen to a job, most often its next move.
-fn some_action(world: &World, dice: &mut Dice, i: usize) -> PlainAction {
+fn some_action(world: &EventWorld, dice: &mut Dice, i: usize) -> PlainAction {
     let size = dice.below(300) as usize;
     match dice.below(2_000) {
         0 => PlainAction::LoseControl,
@@ -84,7 +84,7 @@ fn some_action(world: &World, dice: &mut Dice, i: usize) -> PlainAction {
     }
 }
 
-fn next_action(world: &World, i: usize) -> Option<PlainAction> {
+fn next_action(world: &EventWorld, i: usize) -> Option<PlainAction> {
     match world.next_move(i) {
         Some(event) => plain_action_of(event),
         None => None,
@@ -115,7 +115,7 @@ impl Plain {
 fn follow(
     rt: &impl Abort,
     alloc: Global,
-    world: &mut World,
+    world: &mut EventWorld,
     plain: &mut Plain,
     i: usize,
     action: PlainAction,
@@ -146,7 +146,7 @@ fn follow(
 
 /// A job that is done left the file of the page of its start, each finished page of a batch is one, and another job has no
 /// whole file.
-fn expect_files(rt: &impl Abort, alloc: Global, world: &World, party: &PlainJob, i: usize) {
+fn expect_files(rt: &impl Abort, alloc: Global, world: &EventWorld, party: &PlainJob, i: usize) {
     if party.over == Over::Done && i != BATCH {
         assert!(rt; world.file(i) == Some(party.begun));
     } else {
@@ -161,7 +161,7 @@ fn expect_files(rt: &impl Abort, alloc: Global, world: &World, party: &PlainJob,
 }
 
 /// Next moves of all jobs by turns, until none has one.
-fn run_out(rt: &impl Abort, alloc: Global, world: &mut World, plain: &mut Plain) {
+fn run_out(rt: &impl Abort, alloc: Global, world: &mut EventWorld, plain: &mut Plain) {
     for _ in 0..EVERY {
         let mut goes_on = false;
         for i in 0..JOBS {
@@ -189,7 +189,13 @@ const LAID: [(&[u8], [(&[u8], &[u8]); 2]); 2] = [
 ];
 
 /// A page is laid into a device, or now and then the device is taken out.
-fn shift(rt: &impl Abort, alloc: Global, world: &mut World, plain: &mut Plain, dice: &mut Dice) {
+fn shift(
+    rt: &impl Abort,
+    alloc: Global,
+    world: &mut EventWorld,
+    plain: &mut Plain,
+    dice: &mut Dice,
+) {
     let d = dice.below(2) as usize;
     let (name, pages) = *LAID.get(d).expect(rt, "a device");
     let place = plain.places.get_mut(d).expect(rt, "a device");
@@ -206,7 +212,7 @@ fn shift(rt: &impl Abort, alloc: Global, world: &mut World, plain: &mut Plain, d
 }
 
 /// Random events; then all jobs run to their ends.
-pub fn noise(rt: &impl Abort, alloc: Global, world: &mut World, seed: u64) {
+pub fn noise(rt: &impl Abort, alloc: Global, world: &mut EventWorld, seed: u64) {
     let mut dice = Dice { seed };
     let mut plain = plain_world();
     for k in 0..EVENTS {

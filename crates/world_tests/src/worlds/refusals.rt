@@ -1,7 +1,7 @@
 //! Why there is no world, each fault before those behind it.
 
 use super::*;
-use scan_world::WorldFault;
+use event_world::WorldFault;
 
 /// The fault of a world of flatbeds of these names and so many jobs of that task; the devices come back in their order.
 fn fault(
@@ -26,7 +26,7 @@ fn fault(
             .expect(rt, "memory");
     }
     let users = Users::parse(alloc, b"").expect(rt, "users");
-    match World::new(alloc, devices, users, NO_SEED, asked) {
+    match EventWorld::new(alloc, devices, users, NO_SEED, asked) {
         Ok(world) => {
             drop(world);
             None

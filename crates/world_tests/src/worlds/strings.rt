@@ -25,7 +25,7 @@ const ASKED: [Asked<'static>; 2] = [
 ];
 
 /// The clients of these jobs beside a daemon of two flatbeds.
-fn world(rt: &impl Abort, alloc: Global, strings: StringSize) -> World {
+fn world(rt: &impl Abort, alloc: Global, strings: StringSize) -> EventWorld {
     let mut devices: Vec<Box<dyn Device>> = Vec::new(alloc);
     for name in [b"flatbed:0".as_slice(), b"flatbed:1"] {
         match Box::new(alloc, made(rt, alloc, &Scanner { name, ..FLATBED })) {
@@ -39,7 +39,7 @@ fn world(rt: &impl Abort, alloc: Global, strings: StringSize) -> World {
     };
     let users = Users::parse(alloc, b"").expect(rt, "users");
     let daemon = Daemon::with_strings(registry, users, strings, NO_SEED);
-    match World::beside_daemon(alloc, daemon, all_jobs(rt, alloc, &ASKED)) {
+    match EventWorld::beside_daemon(alloc, daemon, all_jobs(rt, alloc, &ASKED)) {
         Ok(world) => world,
         Err(_) => panic!(rt; "no world"),
     }

@@ -1,5 +1,4 @@
 use Rattle.net_jobs.proofs.JobEnds.{single_by, ran_ok, ran_err}
-
 use Rattle.net_jobs.proofs.running.run_job_with.Goals as goal
 
 pub returns-clause-done : goal.returns-clause-done

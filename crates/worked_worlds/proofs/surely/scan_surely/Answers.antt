@@ -1,6 +1,6 @@
 use Rattle.std.proofs.Common.{◌∙◌, inl, inr, refl}
 use denote.Param.Object.{read_made}
-use Rattle.world_contract.proofs.Examples.{given_file}
+use Rattle.scan_world.proofs.Examples.{given_file}
 use Rattle.worked_worlds.proofs.Worked.{broken_off, fault_boxed, led_boxed, led_jobs, moved, only_memory, scan_copied}
 use Rattle.worked_worlds.proofs.surely.scan_surely.OwnLists.{at-1-1, own-1}
 use Rattle.worked_worlds.proofs.surely.scan_surely.Goals as goal

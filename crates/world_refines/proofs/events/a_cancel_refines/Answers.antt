@@ -1,4 +1,4 @@
-use Rattle.scan_world.specs.declared.event.JobEvent.TheVariants.{Cancel}
+use Rattle.event_world.specs.declared.event.JobEvent.TheVariants.{Cancel}
 use Rattle.world_refines.specs.GhostEvents.{GivesUp}
 use Rattle.world_refines.proofs.job_events.Cancelling.{cancel_decides}
 use Rattle.world_refines.proofs.state.Taking.{follows_by}

@@ -1,4 +1,4 @@
-use Rattle.scan_world.specs.declared.event.JobEvent.TheVariants.{Connect}
+use Rattle.event_world.specs.declared.event.JobEvent.TheVariants.{Connect}
 use Rattle.world_refines.specs.GhostEvents.{GhostConnects}
 use Rattle.world_refines.proofs.job_events.ControlConnections.{connect_decides}
 use Rattle.world_refines.proofs.state.Taking.{follows_by}

@@ -1,4 +1,4 @@
-use Rattle.scan_world.specs.declared.event.JobEvent.TheVariants.{DataConnect}
+use Rattle.event_world.specs.declared.event.JobEvent.TheVariants.{DataConnect}
 use Rattle.world_refines.specs.GhostEvents.{Dials}
 use Rattle.world_refines.proofs.frames.Dialling.{dial_decides}
 use Rattle.world_refines.proofs.state.Taking.{follows_by}

@@ -1,4 +1,4 @@
-use Rattle.scan_world.specs.declared.event.JobEvent.TheVariants.{DataToClient}
+use Rattle.event_world.specs.declared.event.JobEvent.TheVariants.{DataToClient}
 use Rattle.world_refines.specs.DataDeliveries.{GhostSees}
 use Rattle.world_refines.proofs.frames.Seeing.{data_decides}
 use Rattle.world_refines.proofs.state.Taking.{follows_by}

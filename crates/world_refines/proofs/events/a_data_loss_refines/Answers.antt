@@ -1,4 +1,4 @@
-use Rattle.scan_world.specs.declared.event.JobEvent.TheVariants.{LoseImage}
+use Rattle.event_world.specs.declared.event.JobEvent.TheVariants.{LoseImage}
 use Rattle.world_refines.specs.GhostEvents.{LosesImage}
 use Rattle.world_refines.proofs.frames.Unimaged.{image_decides}
 use Rattle.world_refines.proofs.state.Taking.{follows_by}

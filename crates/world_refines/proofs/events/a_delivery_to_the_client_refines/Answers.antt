@@ -1,4 +1,4 @@
-use Rattle.scan_world.specs.declared.event.JobEvent.TheVariants.{ToClient}
+use Rattle.event_world.specs.declared.event.JobEvent.TheVariants.{ToClient}
 use Rattle.world_refines.specs.ClientDeliveries.{GhostHears}
 use Rattle.world_refines.proofs.replies.Hearing.{deliver_decides}
 use Rattle.world_refines.proofs.state.Taking.{follows_by}

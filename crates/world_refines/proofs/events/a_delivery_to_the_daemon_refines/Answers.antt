@@ -1,4 +1,4 @@
-use Rattle.scan_world.specs.declared.event.JobEvent.TheVariants.{ToDaemon}
+use Rattle.event_world.specs.declared.event.JobEvent.TheVariants.{ToDaemon}
 use Rattle.world_refines.specs.Answering.{AnswersSome}
 use Rattle.world_refines.proofs.requests.FedEvent.{delivery_decides}
 use Rattle.world_refines.proofs.requests.OneAnswer.{all_requests}

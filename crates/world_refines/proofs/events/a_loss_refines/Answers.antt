@@ -1,4 +1,4 @@
-use Rattle.scan_world.specs.declared.event.JobEvent.TheVariants.{LoseControl}
+use Rattle.event_world.specs.declared.event.JobEvent.TheVariants.{LoseControl}
 use Rattle.world_refines.specs.GhostEvents.{LosesControl}
 use Rattle.world_refines.proofs.job_events.Losing.{control_decides}
 use Rattle.world_refines.proofs.state.Taking.{follows_by}

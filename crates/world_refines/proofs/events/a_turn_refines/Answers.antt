@@ -1,4 +1,4 @@
-use Rattle.scan_world.specs.declared.event.JobEvent.TheVariants.{DataTurn}
+use Rattle.event_world.specs.declared.event.JobEvent.TheVariants.{DataTurn}
 use Rattle.world_refines.specs.GhostEvents.{GhostTurns}
 use Rattle.world_refines.proofs.frames.TurnEvents.{turn_decides}
 use Rattle.world_refines.proofs.state.Taking.{follows_by}

@@ -1,19 +1,34 @@
-use Rattle.std.proofs.Common.{◌≡◌, ◌∙◌, List, rules, subst, sym}
-use Rattle.std.proofs.lemmas.List.{map-id}
-use Rattle.std.proofs.lemmas.Iterator.Adapters.{YieldsList-from_vec}
-use Rattle.std.proofs.lemmas.Iterator.Consumers.{YieldsList-end}
-use Rattle.page_picture.specs.SourceView.{source_state}
-use Rattle.scan_world.specs.declared.event.Event.{Event}
-use Rattle.scan_world.specs.Worlds.{Runs, seen_world}
-use Rattle.scan_world.proofs.Histories.{runs_more}
+use Rattle.scan_world.proofs.Calls.{asked_true}
+use Rattle.scan_world.proofs.Clear.{clears_by}
+use Rattle.scan_world.proofs.Led.{led_then}
+use Rattle.scan_world.proofs.Over.{cancel_ends, move_lowers, moves_fall, other_jobs_stay, over_stays}
+use Rattle.scan_world.proofs.Starved.{starved_stays}
+use Rattle.scan_world.proofs.moments.Delivered.{page_stays, starts_on_first}
+use Rattle.scan_world.proofs.moments.Holder.{one_holder}
+use Rattle.scan_world.proofs.moments.ImageLost.{image_loss_ends}
+use Rattle.scan_world.proofs.moments.Linked.{loss_ends}
+use Rattle.scan_world.proofs.moments.Others.{scans_stay, sessions_stay}
 use Rattle.scan_world.proofs.world.World.run.Goals as goal
-
-pub loop-event-preserved : goal.loop-event-preserved
-loop-event-preserved g c =
-    runs_more source_state c.loop-event.yielded c.in-Some.event (seen_world g.D.Device.state c.args.self.now) (seen_world g.D.Device.state c.loop-event.self) (seen_world g.D.Device.state c.step.new.self) c.loop-event.invariant c.step.ensures
 
 pub returns : goal.returns
 returns g c =
-    let end = YieldsList-end (YieldsList-from_vec {s = c.into_iter-event-iterator.result} c.args.events.items (search rules) (search rules)) c.loop-event.yielded c.loop-event.event-iterator c.loop-event.yielded_by c.next.result c.next.new.self c.in-None.is c.next.ensures.steps in
-    let all : c.loop-event.yielded ≡ c.args.events.items = sym (map-id c.loop-event.yielded) ∙ end.0 in
-    subst (λ (es : List Event). Runs source_state es (seen_world g.D.Device.state c.args.self.now) (seen_world g.D.Device.state c.loop-event.self)) all c.loop-event.invariant
+    let kept = c.what_stands_below.ensures.kept in
+    let loads = asked_true _ c.args.events.items c.as_slice.ensures.value c.ask_pages.ensures in
+    record {
+      runs = c.run.ensures;
+      led = λ h l. led_then h c.args.events.items _ _ l loads c.run.ensures;
+      over = over_stays c.args.events.items _ _ c.run.ensures;
+      others = other_jobs_stay c.args.events.items _ _ c.run.ensures;
+      starved = starved_stays c.args.events.items _ _ c.run.ensures;
+      moves = moves_fall c.args.events.items _ _ c.run.ensures;
+      lowers = move_lowers c.args.events.items _ _ c.run.ensures;
+      cancel = cancel_ends c.args.events.items _ _ c.run.ensures;
+      loss = λ h l. loss_ends kept h c.args.events.items _ _ l loads c.run.ensures;
+      image_loss = λ h l. image_loss_ends kept h c.args.events.items _ _ l loads c.run.ensures;
+      one_holder = λ h l. one_holder kept _ _ (led_then h c.args.events.items _ _ l loads c.run.ensures);
+      sessions = λ h l. sessions_stay kept h c.args.events.items _ _ l loads c.run.ensures;
+      scans = λ h l. scans_stay kept h c.args.events.items _ _ l loads c.run.ensures;
+      page_stays = λ h l. page_stays kept h c.args.events.items _ _ l (led_then h c.args.events.items _ _ l loads c.run.ensures) c.run.ensures;
+      first_page = λ h l. starts_on_first kept h c.args.events.items _ _ l (led_then h c.args.events.items _ _ l loads c.run.ensures) c.run.ensures;
+      clear = clears_by c.what_stands_below.ensures c.args.events.items _ _;
+    }

@@ -1,19 +1,17 @@
-use Rattle.std.proofs.Common.{rules}
-use Rattle.page_picture.specs.SourceView.{source_state}
-use Rattle.scan_world.specs.Worlds.{seen_world}
-use Rattle.scan_world.proofs.Falling.{less_by, out_by, rounds_begun, rounds_by}
+use Rattle.event_world.specs.Rounds.{all_made}
+use Rattle.scan_world.proofs.Calls.{ran_out}
+use Rattle.scan_world.proofs.Clear.{clears_up, shares_clear}
+use Rattle.scan_world.proofs.Over.{over_stays}
+use Rattle.scan_world.proofs.Starved.{starved_stays}
+use Rattle.scan_world.proofs.moments.Holder.{one_holder}
 use Rattle.scan_world.proofs.world.World.run_all.Goals as goal
 
-pub loop-goes_on-init : goal.loop-goes_on-init
-loop-goes_on-init g c = search (rules, rounds_begun source_state (seen_world g.D.Device.state c.args.self.now))
-
-pub loop-goes_on-smaller : goal.loop-goes_on-smaller
-loop-goes_on-smaller g c =
-    less_by source_state c.loop-goes_on.goes_on c.round-goes_on.result (seen_world g.D.Device.state c.loop-goes_on.self) (seen_world g.D.Device.state c.round-goes_on.new.self) c.loop-goes_on-test.true c.round-goes_on.ensures
-
-pub loop-goes_on-preserved : goal.loop-goes_on-preserved
-loop-goes_on-preserved g c =
-    rounds_by source_state c.loop-goes_on.goes_on c.round-goes_on.result (seen_world g.D.Device.state c.args.self.now) (seen_world g.D.Device.state c.loop-goes_on.self) (seen_world g.D.Device.state c.round-goes_on.new.self) c.loop-goes_on-test.true c.loop-goes_on.invariant c.round-goes_on.ensures
-
 pub returns : goal.returns
-returns g c = out_by source_state c.loop-goes_on.goes_on (seen_world g.D.Device.state c.args.self.now) (seen_world g.D.Device.state c.loop-goes_on.self) c.loop-goes_on-test.false c.loop-goes_on.invariant
+returns g c = record {
+  kept = λ h l. ran_out c.what_stands_below.ensures _ _ c.run_all.ensures h l;
+  clear = clears_up c.what_stands_below.ensures _ _ c.run_all.ensures;
+  shared = shares_clear c.what_stands_below.ensures _ _ c.run_all.ensures;
+  over = over_stays (all_made c.run_all.ensures.rounds) _ _ c.run_all.ensures.events;
+  starved = starved_stays (all_made c.run_all.ensures.rounds) _ _ c.run_all.ensures.events;
+  one_holder = λ h l. one_holder c.what_stands_below.ensures.kept _ _ (ran_out c.what_stands_below.ensures _ _ c.run_all.ensures h l).led;
+}

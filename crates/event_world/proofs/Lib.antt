@@ -1,0 +1,10 @@
+pub mod Pulls
+pub mod AllPulls
+pub mod Histories
+pub mod PageNumbers
+pub mod FileInvariant
+pub mod Represented
+pub mod Deciding
+pub mod Events
+pub mod Falling
+pub mod FilesSay

@@ -1,0 +1,5 @@
+use Rattle.event_world.proofs.Falling.{never_more, one_less, spends}
+use Rattle.event_world.proofs.laws.moves_fall.Goals as goal
+
+pub returns : goal.returns
+returns c = record { spent = spends; less = one_less; never_more = never_more }

@@ -1,0 +1,31 @@
+-- What events behind a history led to.
+use Rattle.std.proofs.Common.{List, [], ◌∷◌, ◌++◌, refl, subst}
+use Rattle.page_picture.specs.SourceView.{source_state}
+use Rattle.event_world.specs.declared.event.Event.{Event}
+use Rattle.event_world.specs.Worlds.{Leads, Runs, WorldCore}
+use Rattle.world_refines.specs.MainTheorem.{AreTrueLoads}
+use Rattle.scan_world.specs.Histories.{History, LedTo, and_then}
+
+pub runs_then : (es fs : List Event) (u v w : WorldCore) → Runs source_state es u v → Runs source_state fs v w → Runs source_state (es ++ fs) u w
+runs_then [] fs u v w a b = subst (λ (x : WorldCore). Runs source_state fs x w) a b
+runs_then (e ∷ es) fs u v w (x, first, rest) b = (x, first, runs_then es fs x v w rest b)
+
+pub loads_then : (es fs : List Event) → AreTrueLoads source_state es → AreTrueLoads source_state fs → AreTrueLoads source_state (es ++ fs)
+loads_then [] fs a b = b
+loads_then (e ∷ es) fs a b = (a.0, loads_then es fs a.1 b)
+
+pub led_then : (h : History) (es : List Event) (v w : WorldCore) → LedTo h v → AreTrueLoads source_state es → Runs source_state es v w → LedTo (and_then h es) w
+led_then h es v w l loads run = record { first = l.first; endpoints = l.endpoints; daemon = l.daemon; users_are = l.users_are; names = l.names; limits = l.limits; fit = l.fit; loads = loads_then h.events es l.loads loads; runs = runs_then h.events es l.first v w l.runs run }
+
+pub loads_front : (xs ys : List Event) → AreTrueLoads source_state (xs ++ ys) → AreTrueLoads source_state xs
+loads_front [] ys a = tt
+loads_front (x ∷ xs) ys a = (a.0, loads_front xs ys a.1)
+
+-- the world between two lists of events
+pub runs_split : (es fs : List Event) (u w : WorldCore) → Runs source_state (es ++ fs) u w → (v : WorldCore) × Runs source_state es u v × Runs source_state fs v w
+runs_split [] fs u w run = (u, refl, run)
+runs_split (e ∷ es) fs u w (x, first, rest) = let r = runs_split es fs x w rest in (r.0, (x, first, r.1), r.2)
+
+-- what the first of some events made, and what the others made of that
+pub first_runs : (P : WorldCore → Type 0) (e : Event) (es : List Event) (u w : WorldCore) → Runs source_state (e ∷ es) u w → ((x : WorldCore) → Leads source_state e u x → Runs source_state es x w → P w) → P w
+first_runs P e es u w (x, leads, rest) then_is = then_is x leads rest

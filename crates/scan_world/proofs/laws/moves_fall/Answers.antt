@@ -1,5 +1,0 @@
-use Rattle.scan_world.proofs.Falling.{never_more, one_less, spends}
-use Rattle.scan_world.proofs.laws.moves_fall.Goals as goal
-
-pub returns : goal.returns
-returns c = record { spent = spends; less = one_less; never_more = never_more }

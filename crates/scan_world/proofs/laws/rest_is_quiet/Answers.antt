@@ -1,5 +1,0 @@
-use Rattle.scan_world.proofs.Falling.{at_rest}
-use Rattle.scan_world.proofs.laws.rest_is_quiet.Goals as goal
-
-pub returns : goal.returns
-returns c = at_rest

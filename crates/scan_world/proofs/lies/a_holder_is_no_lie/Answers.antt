@@ -1,0 +1,5 @@
+use Rattle.scan_world.proofs.Refused.{shared, swapped}
+use Rattle.scan_world.proofs.lies.a_holder_is_no_lie.Goals as goal
+
+pub returns : goal.returns
+returns c = record { shared = shared; swapped = swapped }

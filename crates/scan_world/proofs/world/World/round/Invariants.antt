@@ -1,7 +1,0 @@
-use Rattle.page_picture.specs.SourceView.{source_state}
-use Rattle.scan_world.specs.Worlds.{seen_world}
-use Rattle.scan_world.proofs.Falling.{IsPart}
-use Rattle.scan_world.proofs.world.World.round.Given as goal
-
-abbrev pub invariant-loop-i : goal.invariant-loop-i
-invariant-loop-i g l = IsPart source_state l.goes_on l.i (seen_world g.D.Device.state l.initial.self) (seen_world g.D.Device.state l.self)

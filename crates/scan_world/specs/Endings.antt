@@ -1,0 +1,134 @@
+-- WHAT EXPLAINS AN ENDING: an event of the job, and what stood in the world in front of it.
+use Rattle.std.specs.Prelude.{ℕ, ◌≡◌, ◌≢◌, ◌⊎◌, ◌++◌, Bool, true, false, Some, None, List, [], Contains}
+use Rattle.sane_fixed.specs.declared.status.Status.{Status}
+use Rattle.sane_fixed.specs.declared.status.Status.TheVariants.{Cancelled, DeviceBusy, Inval, Eof, NoDocs, IoError}
+use Rattle.sane_fixed.specs.declared.status.Status.TheVariants.{NoMem, AccessDenied}
+use Rattle.md5_auth.specs.ChallengeReading.{challenge_of}
+use Rattle.data_records.specs.Records.{end_record}
+use Rattle.page_picture.specs.Meaning.{meaning_of}
+use Rattle.device_api.specs.State.{DeviceState, HasStopped, HeldPage, after_cancel, is_at_rest, page_of}
+use Rattle.dispatch.specs.Table.{find_name}
+use Rattle.saned_requests.specs.declared.session.AwaitedAuthorization.{AwaitedAuthorization}
+use Rattle.saned_requests.specs.declared.session.Session.{Session}
+use Rattle.client_replies.specs.ProtocolStates.{scans}
+use Rattle.scan_job.specs.declared.job.Job.{Job}
+use Rattle.scan_job.specs.declared.outcome.Why.{Why}
+use Rattle.scan_job.specs.declared.outcome.Why.TheVariants as whys
+use Rattle.event_world.specs.declared.endpoint.Image.{Image}
+use Rattle.event_world.specs.declared.event.Event.TheVariants.{Cancel, ToClient, DataTurn, DataToClient, LoseControl}
+use Rattle.event_world.specs.declared.event.Event.TheVariants.{LoseImage}
+use Rattle.event_world.specs.Worlds.{WorldCore}
+use Rattle.world_refines.specs.GhostStates.{backend_of, is_allowed_for, is_guarded}
+use Rattle.world_refines.specs.FailedSources.{HoldsLease}
+use Rattle.saned_requests.specs.LeaseLaws.{IsIn}
+use Rattle.scan_world.specs.Histories.{History}
+use Rattle.scan_world.specs.Page.{CameInTime, Settled}
+use Rattle.scan_world.specs.Sessions.{Asked, AtJob, Happened, Has, IsAtOpen, IsAtStart, SessionAt}
+
+-- ---- the rows
+
+-- it scans, and `read-return-value`, as its settings put it in force, says this status in a turn of its frame
+abbrev pub NamesStatus : History → WorldCore → ℕ → Job → Status → Type 0
+NamesStatus h w i job status =
+    Happened h w i (DataTurn i) × (scans job.task ≡ true) × ((s : Settled h job) × (s.setup.told ≡ Some status))
+
+-- on no device of the name can the settings be in force
+abbrev pub IsUnforced : History → Job → Type 0
+IsUnforced h job = Settled h job → ⊥
+
+-- a line of the users names its backend, and whether its user and password are allowed for the challenge that its
+-- session had sent, in that world, is this
+pub record HasPassed (h : History) (before : WorldCore) (i : ℕ) (job : Job) (allowed : Bool) : Type 0 where
+  pub session : Session DeviceState
+  pub stands : SessionAt before i session
+  pub sent : AwaitedAuthorization
+  pub awaited : session.awaited ≡ Some sent
+  pub guarded : is_guarded h.users (backend_of job.device) ≡ true
+  pub is : is_allowed_for h.users job.user job.password (backend_of job.device) (challenge_of sent.resource) ≡ allowed
+
+-- it scans, and as it asked for a start behind so many finished pages, the device that its session had at rest had none
+abbrev pub HadNoPage : History → WorldCore → ℕ → Job → ℕ → Type 0
+HadNoPage h w i job count =
+    (scans job.task ≡ true) × (asked : Asked h w i IsAtStart) × AtJob asked.at.before i (λ p. p.finished ≡ count)
+    × ((d : DeviceState) × Has asked.at.before i job.device d × (is_at_rest d.phase ≡ true) × (d.pages ≡ []))
+
+-- that had the options which its settings put in force, and they mean no picture on its first page, which came for it
+pub record HadNoPicture (h : History) (w : WorldCore) (i : ℕ) (job : Job) : Type 0 where
+  pub scanning : scans job.task ≡ true
+  pub asked : Asked h w i IsAtStart
+  pub device : DeviceState
+  pub has : Has asked.at.before i job.device device
+  pub settled : Settled h job
+  pub options : settled.setup ≡ device.setup
+  pub held : HeldPage
+  pub came : CameInTime h w i job.device held
+  pub first : held.page ≡ page_of device
+  pub none : meaning_of held.page settled.setup.scene ≡ None
+
+-- the session of job i had a device, whose source can fail and did, and counted it: behind the event that is stopped,
+-- and had, or back in its place
+pub record DeviceFailed (before behind : WorldCore) (i : ℕ) (name : List ℕ) : Type 0 where
+  pub device : DeviceState
+  pub has : Has before i name device
+  pub after : DeviceState
+  pub stopped : HasStopped device after
+  pub left : HoldsLease behind.daemon has.at.id.number has.word (record has.lease { device = after })
+      ⊎ IsIn (after_cancel after) has.lease.place behind.daemon.registry
+
+-- behind the bytes of a frame's data that were on the way to job i came the end with the number of IO_ERROR
+abbrev pub SendsFailure : WorldCore → WorldCore → ℕ → Type 0
+SendsFailure before behind i = (old new : Image) × AtJob before i (λ p. p.image ≡ Some old)
+    × AtJob behind i (λ p. p.image ≡ Some new) × (new.bytes ≡ old.bytes ++ end_record 9)
+
+-- it scans, a page that can fail came for its device, and the source of its first page failed in that, or in a turn of
+-- the frame
+abbrev pub HadFailed : History → WorldCore → ℕ → Job → Type 0
+HadFailed h w i job =
+    (scans job.task ≡ true) × ((held : HeldPage) × CameInTime h w i job.device held × (held.infallible ≡ false))
+    × (((asked : Asked h w i IsAtStart) × DeviceFailed asked.at.before asked.at.behind i job.device)
+    ⊎ ((turn : Happened h w i (DataTurn i)) × DeviceFailed turn.0.before turn.0.behind i job.device
+    × SendsFailure turn.0.before turn.0.behind i))
+
+-- what the daemon's answer with this status comes from, where `read-return-value` does not say it: as the job asked for
+-- its device, that was not listed; another job's session had it; or its user and password are not allowed
+abbrev pub AnswerIsExplained : History → WorldCore → ℕ → Job → Status → Type 0
+AnswerIsExplained h w i job Inval = IsUnforced h job ⊎ (HadNoPicture h w i job
+    ⊎ ((asked : Asked h w i IsAtOpen) × (find_name job.device asked.at.before.daemon.registry ≡ None)))
+AnswerIsExplained h w i job DeviceBusy =
+    (asked : Asked h w i IsAtOpen) × (j : ℕ) × (d : DeviceState) × (j ≢ i) × Has asked.at.before j job.device d
+AnswerIsExplained h w i job AccessDenied = (asked : Asked h w i IsAtOpen) × HasPassed h asked.at.before i job false
+AnswerIsExplained h w i job NoDocs = HadNoPage h w i job 0
+AnswerIsExplained h w i job IoError = HadFailed h w i job
+AnswerIsExplained h w i job status = ⊥
+
+-- **caused (`IsEndingExplained`, `AnswerIsExplained`, `HadNoPage`, `HadNoPicture`, `HadFailed`,
+-- `DeviceFailed`, `SendsFailure`, `NamesStatus`, `IsUnforced`)**: the table of endings: a status and a why, with what
+-- explains it: an event of the job, which came to it as it ran, and what stood in the world in front of it. Another
+-- session had the device; it was not listed; the user's password is not allowed for the challenge that was sent; the
+-- device had no page, or settings mean no picture on its first; its source failed; a connection was lost; a piece came
+-- to a client without memory; `read-return-value` says a status in a turn of a frame. Without an event: the settings
+-- can be in force on no device of the name.
+--
+-- THE TABLE: what explains that job i ended with a status and a why. No other two of them occur.
+abbrev pub IsEndingExplained : History → WorldCore → ℕ → Job → Bool → Status → Why → Type 0
+IsEndingExplained h w i job starved status whys.Cancelled = (status ≡ Cancelled) × Contains h.events (Cancel i)
+IsEndingExplained h w i job starved status whys.Lost =
+    (status ≡ IoError) × ((Happened h w i (LoseControl i) ⊎ Happened h w i (LoseImage i)) ⊎ (starved ≡ true))
+IsEndingExplained h w i job starved status whys.Short = (status ≡ IoError) × NamesStatus h w i job Eof
+IsEndingExplained h w i job starved status whys.Setting = (status ≡ Inval) × IsUnforced h job
+IsEndingExplained h w i job starved status whys.Memory =
+    (status ≡ NoMem) × ((n : ℕ) × (Happened h w i (ToClient i n) ⊎ Happened h w i (DataToClient i n)))
+IsEndingExplained h w i job starved status whys.Answer =
+    ((status ≢ Eof) × NamesStatus h w i job status) ⊎ AnswerIsExplained h w i job status
+IsEndingExplained h w i job starved status why = ⊥
+
+-- ---- and where a job is done
+
+-- **opened (`WasOpened`, `HasPassed`)**: as a job that is done asked for its device, that was listed and no session had
+-- it; no line of the users names its backend, or its user and password are allowed for the challenge that its session
+-- had sent.
+pub record WasOpened (h : History) (w : WorldCore) (i : ℕ) (job : Job) : Type 0 where
+  pub asked : Asked h w i IsAtOpen
+  pub listed : find_name job.device asked.at.before.daemon.registry ≢ None
+  pub free : (j : ℕ) (d : DeviceState) → Has asked.at.before j job.device d → ⊥
+  pub permitted : (is_guarded h.users (backend_of job.device) ≡ false) ⊎ HasPassed h asked.at.before i job true

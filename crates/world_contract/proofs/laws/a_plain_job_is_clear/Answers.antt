@@ -1,5 +1,0 @@
-use Rattle.world_contract.proofs.PlainJob.{feeder_is_clear, plain_is_clear}
-use Rattle.world_contract.proofs.laws.a_plain_job_is_clear.Goals as goal
-
-pub returns : goal.returns
-returns c = record { flatbed = plain_is_clear; feeder = feeder_is_clear }

@@ -1,5 +1,0 @@
-use Rattle.world_contract.proofs.Listing.{all_are_listed}
-use Rattle.world_contract.proofs.laws.all_are_listed.Goals as goal
-
-pub returns : goal.returns
-returns c = all_are_listed c.what_stands_below.ensures

@@ -1,5 +1,0 @@
-use Rattle.world_contract.proofs.Calls.{all_follow}
-use Rattle.world_contract.proofs.laws.all_is_right.Goals as goal
-
-pub returns : goal.returns
-returns c = all_follow c.what_stands_below.ensures

@@ -1,6 +1,0 @@
-use Rattle.world_contract.proofs.Over.{cancel_ends, move_lowers, moves_fall, other_jobs_stay, over_stays}
-use Rattle.world_contract.proofs.Starved.{starved_stays}
-use Rattle.world_contract.proofs.laws.jobs_end_once.Goals as goal
-
-pub returns : goal.returns
-returns c = record { over = over_stays; others = other_jobs_stay; starved = starved_stays; moves = moves_fall; lowers = move_lowers; cancel = cancel_ends }

@@ -1,5 +1,0 @@
-use Rattle.world_contract.proofs.TrayPages.{trays_are_taken}
-use Rattle.world_contract.proofs.laws.trays_are_taken.Goals as goal
-
-pub returns : goal.returns
-returns c = trays_are_taken c.what_stands_below.ensures

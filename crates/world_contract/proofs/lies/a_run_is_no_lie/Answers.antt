@@ -1,5 +1,0 @@
-use Rattle.world_contract.proofs.Refused.{given_up, gone_on, idle, still_runs}
-use Rattle.world_contract.proofs.lies.a_run_is_no_lie.Goals as goal
-
-pub returns : goal.returns
-returns c = record { idle = idle; gone_on = gone_on; given_up = given_up; still_runs = still_runs }

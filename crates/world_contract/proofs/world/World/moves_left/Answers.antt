@@ -1,6 +1,0 @@
-use Rattle.std.proofs.Common.{refl}
-use Rattle.world_contract.proofs.Calls.{moves_call, left_is}
-use Rattle.world_contract.proofs.world.World.moves_left.Goals as goal
-
-pub returns : goal.returns
-returns g c = let is = left_is _ _ c.moves_left.result refl c.moves_left.ensures.is c.moves_left.ensures.none in record { is = is; kept = moves_call c.what_stands_below.ensures _ c.args.i _ is }
