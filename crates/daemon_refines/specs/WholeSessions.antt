@@ -1,5 +1,5 @@
 -- Requests to a whole session, by the daemon and by the model.
-use Rattle.std.specs.Prelude.{ℕ, ◌≡◌, ◌≢◌, ◌⊎◌, ◌/◌, ◌+◌, ◌∷◌, cond, Bool, true, false, Some, None, List, []}
+use Rattle.std.specs.Prelude.{ℕ, ◌≡◌, ◌≢◌, ◌⊎◌, ◌/◌, ◌+◌, ◌∷◌, Bool, true, false, Some, None, List, [], if◌then◌else◌}
 use Rattle.sane_fixed.specs.declared.status.Status.TheVariants as code
 use Rattle.sane_fixed.specs.declared.device_info.DeviceInfo.{DeviceInfo}
 use Rattle.md5_auth.specs.declared.users.Entry.{Entry}
@@ -59,7 +59,7 @@ DevicesAgree =
 -- what is told of the places that are listed by the model
 abbrev pub infos_for : (ℕ → AbstractDevice) → ℕ → Table → List DeviceInfo
 infos_for table k [] = []
-infos_for table k (p ∷ t) = cond (table k).listed (p.info ∷ infos_for table (k + 1) t) (infos_for table (k + 1) t)
+infos_for table k (p ∷ t) = if (table k).listed then p.info ∷ infos_for table (k + 1) t else infos_for table (k + 1) t
 
 -- the devices that are told are those of the places that the model lists
 abbrev pub ListsAgree : Type 0

@@ -31,8 +31,7 @@ use Rattle.device_api.specs.declared.scan_option.ScanOption.TheVariants.{ReadRet
 abbrev pub flatbed_options : List ScanOption
 flatbed_options =
     NumOptions ∷ ModeOption ∷ Depth ∷ Resolution ∷ TlX ∷ TlY ∷ BrX ∷ BrY ∷ GammaTable ∷ PplLoss ∷ ReadLimitSize
-    ∷ ReadReturnValue
-    ∷ RedGammaTable ∷ GreenGammaTable ∷ BlueGammaTable ∷ []
+    ∷ ReadReturnValue ∷ RedGammaTable ∷ GreenGammaTable ∷ BlueGammaTable ∷ []
 
 -- **option tables (`options_of`, `descriptor_of`, `is_active`)**: by kind of scanner, in the order of their numbers:
 -- name, title, kind, unit, size, capabilities, constraint. No gamma table at depth 16, tables of channels in color at
@@ -135,11 +134,10 @@ choices_of ThreePassOrder =
     ∷ choice.Passes Bgr ∷ []
 choices_of ReadReturnValue =
     choice.ReadStatus None ∷ choice.ReadStatus (Some status.Unsupported) ∷ choice.ReadStatus (Some status.Cancelled)
-    ∷ choice.ReadStatus (Some status.DeviceBusy)
-    ∷ choice.ReadStatus (Some status.Inval) ∷ choice.ReadStatus (Some status.Eof)
-    ∷ choice.ReadStatus (Some status.Jammed) ∷ choice.ReadStatus (Some status.NoDocs)
-    ∷ choice.ReadStatus (Some status.CoverOpen) ∷ choice.ReadStatus (Some status.IoError)
-    ∷ choice.ReadStatus (Some status.NoMem)
+    ∷ choice.ReadStatus (Some status.DeviceBusy) ∷ choice.ReadStatus (Some status.Inval)
+    ∷ choice.ReadStatus (Some status.Eof) ∷ choice.ReadStatus (Some status.Jammed)
+    ∷ choice.ReadStatus (Some status.NoDocs) ∷ choice.ReadStatus (Some status.CoverOpen)
+    ∷ choice.ReadStatus (Some status.IoError) ∷ choice.ReadStatus (Some status.NoMem)
     ∷ choice.ReadStatus (Some status.AccessDenied) ∷ []
 choices_of _ = []
 

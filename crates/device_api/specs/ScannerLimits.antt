@@ -1,6 +1,6 @@
 -- What the options of every scanner say, at any time.
-use Rattle.std.specs.Prelude.{◌≡◌, ◌≢◌, ◌≤◌, ◌<◌, ◌*◌, ◌^◌, slice_index, get_or, [], ℕ, ℤ, pos, Bool, true, false, Some}
-use Rattle.std.specs.Prelude.{All, length}
+use Rattle.std.specs.Prelude.{◌≡◌, ◌≢◌, ◌≤◌, ◌<◌, ◌*◌, ◌^◌, slice_index, [], ℕ, ℤ, pos, Bool, true, false, Some}
+use Rattle.std.specs.Prelude.{slice_index_or, All, length}
 use Rattle.sane_fixed.specs.declared.fixed.Fixed.{Fixed as Length}
 use Rattle.sane_fixed.specs.declared.status.Status.TheVariants.{Good}
 use Rattle.page_picture.specs.Page.{IsShaped, IsPageView}
@@ -30,7 +30,7 @@ pub record IsAllowed (s : Setup) : Type 0 where
   pub br_x : IsOnBed s.scene.br_x
   pub br_y : IsOnBed s.scene.br_y
   pub gamma : (i : ℕ) → slice_index s.scene.gamma i < 2 ^ 8
-  pub channel_gamma : (k i : ℕ) → slice_index (get_or s.scene.channel_gamma k []) i < 2 ^ 8
+  pub channel_gamma : (k i : ℕ) → slice_index (slice_index_or s.scene.channel_gamma k []) i < 2 ^ 8
   pub told : s.told ≢ Some Good
 
 -- a page in a device: its limits, and samples of 16 bits where its source gives its rows

@@ -62,8 +62,7 @@ no_page =
     record {
       page = record { width = 0; height = 0; dpi = 0; samples = [] };
       steady = false;
-      infallible =
-          false;
+      infallible = false;
       failures = 0;
     }
 

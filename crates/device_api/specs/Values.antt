@@ -1,6 +1,6 @@
 -- The values of options: what is read, what is set, and what a set tells (SANE Standard 1.06, "Option Control").
 use Rattle.std.specs.Prelude.{ℕ, ◌+◌, ◌*◌, ◌&&◌, pos, unsigned_abs, Bool, true, false, not, if◌then◌else◌, Option, Some}
-use Rattle.std.specs.Prelude.{None, Result, Ok, Err, List, [], ◌∷◌, get_or, length, map}
+use Rattle.std.specs.Prelude.{slice_index_or, None, Result, Ok, Err, List, [], ◌∷◌, length, map}
 use Rattle.std.specs.List.{list_any, range_with_len}
 use Rattle.std.specs.Str.{bytes_eq}
 use Rattle.std.specs.Ordering.{int_eq}
@@ -67,7 +67,7 @@ defaults k order = record {
 
 -- the table of a channel of color
 abbrev pub channel_table : Setup → ℕ → List ℕ
-channel_table s k = get_or s.scene.channel_gamma k []
+channel_table s k = slice_index_or s.scene.channel_gamma k []
 
 -- the value of an option
 unfoldable pub option_value : Setup → ScanOption → Value

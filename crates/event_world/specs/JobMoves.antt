@@ -1,5 +1,5 @@
 -- The next move of a job, and how many it may still take.
-use Rattle.std.specs.Prelude.{ℕ, ◌≡◌, ◌⊎◌, true, false, cond, Option, Some, None, option_map, List, [], ◌∷◌}
+use Rattle.std.specs.Prelude.{ℕ, ◌≡◌, ◌⊎◌, true, false, Option, Some, None, option_map, List, [], ◌∷◌, if◌then◌else◌}
 use Rattle.saned_core.specs.DaemonStates.{Core}
 use Rattle.client_replies.specs.ProtocolStates.{is_running}
 use Rattle.event_world.specs.declared.event.Event.{Event}
@@ -40,4 +40,4 @@ pub record IsNextMove (d : Core) (i : ℕ) (p : Endpoint) (event : Option Event)
 
 -- none where the job does not run
 abbrev pub moves_left_of : Endpoint → ℕ
-moves_left_of p = cond (is_running p.client.outcome) p.budget 0
+moves_left_of p = if is_running p.client.outcome then p.budget else 0

@@ -1,6 +1,6 @@
 -- One order of all that a server and the loops of some jobs do: an interleaving of their journals. All have the newest
 -- first.
-use Rattle.std.specs.Prelude.{ℕ, ◌+◌, cond, eqb, List, [], ◌∷◌, ◌++◌}
+use Rattle.std.specs.Prelude.{ℕ, ◌+◌, List, [], ◌∷◌, ◌++◌, if◌then◌else◌, ◌==◌}
 use Rattle.saned_serve.specs.SessionActions.{SessionAction}
 use Rattle.saned_serve.specs.SessionActions.SessionAction.{Connect}
 use Rattle.saned_serve.specs.Journal.{LoopAction}
@@ -40,7 +40,7 @@ server_journal (OfJob job move ∷ past) = server_journal past
 unfoldable pub job_journal : {M : Type 0} → ℕ → List (JointAction M) → List M
 job_journal i [] = []
 job_journal i (OfServer action ∷ past) = job_journal i past
-job_journal i (OfJob job move ∷ past) = cond (eqb job i) (move ∷ job_journal i past) (job_journal i past)
+job_journal i (OfJob job move ∷ past) = if job == i then move ∷ job_journal i past else job_journal i past
 
 -- ---- what passed over the connections of a job, as its moves are seen
 
@@ -96,7 +96,7 @@ accepted_with (Connect port) count = count + 1
 accepted_with act count = count
 
 abbrev pub accepted_after : LoopAction → ℕ → ℕ → ℕ
-accepted_after (Of number act) k count = cond (eqb number k) (accepted_with act count) count
+accepted_after (Of number act) k count = if number == k then accepted_with act count else count
 accepted_after action k count = count
 
 unfoldable pub connections_accepted : ℕ → List LoopAction → ℕ

@@ -1,5 +1,5 @@
 -- Which orders of what a server and jobs do are as good as others, and what is on the way in each.
-use Rattle.std.specs.Prelude.{ℕ, ◌≡◌, ◌≢◌, ◌≤◌, ◌<◌, ◌⊎◌, Bool, false, cond, eqb, Some, List, [], ◌∷◌, ◌++◌}
+use Rattle.std.specs.Prelude.{ℕ, ◌≡◌, ◌≢◌, ◌≤◌, ◌<◌, ◌⊎◌, Bool, false, Some, List, [], ◌∷◌, ◌++◌, if◌then◌else◌, ◌==◌}
 use Rattle.saned_serve.specs.SessionActions.{SessionAction}
 use Rattle.saned_serve.specs.SessionActions.SessionAction.{Opens, Take, Connect, Turn}
 use Rattle.saned_serve.specs.Journal.{IsFront, IsJournal, LoopAction, projection_of}
@@ -43,16 +43,16 @@ MovesMayComeSooner M =
 
 abbrev pub is_move_of : {M : Type 0} → ℕ → JointAction M → Bool
 is_move_of i (OfServer action) = false
-is_move_of i (OfJob job move) = eqb job i
+is_move_of i (OfJob job move) = job == i
 
 -- the moves of a job, and what else was done
 unfoldable pub moves_among : {M : Type 0} → ℕ → List (JointAction M) → List (JointAction M)
 moves_among i [] = []
-moves_among i (action ∷ past) = cond (is_move_of i action) (action ∷ moves_among i past) (moves_among i past)
+moves_among i (action ∷ past) = if is_move_of i action then action ∷ moves_among i past else moves_among i past
 
 unfoldable pub others_among : {M : Type 0} → ℕ → List (JointAction M) → List (JointAction M)
 others_among i [] = []
-others_among i (action ∷ past) = cond (is_move_of i action) (others_among i past) (action ∷ others_among i past)
+others_among i (action ∷ past) = if is_move_of i action then others_among i past else action ∷ others_among i past
 
 abbrev pub ServerGivesNothing : {M : Type 0} → Owner → ℕ → JointAction M → Type 0
 ServerGivesNothing owner i (OfServer action) = GivesJobNothing owner i action

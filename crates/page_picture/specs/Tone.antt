@@ -1,5 +1,5 @@
 -- What a seen brightness becomes in a picture: the tone.
-use Rattle.std.specs.Prelude.{ℕ, ◌+◌, ◌*◌, ◌/◌, ◌==◌, nat_lt, if◌then◌else◌, List, [], get_or, slice_index}
+use Rattle.std.specs.Prelude.{ℕ, ◌+◌, ◌*◌, ◌/◌, ◌==◌, nat_lt, if◌then◌else◌, List, [], slice_index, slice_index_or}
 use Rattle.page_picture.specs.declared.scene.Mode.{Mode}
 use Rattle.page_picture.specs.declared.scene.Mode.TheVariants.{Gray, Color}
 
@@ -23,4 +23,4 @@ tone depth table v =
 -- In color at depth 8 the channel's table has the entry for that.
 abbrev pub in_channel : Mode → ℕ → List (List ℕ) → ℕ → ℕ → ℕ
 in_channel Gray depth tables k v = v
-in_channel Color depth tables k v = if depth == 8 then slice_index (get_or tables k []) v else v
+in_channel Color depth tables k v = if depth == 8 then slice_index (slice_index_or tables k []) v else v

@@ -1,4 +1,4 @@
-ghost use Rattle.std.specs.Prelude.{◌≡◌, ◌≤◌, ◌<◌, ◌^◌, ℕ, [], get_or, slice_index, IfSome};
+ghost use Rattle.std.specs.Prelude.{◌≡◌, ◌≤◌, ◌<◌, ◌^◌, ℕ, [], slice_index, IfSome, slice_index_or};
 ghost use Rattle.netpbm.specs.Picture.{IsPicture};
 ghost use Rattle.page_picture.specs.Page.{IsPageView};
 ghost use Rattle.page_picture.specs.Extent.{extent_on, extent_of, down, is_side, shows_depth, lines_over};
@@ -74,7 +74,7 @@ fn entries_are_bytes(table: &[u8])
 
 /// Each entry of three tables is a byte.
 fn tables_are_bytes(tables: &[[u8; 256]; 3])
-    ensures { (k i : ℕ) → slice_index (get_or tables.now k []) i < 2 ^ 8 }
+    ensures { (k i : ℕ) → slice_index (slice_index_or tables.now k []) i < 2 ^ 8 }
 {
     entries_are_bytes(&tables[0][..]);
     entries_are_bytes(&tables[1][..]);

@@ -1,7 +1,7 @@
 -- What a server does, as one list: each call of the daemon, of a connection and of the listeners,
 -- in order.
-use Rattle.std.specs.Prelude.{◌≡◌, ◌≢◌, ℕ, ◌+◌, ◌-◌, ◌≤◌, ◌<◌, Bool, true, false, not, ◌||◌, cond, eqb, Option, None}
-use Rattle.std.specs.Prelude.{Some, List, [], ◌∷◌, ◌++◌, length, ◌⊎◌}
+use Rattle.std.specs.Prelude.{◌≡◌, ◌≢◌, ℕ, ◌+◌, ◌-◌, ◌≤◌, ◌<◌, Bool, true, false, not, ◌||◌, Option, None}
+use Rattle.std.specs.Prelude.{if◌then◌else◌, ◌==◌, Some, List, [], ◌∷◌, ◌++◌, length, ◌⊎◌}
 use Rattle.saned_core.specs.DaemonStates.{Core, is_closed, is_waiting}
 use Rattle.saned_serve.specs.ConnectionTraces.{ConnectionTrace, trace_bytes_read, trace_bytes_written, lost_in, IsTrace}
 use Rattle.saned_serve.specs.ConnectionTraces.ConnectionCall.{Read, Write}
@@ -141,7 +141,7 @@ projection_after (HangsUp trace) projection = record projection { imaging = fals
 projection_after (Leaves port trace) projection = record projection { is_open = false }
 
 abbrev pub concerns : LoopAction → ℕ → Bool
-concerns (Of number act) id = eqb number id
+concerns (Of number act) id = number == id
 concerns Full id = false
 concerns Waits id = false
 concerns (Refuses port trace) id = false
@@ -164,7 +164,7 @@ projection_after_action Stops projection = projection
 unfoldable pub projection_of : ℕ → List LoopAction → SessionProjection
 projection_of id [] = empty_projection
 projection_of id (action ∷ past) =
-    cond (concerns action id) (projection_after_action action (projection_of id past)) (projection_of id past)
+    if concerns action id then projection_after_action action (projection_of id past) else projection_of id past
 
 -- ---- what may be done
 
@@ -326,7 +326,7 @@ has_asked (Stops ∷ past) = has_asked past
 abbrev pub open_sessions : List LoopAction → ℕ
 open_sessions [] = 0
 open_sessions (Of number act ∷ past) =
-    cond (opens_session act) (open_sessions past + 1) (open_sessions past) - leaves act
+    (if opens_session act then open_sessions past + 1 else open_sessions past) - leaves act
 open_sessions (Full ∷ past) = open_sessions past
 open_sessions (Waits ∷ past) = open_sessions past
 open_sessions (Refuses port trace ∷ past) = open_sessions past
@@ -378,7 +378,7 @@ abbrev pub listener_trace_act : SessionAction → Option ListenerTrace → Optio
 listener_trace_act (Opens port) listeners = with_notice (Port (Some port)) (with_notice (Asked true) listeners)
 listener_trace_act (Hears got room bytes) listeners = listeners
 listener_trace_act (Feed piece fed begins) listeners = listeners
-listener_trace_act (Forgets told port) listeners = cond told (with_notice (Forgot port) listeners) listeners
+listener_trace_act (Forgets told port) listeners = if told then with_notice (Forgot port) listeners else listeners
 listener_trace_act (Take room bytes) listeners = listeners
 listener_trace_act (Says got bytes) listeners = listeners
 listener_trace_act (Looks frame) listeners = listeners
@@ -437,7 +437,7 @@ after_tally (Refuses port trace) t = record t { stir = t.stir || true }
 after_tally Turned t = record {
   left = t.left;
   turns = t.turns + 1;
-  idle = cond t.stir 0 (t.idle + 1);
+  idle = if t.stir then 0 else t.idle + 1;
   stir = false;
 }
 after_tally Stops t = t

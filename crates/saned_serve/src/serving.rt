@@ -1,6 +1,6 @@
 //! Turn after turn, until enough sessions left or nothing moves.
 
-ghost use Rattle.std.specs.Prelude.{◌≡◌, ◌≢◌, ◌≤◌, ◌<◌, ◌+◌, cond, Bool, true, false, List, [], Option, All, length};
+ghost use Rattle.std.specs.Prelude.{◌≡◌, ◌≢◌, ◌≤◌, ◌<◌, ◌+◌, Bool, true, false, List, [], Option, All, length, if◌then◌else◌};
 ghost use Rattle.saned_core.specs.DaemonStates.{Core, core};
 ghost use Rattle.saned_serve.specs.ListenerTraces.{ListenerTrace};
 ghost use Rattle.saned_serve.specs.Serving.{HasServed, lent, most_turns};
@@ -63,7 +63,7 @@ const MOST_TURNS: u64 = 1_099_511_627_776;
 /// How many turns in a row nothing moved in, once one more was taken.
 fn idle_after(idle: u64, has_moved: bool) -> u64
     requires { idle < most_turns }
-    ensures { result ≡ cond has_moved 0 (idle + 1) }
+    ensures { result ≡ (if has_moved then 0 else idle + 1) }
 {
     if has_moved { 0 } else { idle + 1 }
 }

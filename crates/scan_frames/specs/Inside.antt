@@ -1,6 +1,6 @@
 -- What private functions alone promise.
-use Rattle.std.specs.Prelude.{ℕ, ◌+◌, ◌*◌, ◌/◌, ◌<◌, ◌≡◌, ◌≢◌, nat_lt, if◌then◌else◌, List, length, slice_index, get_or}
-use Rattle.std.specs.Prelude.{◌≤◌, true, ◌-◌, ◌%◌, ◌==◌, ◌&&◌, Bool, take, drop, min, []}
+use Rattle.std.specs.Prelude.{ℕ, ◌+◌, ◌*◌, ◌/◌, ◌<◌, ◌≡◌, ◌≢◌, nat_lt, if◌then◌else◌, List, length, slice_index}
+use Rattle.std.specs.Prelude.{slice_index_or, ◌≤◌, true, ◌-◌, ◌%◌, ◌==◌, ◌&&◌, Bool, take, drop, min, []}
 use Rattle.netpbm.specs.FileText.{binary, bits_byte}
 use Rattle.page_picture.specs.Columns.{Columns, place_at, columns_of}
 use Rattle.page_picture.specs.Page.{PageView, page_sample_at}
@@ -89,7 +89,7 @@ bits_in scene row places k b = binary (λ j. bit_in scene row places k (8 * b + 
 
 -- each of the three tables gives each byte as it is
 abbrev pub IsPlain : List (List ℕ) → Type 0
-IsPlain tables = (k v : ℕ) → k < 3 → v < 256 → slice_index (get_or tables k []) v ≡ v
+IsPlain tables = (k v : ℕ) → k < 3 → v < 256 → slice_index (slice_index_or tables k []) v ≡ v
 
 -- a table gives each byte as it is
 abbrev pub IsSame : List ℕ → Type 0
@@ -219,7 +219,8 @@ pub record PutsColors (s : SourceState) (first : ℕ) (t : SourceState) (line : 
 
 -- a line of a pass shows these bytes of one channel of the page as they are
 abbrev pub AreAsTheyAre : Setup → List (List ℕ) → SampleBytes → ℕ → Type 0
-AreAsTheyAre setup tables Upper channel = (packing_of setup.scene.depth ≡ Bytes) × IsSame (get_or tables channel [])
+AreAsTheyAre setup tables Upper channel =
+    (packing_of setup.scene.depth ≡ Bytes) × IsSame (slice_index_or tables channel [])
 AreAsTheyAre setup tables Both channel = (packing_of setup.scene.depth ≡ Words) × (setup.order ≡ Big)
 
 -- the pass is one of one color, whose channel of the page this is, and its lines show these bytes of it as they are

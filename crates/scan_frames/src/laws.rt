@@ -1,4 +1,4 @@
-ghost use Rattle.std.specs.Prelude.{◌≡◌, ◌+◌, ◌<◌, ◌≤◌, ◌^◌, ℕ, [], Some, true, get_or, length, slice_get, slice_index};
+ghost use Rattle.std.specs.Prelude.{◌≡◌, ◌+◌, ◌<◌, ◌≤◌, ◌^◌, ℕ, [], Some, true, length, slice_get, slice_index};
 ghost use Rattle.page_picture.specs.Page.{PageView, IsPageView};
 ghost use Rattle.page_picture.specs.Meaning.{picture_of};
 ghost use Rattle.page_picture.specs.Shows.{ShowsFrames};

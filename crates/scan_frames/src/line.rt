@@ -1,6 +1,6 @@
 //! The bytes of a line.
 
-ghost use Rattle.std.specs.Prelude.{◌≡◌, ◌≤◌, ◌<◌, ◌+◌, ◌*◌, ◌/◌, ◌^◌, ℕ, [], true, false, IfSome, length, get_or, slice_index};
+ghost use Rattle.std.specs.Prelude.{◌≡◌, ◌≤◌, ◌<◌, ◌+◌, ◌*◌, ◌/◌, ◌^◌, ℕ, [], true, false, IfSome, length, slice_index, slice_index_or};
 ghost use Rattle.page_picture.specs.Columns.{place_at};
 ghost use Rattle.page_picture.specs.Shows.{channels_within};
 ghost use Rattle.page_picture.specs.Tone.{brightness};
@@ -98,7 +98,7 @@ fn put_colors(tables: &[[u8; 256]; 3], row: &[u16], places: &[u32], line: &mut [
         → x < length places.now → 3 * slice_index places.now x + 2 < length row.now }
     requires room { 3 * length places.now ≤ length line.old }
     ensures here { (x k : ℕ) → x < length places.now
-        → k < 3 → slice_index line.new (3 * x + k) ≡ slice_index (get_or tables.now k [])
+        → k < 3 → slice_index line.new (3 * x + k) ≡ slice_index (slice_index_or tables.now k [])
         (slice_index row.now (3 * slice_index places.now x + k) / 256) }
     ensures behind { (j : ℕ)
         → 3 * length places.now ≤ j → slice_index line.new j ≡ slice_index line.old j }
@@ -163,7 +163,7 @@ fn put_rgb(
     requires few { length places.now ≤ 65536 }
     requires room { 3 * length places.now ≤ length line.old }
     ensures here { (x k : ℕ) → x < length places.now
-        → k < 3 → slice_index line.new (3 * x + k) ≡ slice_index (get_or tables.now k [])
+        → k < 3 → slice_index line.new (3 * x + k) ≡ slice_index (slice_index_or tables.now k [])
         (slice_index row.now (3 * slice_index places.now x + k) / 256) }
     ensures behind { (j : ℕ)
         → 3 * length places.now ≤ j → slice_index line.new j ≡ slice_index line.old j }

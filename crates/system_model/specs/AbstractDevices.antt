@@ -1,5 +1,5 @@
 -- A device among its users: who holds it, the pages in it, and what it does.
-use Rattle.std.specs.Prelude.{ℕ, ◌≡◌, List, [], ◌∷◌, Bool, true, false, Option, Some, None, cond, eqb}
+use Rattle.std.specs.Prelude.{ℕ, ◌≡◌, List, [], ◌∷◌, Bool, true, false, Option, Some, None, if◌then◌else◌, ◌==◌}
 use Rattle.page_picture.specs.Shows.{Frame}
 use Rattle.device_api.specs.Kinds.{Page, IsStocked}
 use Rattle.system_model.specs.Devices.{Make, OptionsInForce, AreOptionsAllowed, IsPageShaped}
@@ -54,7 +54,7 @@ pub record DeviceInvariant (make : Make) (dev : AbstractDevice) : Type 0 where
 
 abbrev pub is_held_by : ℕ → Option ℕ → Bool
 is_held_by i None = false
-is_held_by i (Some j) = eqb j i
+is_held_by i (Some j) = j == i
 
 -- cancelled
 abbrev pub put_down : AbstractDevice → AbstractDevice
@@ -66,7 +66,7 @@ put_back dev = record dev { holder = None; phase = Resting }
 
 -- the device of client i's session that is over
 abbrev pub device_let_go : ℕ → AbstractDevice → AbstractDevice
-device_let_go i dev = cond (is_held_by i dev.holder) (put_back dev) dev
+device_let_go i dev = if is_held_by i dev.holder then put_back dev else dev
 
 -- what is left of a frame where these bytes are taken
 abbrev pub without_first : {X : Type 0} → List X → List X

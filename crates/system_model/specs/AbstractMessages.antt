@@ -3,7 +3,7 @@ use Rattle.sane_fixed.specs.declared.byte_order.ByteOrder.{ByteOrder as Order}
 use Rattle.sane_fixed.specs.declared.params.Params.{Params}
 use Rattle.option_desc.specs.declared.descriptor.Descriptor.{Descriptor}
 use Rattle.option_desc.specs.declared.value.Value.{Value}
-use Rattle.std.specs.Prelude.{ℕ, List, [], ◌∷◌, Bool, true, false, cond, eqb}
+use Rattle.std.specs.Prelude.{ℕ, List, [], ◌∷◌, Bool, true, false, if◌then◌else◌, ◌==◌}
 
 -- the statuses of the standard
 pub data Status : Type 0 where
@@ -37,7 +37,7 @@ abbrev pub same_text : List ℕ → List ℕ → Bool
 same_text [] [] = true
 same_text [] (y ∷ ys) = false
 same_text (x ∷ xs) [] = false
-same_text (x ∷ xs) (y ∷ ys) = cond (eqb x y) (same_text xs ys) false
+same_text (x ∷ xs) (y ∷ ys) = if x == y then same_text xs ys else false
 
 -- what a daemon asks a user to answer before it opens a device
 abbrev pub Challenge : Type 0

@@ -1,6 +1,6 @@
 -- The daemon's rules in full, for a session with four device words: what the model for one device leaves out.
 use Rattle.std.specs.Prelude.{◌≤◌, ℕ, ◌≡◌, ◌≢◌, ◌⊎◌, List, [], ◌∷◌, Bool, true, false, Option, Some, None, option_map}
-use Rattle.std.specs.Prelude.{cond, eqb}
+use Rattle.std.specs.Prelude.{if◌then◌else◌, ◌==◌}
 use Rattle.system_model.specs.AbstractMessages.{same_text, Unsupported, Inval, Challenge, AbstractRequest, Init}
 use Rattle.system_model.specs.AbstractMessages.{GetDevices, Open, Authorize, Describe, Cancel, Close, Exit}
 use Rattle.system_model.specs.AbstractMessages.{AbstractReply, Greeted, Listed, Described, Acked, Refused}
@@ -62,7 +62,7 @@ open_effect i table s w d held v =
       goes_on = v.goes_on;
       session =
           record s {
-            words = words_after (cond held false (is_held_by i v.device.holder)) s.words w d;
+            words = words_after (if held then false else is_held_by i v.device.holder) s.words w d;
             transfer =
                 v.transfer;
             awaited = option_map (λ c. (c, d)) v.awaited;
@@ -118,7 +118,7 @@ abbrev pub word_call : ℕ → (ℕ → Make) → (ℕ → AbstractDevice) → A
     → Option ℕ → FullEffect
 word_call i make table s x q w None = reply_alone (unknown_word_reply q) table s
 word_call i make table s x q w (Some d) =
-    let v = serve_word (eqb w s.framed) i (make d) (table d) s.transfer x q in
+    let v = serve_word (w == s.framed) i (make d) (table d) s.transfer x q in
     record {
       told = v.told;
       table = with_entry table d v.device;
@@ -164,13 +164,13 @@ WordsAreFour =
 abbrev pub OthersFramesStay : Type 0
 OthersFramesStay =
     (i : ℕ) (make : ℕ → Make) (table : ℕ → AbstractDevice) (s : AbstractSession) (x : ℕ → Environment)
-    (call : AddressedRequest) → (call.request ≡ Cancel) ⊎ (call.request ≡ Close) → eqb call.word s.framed ≡ false →
+    (call : AddressedRequest) → (call.request ≡ Cancel) ⊎ (call.request ≡ Close) → (call.word == s.framed) ≡ false →
     ((answer_call i make table s x None call).session.transfer ≡ s.transfer)
     × (s.transfer ≢ Quiet → (answer_call i make table s x None call).session.framed ≡ s.framed)
 
 -- A SESSION THAT OPENS ONE DEVICE
 abbrev pub only_word : Bool → ℕ → ℕ → Option ℕ
-only_word held d w = cond (eqb w 0) (cond held (Some d) None) None
+only_word held d w = if w == 0 then (if held then Some d else None) else None
 
 -- it holds the device at place d as word 0, or none
 abbrev pub one_word_session : Bool → ℕ → TransferState → Option Challenge → AbstractSession

@@ -1,6 +1,6 @@
 -- What happens, as far as messages tell. All that chance decides is in a step's arguments, so that what stands after it
 -- is a function.
-use Rattle.std.specs.Prelude.{ℕ, List, [], ◌∷◌, ◌++◌, Bool, true, false, Option, Some, None, cond}
+use Rattle.std.specs.Prelude.{ℕ, List, [], ◌∷◌, ◌++◌, Bool, true, false, Option, Some, None, if◌then◌else◌}
 use Rattle.system_model.specs.AbstractMessages.{Status, GivenUp, IoError, NoMem, Eof, Cancelled, Lost, Memory}
 use Rattle.system_model.specs.AbstractMessages.{Challenge, AbstractRequest, Init, AbstractReply}
 use Rattle.system_model.specs.Devices.{Make}
@@ -136,7 +136,7 @@ job_after_frame_end p status =
     { image = false; session = with_nothing_in_flight p.session }
 
 abbrev pub loss_cause : Bool → Cause
-loss_cause memory = cond memory LinkOutOfMemory LinkLost
+loss_cause memory = if memory then LinkOutOfMemory else LinkLost
 
 abbrev pub session_after_loss : SessionView → Cause → SessionView
 session_after_loss b cause = record b { flight = []; ending = None; transfer = Quiet; met = cause ∷ b.met }
@@ -153,7 +153,7 @@ without_image b cause = record b { flight = []; ending = None; transfer = left_b
 
 -- the session is over: for lack of memory, or for a reply past the limits of the wire, which explains no ending
 abbrev pub break_causes : Bool → List Cause
-break_causes memory = cond memory LinkOutOfMemory WasUnsaid ∷ []
+break_causes memory = (if memory then LinkOutOfMemory else WasUnsaid) ∷ []
 
 abbrev pub without_session : Bool → SessionView → SessionView
 without_session memory b = record b { transfer = Quiet; met = break_causes memory ++ b.met }
@@ -221,7 +221,7 @@ device_after_answer i k listed p dev challenge fault (q ∷ rest) = (served_by i
 abbrev pub image_off : ℕ → TransferState → AbstractDevice → AbstractDevice
 image_off i Quiet dev = dev
 image_off i Waiting dev = dev
-image_off i Streaming dev = cond (is_held_by i dev.holder) (put_down dev) dev
+image_off i Streaming dev = if is_held_by i dev.holder then put_down dev else dev
 image_off i Ending dev = dev
 
 abbrev pub device_after : ℕ → Make → List ℕ → JobState → AbstractDevice → Action → AbstractDevice

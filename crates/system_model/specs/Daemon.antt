@@ -1,5 +1,5 @@
 -- The daemon's rules, for a session that opens one device: what it answers, and what that does.
-use Rattle.std.specs.Prelude.{ℕ, List, [], ◌∷◌, Bool, true, false, Option, Some, None, eqb}
+use Rattle.std.specs.Prelude.{ℕ, List, [], ◌∷◌, Bool, true, false, Option, Some, None, ◌==◌}
 use Rattle.option_desc.specs.declared.value.Value.{Value}
 use Rattle.sane_fixed.specs.declared.params.Params.{Params}
 use Rattle.page_picture.specs.Shows.{Frame}
@@ -95,7 +95,7 @@ held_cause false = WasHeld ∷ []
 abbrev pub hand_out_device : ℕ → Make → AbstractDevice → TransferState → Option ℕ → AnswerEffect
 hand_out_device i k dev c None =
     reply_effect Opened (record dev { holder = Some i; options = default_options k; phase = Resting }) c
-hand_out_device i k dev c (Some j) = record (reply_effect (Refused Busy) dev c) { causes = held_cause (eqb j i) }
+hand_out_device i k dev c (Some j) = record (reply_effect (Refused Busy) dev c) { causes = held_cause (j == i) }
 
 abbrev pub take_listed : ℕ → Make → AbstractDevice → TransferState → Bool → AnswerEffect
 take_listed i k dev c false = record (reply_effect (Refused Inval) dev c) { causes = WasUnlisted ∷ [] }

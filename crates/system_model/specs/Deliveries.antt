@@ -1,6 +1,6 @@
 -- Deliveries: messages come in pieces of bytes, and what a piece shows are the marks of the requests that it makes
 -- whole.
-use Rattle.std.specs.Prelude.{ℕ, ◌+◌, ◌-◌, ◌≡◌, suc, cond, leb, List, [], ◌∷◌, ◌++◌, Option, take, drop}
+use Rattle.std.specs.Prelude.{ℕ, ◌+◌, ◌-◌, ◌≡◌, suc, List, [], ◌∷◌, ◌++◌, Option, take, drop, if◌then◌else◌, nat_le}
 use Rattle.system_model.specs.AbstractMessages.{Challenge}
 use Rattle.system_model.specs.Daemon.{FailureCounts}
 use Rattle.system_model.specs.SystemStates.{SystemState}
@@ -17,13 +17,13 @@ pub record AbstractLink : Type 0 where
 -- how many messages are whole once so many bytes have come
 abbrev pub whole_messages : List ℕ → ℕ → ℕ
 whole_messages [] came = 0
-whole_messages (size ∷ sizes) came = cond (leb size came) (suc (whole_messages sizes (came - size))) 0
+whole_messages (size ∷ sizes) came = if nat_le size came then suc (whole_messages sizes (came - size)) else 0
 
 -- the link without the messages that are whole
 abbrev pub rest_of_link : List ℕ → ℕ → AbstractLink
 rest_of_link [] came = record { sizes = []; came = came }
 rest_of_link (size ∷ sizes) came =
-    cond (leb size came) (rest_of_link sizes (came - size)) (record { sizes = size ∷ sizes; came = came })
+    if nat_le size came then rest_of_link sizes (came - size) else record { sizes = size ∷ sizes; came = came }
 
 -- n bytes more are delivered: so many messages become whole, and this link is left
 abbrev pub messages_completed : AbstractLink → ℕ → ℕ

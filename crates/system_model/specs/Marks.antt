@@ -1,5 +1,5 @@
 -- What a user can see happen to a device, and when it may.
-use Rattle.std.specs.Prelude.{ℕ, ◌≡◌, List, [], ◌∷◌, ◌++◌, Bool, true, false, Option, Some, None, cond}
+use Rattle.std.specs.Prelude.{ℕ, ◌≡◌, List, [], ◌∷◌, ◌++◌, Bool, true, false, Option, Some, None, if◌then◌else◌}
 use Rattle.page_picture.specs.Shows.{Frame}
 use Rattle.system_model.specs.AbstractMessages.{same_text, Challenge, AbstractRequest, Open, Authorize, Start, Cancel}
 use Rattle.system_model.specs.AbstractMessages.{Close, Exit}
@@ -56,7 +56,7 @@ MayMark s (Removed d) = (s.listed ≡ true) × (s.holder ≡ None)
 abbrev pub view_after_mark : DeviceView → Mark → DeviceView
 view_after_mark s (Took i d) = record s { holder = Some i }
 view_after_mark s (Started i d begin) =
-    record s { busy = true; tray = cond (is_feeder s.model) (without_first s.tray) s.tray }
+    record s { busy = true; tray = if is_feeder s.model then without_first s.tray else s.tray }
 view_after_mark s (Rested i d) = record s { busy = false }
 view_after_mark s (Returned i d) = record s { holder = None }
 view_after_mark s (Loaded d page) = record s { tray = laid_in s.model page s.tray }

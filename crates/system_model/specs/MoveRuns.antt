@@ -1,5 +1,5 @@
 -- Runs: moves of jobs one after another, and what all steps of a history show of a device.
-use Rattle.std.specs.Prelude.{ℕ, zero, ◌+◌, ◌<◌, ◌≤◌, suc, List, [], ◌∷◌, ◌++◌, cond, eqb, length}
+use Rattle.std.specs.Prelude.{ℕ, zero, ◌+◌, ◌<◌, ◌≤◌, suc, List, [], ◌∷◌, ◌++◌, length, if◌then◌else◌, ◌==◌}
 use Rattle.system_model.specs.SystemStates.{SystemState}
 use Rattle.system_model.specs.Transitions.{Transition, By, Loads, Unplugs, IsUnderWay, IsHistory, after_transition}
 use Rattle.system_model.specs.Transitions.{after_all}
@@ -46,7 +46,7 @@ RunsEnd = (n : ℕ) (s : SystemState) → Invariant s → (xs : List Transition)
 
 -- what a step shows of device d, and what all steps show of it
 abbrev pub marks_at : ℕ → SystemState → Transition → List Mark
-marks_at d s x = cond (eqb d (touched_device s x)) (marks s x) []
+marks_at d s x = if d == touched_device s x then marks s x else []
 
 -- **marks of a history (`all_marks`), of a delivery (`delivery_marks`)**: those of its steps, one after another; those
 -- of the requests that become whole when so many more bytes have come.

@@ -1,5 +1,5 @@
 -- What stands: plain data that contracts alone see.
-use Rattle.std.specs.Prelude.{ℕ, List, [], ◌∷◌, Bool, false, Option, None, eqb, cond}
+use Rattle.std.specs.Prelude.{ℕ, List, [], ◌∷◌, Bool, false, Option, None, if◌then◌else◌, ◌==◌}
 use Rattle.system_model.specs.AbstractMessages.{Status, Challenge, AbstractRequest, AbstractReply}
 use Rattle.system_model.specs.Devices.{Make}
 use Rattle.system_model.specs.Client.{AbstractJob, ClientView, initial_client}
@@ -50,7 +50,7 @@ pub record SystemState : Type 0 where
 
 -- f, but x at i
 abbrev pub with_entry : {X : Type 0} → (ℕ → X) → ℕ → X → ℕ → X
-with_entry f i x j = cond (eqb j i) x (f j)
+with_entry f i x j = if j == i then x else f j
 
 abbrev pub initial_job : AbstractJob → JobState
 initial_job job =
@@ -89,7 +89,7 @@ device_for s i = s.device (wanted_place s i)
 -- the devices that are listed, in their order
 abbrev pub listed_of : (ℕ → AbstractDevice) → List ℕ → List ℕ
 listed_of device [] = []
-listed_of device (d ∷ places) = cond (device d).listed (d ∷ listed_of device places) (listed_of device places)
+listed_of device (d ∷ places) = if (device d).listed then d ∷ listed_of device places else listed_of device places
 
 abbrev pub listed_devices : SystemState → List ℕ
 listed_devices s = listed_of s.device s.places

@@ -1,6 +1,7 @@
 -- What a delivery of requests to the daemon does: each that is whole with it is answered, and the session goes on or is
 -- over.
-use Rattle.std.specs.Prelude.{ℕ, ◌≡◌, ◌++◌, Bool, true, false, cond, Some, List, [], ◌∷◌, length, map, slice_get}
+use Rattle.std.specs.Prelude.{ℕ, ◌≡◌, ◌++◌, Bool, true, false, Some, List, [], ◌∷◌, length, map, slice_get}
+use Rattle.std.specs.Prelude.{if◌then◌else◌}
 use Rattle.wire_format.specs.Limit.{NeedsMore}
 use Rattle.wire_message.specs.Message.{message_limit, request as request_format}
 use Rattle.system_model.specs.AbstractMessages.{AbstractRequest}
@@ -76,7 +77,7 @@ IsCutShort false users infos job = HasUnsaidReply users infos job
 
 -- the replies that wait behind it; where memory ran out they are dropped
 abbrev pub replies_kept : Bool → List ℕ → List ℕ
-replies_kept memory replies = cond memory [] replies
+replies_kept memory replies = if memory then [] else replies
 
 -- **a delivery to the daemon (`AnswersSome`, `Completes`, `AnswersEach`, `IsCutShort`, `HasUnsaidReply`,
 -- `HasAllowedOptions`)**: the requests that are whole with the piece, the first of those that were sent, are answered

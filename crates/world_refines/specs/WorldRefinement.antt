@@ -1,6 +1,6 @@
 -- What a world stands for.
-use Rattle.std.specs.Prelude.{ℕ, ◌≡◌, ◌<◌, ◌≤◌, ◌⊎◌, ◌++◌, suc, Bool, true, false, not, is_some, cond, Option, Some}
-use Rattle.std.specs.Prelude.{None, IsSome, option_map, List, [], ◌∷◌, length, map, slice_get}
+use Rattle.std.specs.Prelude.{ℕ, ◌≡◌, ◌<◌, ◌≤◌, ◌⊎◌, ◌++◌, suc, Bool, true, false, not, is_some, Option, Some}
+use Rattle.std.specs.Prelude.{if◌then◌else◌, None, IsSome, option_map, List, [], ◌∷◌, length, map, slice_get}
 use Rattle.std.specs.List.{AllByRecursion}
 use Rattle.netpbm.specs.Picture.{Picture}
 use Rattle.netpbm.specs.Pnm.{Denotes}
@@ -60,7 +60,7 @@ client_at_greeting (Ended status why) m = m
 
 -- the last page of a batch that is done is laid by as the others are
 abbrev pub is_laid : Task → Outcome → JoinHistory → Bool
-is_laid task outcome past = cond (is_done outcome) (cond (is_batch task) (is_joined past.ended) false) false
+is_laid task outcome past = if is_done outcome then (if is_batch task then is_joined past.ended else false) else false
 
 abbrev pub KeepsFiles : Bool → JoinHistory → List JoinHistory → Endpoint → Type 0
 KeepsFiles false past pages endpoint = HasFiles past.given pages endpoint
