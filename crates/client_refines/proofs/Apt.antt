@@ -16,7 +16,8 @@ use Rattle.client_replies.specs.declared.progress.Next.{Next}
 use Rattle.client_replies.specs.declared.progress.Next.TheVariants.{Wait, Finish, Stop}
 use Rattle.client_replies.specs.GivenValues.{given_like, wire_value_in}
 use Rattle.client_replies.proofs.TurnRows.{BeforeStart, AtOpening, AtReopening, AtDescribing, AtPutting, AtGetting, TurnRow, Stops, Greets, Challenges, Admits, Reloads, Puts, Gets, ShowsAll, SetsAll, Starts, turn_row, EndRow, NextFrame, end_row}
-use Rattle.client_replies.specs.ReplyTurns.{FrameEnd, after_greeting, of_kind, status_of as status_at, frame_ended_by, frame_ended}
+use Rattle.client_replies.specs.ReplyTurns.{FrameEnd, after_greeting, of_kind, frame_ended_by, frame_ended}
+use Rattle.sane_fixed.specs.Status.{status_of}
 use Rattle.client_replies.specs.ProtocolStates.{Answer, heard_at}
 use Rattle.system_model.specs.AbstractMessages as words
 use Rattle.md5_auth.specs.ChallengeReading.{challenge_of}
@@ -147,7 +148,7 @@ pub end_later : (target : JobTarget) (notes : Notes) (task : Task) (file : ℕ) 
 end_later target notes task file past status = end_row_later target notes task file past _ (end_row task file past status)
 
 pub end_is_later : (target : JobTarget) (notes : Notes) (past : JoinHistory) (n : ℕ) → IsLater target (frame_ended target.task notes.file past n).next notes
-end_is_later target notes past n = end_later target notes target.task notes.file past (status_at n)
+end_is_later target notes past n = end_later target notes target.task notes.file past (status_of n)
 
 wait_later : (target : JobTarget) (progress : Progress) (notes : Notes) → IsLater target (Wait progress) notes → IsApt target progress notes
 wait_later target stages.Reopening notes a = absurd a

@@ -22,7 +22,8 @@ use Rattle.scan_job.specs.declared.outcome.Why.TheVariants as whys
 use Rattle.client_replies.specs.declared.progress.JobTarget.{JobTarget}
 use Rattle.client_replies.specs.declared.progress.Progress.{Progress}
 use Rattle.client_replies.specs.declared.progress.Progress.TheVariants as stages
-use Rattle.client_replies.specs.ReplyTurns.{stop_unjoined, frame_ended, turn, stop_malformed, FrameEnd, frame_ended_by, status_of as status_at}
+use Rattle.client_replies.specs.ReplyTurns.{stop_unjoined, frame_ended, turn, stop_malformed, FrameEnd, frame_ended_by}
+use Rattle.sane_fixed.specs.Status.{status_of}
 use Rattle.net_client.specs.ClientStates.{ClientState, protocol_of, ClientRepresents, sends, Stays, Turns}
 use Rattle.client_replies.specs.ProtocolStates.{ProtocolState, turns, HistoryFits, FitsAt, next_outcome, is_receiving, with_payload, next_progress, protocol_after_turn}
 use Rattle.scan_job.specs.JobSize.{HasCount}
@@ -145,7 +146,7 @@ behind_some old new None e = absurd (cc)
 behind_some old new (Some said) e = (said, refl, sym (cc (e)))
 
 -- an end record, by its status
-closes : (place : DeviceInfo → ℕ) (job : model.AbstractJob) (pages : List (List Frame)) (old new : ClientState) (past : JoinHistory) (n : ℕ) (sent : List ℕ) (m : model.ClientView) (o : Option Status) → status_at n ≡ o → job.task ≡ task_of old.target.task
+closes : (place : DeviceInfo → ℕ) (job : model.AbstractJob) (pages : List (List Frame)) (old new : ClientState) (past : JoinHistory) (n : ℕ) (sent : List ℕ) (m : model.ClientView) (o : Option Status) → status_of n ≡ o → job.task ≡ task_of old.target.task
     → HasCount old.target.task → At old past → ClientRefines place old.target job pages (protocol_of old past) m → ClientRepresents (frame_ended old.target.task old.notes.file past n).history new
     → protocol_of new (frame_ended old.target.task old.notes.file past n).history ≡ protocol_after_turn old.target.task (turn old.notes (frame_ended old.target.task old.notes.file past n).next) (frame_ended old.target.task old.notes.file past n).history
     → sends old.target old.notes.word (frame_ended old.target.task old.notes.file past n).next ≡ Some sent
@@ -156,7 +157,7 @@ closes place job pages old new past n sent m None e t count a r serves protocol 
     let outcome : new.outcome ≡ Ended statuses.IoError whys.Malformed = ap (λ (y : ProtocolState). y.outcome) protocol ∙ ap (λ (f : FrameEnd). next_outcome old.target.task old.notes f.next) is in (
       record {
         serves = serves;
-        given_is = ended_gives_by old.target.task old.notes.file past (status_at n);
+        given_is = ended_gives_by old.target.task old.notes.file past (status_of n);
         reads =
             subst (λ (y : JoinHistory). ClientRefines place old.target job pages (protocol_of new y) (client_after_stop words.IoError words.Malformed m)) (sym (ap (λ (f : FrameEnd). f.history) is))
             (ends_so place old.target job pages (protocol_of old past) new m statuses.IoError whys.Malformed words.Malformed refl a.running outcome r);
@@ -169,7 +170,7 @@ closes place job pages old new past n sent m (Some status) e t count a r serves 
     record {
       stands = record {
         serves = serves;
-        given_is = ended_gives_by old.target.task old.notes.file past (status_at n);
+        given_is = ended_gives_by old.target.task old.notes.file past (status_of n);
         reads = subst (λ (y : ProtocolState). ClientRefines place old.target job pages y (finish_in m.stage job.task m (abstract_status status))) (sym protocol) h;
       };
       spells =
@@ -190,7 +191,7 @@ ended place job pages old new past piece m t count a r g =
     let said = behind_some old.out new.out (sends old.target old.notes.word end.next) g.ends.said in
     let here : At old (with_payload past g.frame given) = record { running = a.running; port = a.port; made = a.made; progress = a.progress; fits = fits; calm = a.calm } in
     pieces.Ends given g.status end.history said.0 (record { used = g.reads.used; rest = g.reads.rest; whole = g.reads.whole; carries = g.reads.reads.carries }) said.2
-    (closes place job pages old new (with_payload past g.frame given) g.status said.0 (client_after_bytes m.stage m given) (status_at g.status) refl t count here read g.ends.serves g.ends.protocol said.1)
+    (closes place job pages old new (with_payload past g.frame given) g.status said.0 (client_after_bytes m.stage m given) (status_of g.status) refl t count here read g.ends.serves g.ends.protocol said.1)
 
 -- ---- out of memory behind so many bytes, and too many bytes
 

@@ -10,7 +10,8 @@ use Rattle.scan_job.specs.declared.job.Task.{Task}
 use Rattle.scan_job.specs.declared.outcome.Outcome.TheVariants.{Running}
 use Rattle.client_replies.specs.declared.progress.JobTarget.{JobTarget}
 use Rattle.client_replies.specs.declared.progress.Progress.TheVariants as stages
-use Rattle.client_replies.specs.ReplyTurns.{turn, stop_unjoined, frame_ended, status_of as status_at}
+use Rattle.client_replies.specs.ReplyTurns.{turn, stop_unjoined, frame_ended}
+use Rattle.sane_fixed.specs.Status.{status_of}
 use Rattle.client_replies.specs.ProtocolStates.{ProtocolState, HistoryFits, protocol_after_turn, protocol_of_next_page}
 use Rattle.scan_job.specs.JobSize.{HasCount}
 use Rattle.system_model.specs.Client as model
@@ -54,7 +55,7 @@ abbrev pub FramesEndAlike : Type 0
 FramesEndAlike =
     (place : DeviceInfo → ℕ) (target : JobTarget) (job : model.AbstractJob) (pages : List (List Frame))
     (protocol : ProtocolState) (m : model.ClientView) (n : ℕ) (status : Status)
-    → job.task ≡ task_of target.task → HasCount target.task → status_at n ≡ Some status → IsImagingProtocol protocol
+    → job.task ≡ task_of target.task → HasCount target.task → status_of n ≡ Some status → IsImagingProtocol protocol
     → protocol.outcome ≡ Running → HistoryFits target.task Running protocol.progress protocol.history
     → ClientRefines place target job pages protocol m
     → ClientRefines place target job pages (protocol_after_end target.task protocol n)

@@ -14,7 +14,7 @@ use Rattle.scan_job.specs.JobSize.{HasCount}
 use Rattle.client_replies.specs.declared.progress.JobTarget.{JobTarget}
 use Rattle.client_replies.specs.declared.progress.Progress.{Progress}
 use Rattle.client_replies.specs.declared.progress.Progress.TheVariants as stages
-use Rattle.client_replies.specs.ReplyTurns.{status_of as status_at}
+use Rattle.sane_fixed.specs.Status.{status_of}
 use Rattle.client_replies.specs.ProtocolStates.{ProtocolState, after_reply, is_running, is_receiving, turns}
 use Rattle.net_client.specs.Sending.{requests_text}
 use Rattle.data_records.specs.declared.records.RecordPhase.{RecordPhase}
@@ -166,7 +166,7 @@ pub data ReceivesPiece (place : DeviceInfo → ℕ) (job : model.AbstractJob) (p
   Ends : (given : List ℕ) (n : ℕ) (past : JoinHistory) (sent : List ℕ)
       → RecordsBring old.phase (phases.Ended n) piece given → new.out ≡ old.out ++ sent
       → EndByteRefines place old.target job pages was.given past new (client_after_bytes m.stage m given) sent
-      (status_at n) → ReceivesPiece place job pages m old was piece new
+      (status_of n) → ReceivesPiece place job pages m old was piece new
   Starves : (given more : List ℕ) (phase : RecordPhase) (past : JoinHistory)
       → RecordsBring old.phase phase piece (given ++ more) → new.out ≡ old.out
       → new.outcome ≡ Ended statuses.NoMem whys.Memory

@@ -1,4 +1,3 @@
 pub mod Begins
 pub mod TurnRows
 pub mod Fitting
-pub mod StatusNumbers

@@ -4,6 +4,7 @@ use Rattle.std.specs.Prelude.{is_none, List, [], ◌∷◌, ◌++◌, map, posit
 use Rattle.std.specs.Str.{bytes_eq}
 use Rattle.sane_fixed.specs.declared.status.Status.{Status}
 use Rattle.sane_fixed.specs.declared.status.Status.TheVariants as statuses
+use Rattle.sane_fixed.specs.Status.{status_of}
 use Rattle.sane_fixed.specs.declared.kind.Kind.{Kind}
 use Rattle.sane_fixed.specs.declared.kind.Kind.TheVariants as kinds
 use Rattle.sane_fixed.specs.declared.info.Info.{Info}
@@ -19,7 +20,6 @@ use Rattle.frame_join.specs.FrameHistory.{JoinHistory, after_end, answer_of_end 
 use Rattle.wire_message.specs.declared.message.Reply.{Reply}
 use Rattle.wire_message.specs.declared.message.Reply.TheVariants as replies
 use Rattle.wire_message.specs.declared.message.WireValue.{WireValue}
-use Rattle.wire_message.specs.Message.{status_at}
 use Rattle.scan_job.specs.declared.job.Task.{Task}
 use Rattle.scan_job.specs.declared.job.Task.TheVariants as tasks
 use Rattle.scan_job.specs.declared.outcome.Why.TheVariants as whys
@@ -274,10 +274,6 @@ turn_after_reply target stages.Turning notes reply = turn notes stop_malformed
 turn_after_reply target stages.Over notes reply = turn notes stop_malformed
 
 -- ---- the end of a frame
-
--- the status of a number
-abbrev pub status_of : ℕ → Option Status
-status_of n = if nat_lt n 12 then Some (status_at n) else None
 
 -- the picture of a page is whole
 abbrev pub page_whole : Task → ℕ → Next

@@ -1,7 +1,7 @@
 ghost use Rattle.std.specs.Prelude.{◌≡◌};
 ghost use Rattle.frame_join.specs.FrameHistory.{JoinHistory};
 ghost use Rattle.frame_join.specs.JoinStates.{Represents};
-ghost use Rattle.client_replies.specs.ReplyTurns.{status_of, page_whole, frame_joined, frame_ended};
+ghost use Rattle.client_replies.specs.ReplyTurns.{page_whole, frame_joined, frame_ended};
 
 use crate::hearing::{stop_by_answer, stop_malformed, stop_unjoined};
 use crate::progress::{Next, Progress};
@@ -9,13 +9,6 @@ use frame_join::{FrameJoin, JoinFault};
 use sane_fixed::Status;
 use scan_job::{ItemList, Task};
 use std::alloc::Global;
-
-/// The status of a number.
-fn status_of(code: u8) -> Option<Status>
-    ensures { result ≡ status_of code }
-{
-    Status::from_code(u32::from(code))
-}
 
 /// The picture of a page is whole.
 fn page_whole(alloc: Global, task: Task, file: u32) -> Next
@@ -51,7 +44,7 @@ pub fn frame_ended(alloc: Global, join: &mut FrameJoin, task: Task, file: u32, s
     ensures past { (past : JoinHistory) → Represents past join.old
         → Represents (frame_ended task file past status).history join.new }
 {
-    match status_of(status) {
+    match Status::from_code(u32::from(status)) {
         None | Some(Status::Good) => stop_malformed(),
         Some(Status::Eof) => {
             let joined = join.end();

@@ -13,7 +13,8 @@ use Rattle.client_replies.specs.declared.progress.Notes.{Notes}
 use Rattle.client_replies.specs.declared.progress.Next.{Next}
 use Rattle.client_replies.specs.declared.progress.Next.TheVariants.{Wait, Finish, Stop}
 use Rattle.client_replies.specs.declared.progress.Progress.{Progress}
-use Rattle.client_replies.specs.ReplyTurns.{stop_unjoined, status_of}
+use Rattle.client_replies.specs.ReplyTurns.{stop_unjoined}
+use Rattle.sane_fixed.specs.Status.{status_of}
 use Rattle.client_replies.specs.ProtocolStates.{ProtocolState, is_receiving, is_running, next_notes, next_outcome, next_progress, with_payload}
 use Rattle.client_replies.proofs.Fitting.{may_end}
 use Rattle.data_records.specs.declared.records.RecordPhase.TheVariants as phases

@@ -27,7 +27,8 @@ use Rattle.client_replies.specs.declared.progress.Notes.{Notes}
 use Rattle.client_replies.specs.declared.progress.Next.{Next}
 use Rattle.client_replies.specs.declared.progress.Next.TheVariants.{Wait, Stop}
 use Rattle.client_replies.specs.Asking.{request_for}
-use Rattle.client_replies.specs.ReplyTurns.{turn, stop_unjoined, frame_ended_by, frame_ended, status_of, FrameEnd}
+use Rattle.client_replies.specs.ReplyTurns.{turn, stop_unjoined, frame_ended_by, frame_ended, FrameEnd}
+use Rattle.sane_fixed.specs.Status.{status_of}
 use Rattle.net_client.specs.Sending.{optional_request_text}
 use Rattle.net_client.specs.ClientStates.{TurnsPage, TakesPage, Stays, Turns, ClientState, ClientRepresents, after_client_end}
 use Rattle.client_replies.specs.ProtocolStates.{is_batch, is_ended, is_turning, turns, is_running, scans, IsWithinFrame, FitsAt, HistoryFits, FitsDone, NextFits, next_outcome, is_receiving, with_payload}

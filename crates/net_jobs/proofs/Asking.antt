@@ -23,7 +23,8 @@ use Rattle.client_replies.specs.declared.progress.Notes.{Notes}
 use Rattle.client_replies.specs.declared.progress.Next.{Next}
 use Rattle.client_replies.specs.declared.progress.Next.TheVariants.{Wait, Finish, Stop}
 use Rattle.client_replies.proofs.TurnRows.{BeforeStart, AtOpening, AtReopening, AtDescribing, AtPutting, AtGetting, TurnRow, Greets, Challenges, Admits, Allows, Reloads, Puts, Gets, Starts, Begins, Images, turn_row, EndRow, NextFrame, NextPage, end_row}
-use Rattle.client_replies.specs.ReplyTurns.{FrameEnd, after_greeting, status_of}
+use Rattle.client_replies.specs.ReplyTurns.{FrameEnd, after_greeting}
+use Rattle.sane_fixed.specs.Status.{status_of}
 use Rattle.client_replies.specs.ProtocolStates.{Answer, is_running, is_receiving, wanted_port, next_outcome, target_of, next_progress, turns, answer_to, progress_connected}
 use Rattle.net_client.specs.ReplyPieces.{IsReply}
 use Rattle.net_jobs.specs.JobTraces.{TraceEvent, Replied, Opened, Came, Finished, Gave, Turned, JobTrace, EventsLead, EventLeads, initial_trace, frame_end_at, ports_named, port_named}

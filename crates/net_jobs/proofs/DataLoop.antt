@@ -26,7 +26,8 @@ use Rattle.client_replies.specs.declared.progress.Progress.{Progress}
 use Rattle.client_replies.specs.declared.progress.Progress.TheVariants as stages
 use Rattle.client_replies.specs.declared.progress.Notes.{Notes}
 use Rattle.client_replies.specs.declared.progress.Next.TheVariants.{Wait, Finish}
-use Rattle.client_replies.specs.ReplyTurns.{stop_unjoined, page_whole, frame_joined, frame_ended_by, status_of}
+use Rattle.client_replies.specs.ReplyTurns.{stop_unjoined, page_whole, frame_joined, frame_ended_by}
+use Rattle.sane_fixed.specs.Status.{status_of}
 use Rattle.client_replies.specs.ProtocolStates.{ProtocolState, target_of, is_running, is_receiving, is_lost_by, next_outcome, next_progress, with_payload, wanted_port, progress_connected, FitsAt}
 use Rattle.client_replies.proofs.Fitting.{may_end}
 use Rattle.net_client.specs.ClientStates.{ClientState, protocol_of, ClientRepresents, after_client_end, phase_connected}

@@ -18,7 +18,8 @@ use Rattle.client_replies.specs.declared.progress.Notes.{Notes}
 use Rattle.client_replies.specs.declared.progress.Next.{Next}
 use Rattle.client_replies.specs.declared.progress.Next.TheVariants.{Wait, Finish, Stop}
 use Rattle.client_replies.proofs.TurnRows.{MayShow, TurnRow, Greets, Lists, Gets, ShowsAll, SetsAll, RunsOut, turn_row, turn_calm, more_pages, EndRow, NextFrame, NextPage, LastPage, end_row}
-use Rattle.client_replies.specs.ReplyTurns.{FrameEnd, after_greeting, is_all, status_of}
+use Rattle.client_replies.specs.ReplyTurns.{FrameEnd, after_greeting, is_all}
+use Rattle.sane_fixed.specs.Status.{status_of}
 use Rattle.client_replies.specs.ProtocolStates.{Answer, is_turning, scans, is_running, lists, shows, next_outcome, target_of, next_notes, next_progress, answer_to, after_reply, progress_connected, turns, next_file}
 use Rattle.net_jobs.specs.JobTraces.{TraceEvent, Replied, Opened, Came, Finished, Gave, Turned, JobTrace, EventsLead, EventLeads, initial_trace, frame_end_at}
 

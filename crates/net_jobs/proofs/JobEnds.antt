@@ -29,7 +29,8 @@ use Rattle.client_replies.specs.declared.progress.Progress.TheVariants as stages
 use Rattle.client_replies.specs.declared.progress.Notes.{Notes}
 use Rattle.scan_job.specs.declared.stop.Stop.{Stop}
 use Rattle.client_replies.proofs.Fitting.{may_end}
-use Rattle.client_replies.specs.ReplyTurns.{stop_unjoined, frame_ended_by, status_of}
+use Rattle.client_replies.specs.ReplyTurns.{stop_unjoined, frame_ended_by}
+use Rattle.sane_fixed.specs.Status.{status_of}
 use Rattle.client_replies.specs.ProtocolStates.{ProtocolState, target_of, is_running, is_ended, is_batch, scans, turns, next_outcome, HistoryFits, FitsEnded}
 use Rattle.net_client.specs.ClientStates.{ClientState, ClientRepresents, IsNewClient, after_client_end}
 use Rattle.net_jobs.specs.JobTraces.{TraceEvent, Replied, Opened, Came, Finished, Gave, Turned, JobTrace, BytesMatchTrace, EventsLead, EndWell}

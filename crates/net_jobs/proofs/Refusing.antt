@@ -18,7 +18,8 @@ use Rattle.client_replies.specs.declared.progress.Notes.{Notes}
 use Rattle.client_replies.specs.declared.progress.Next.{Next}
 use Rattle.client_replies.specs.declared.progress.Next.TheVariants.{Wait, Finish, Stop}
 use Rattle.client_replies.proofs.TurnRows.{IsFailing, TurnRow, Stops, Misfits, turn_row, EndRow, EndStops, EndMisfits, end_row}
-use Rattle.client_replies.specs.ReplyTurns.{FrameEnd, status_of}
+use Rattle.client_replies.specs.ReplyTurns.{FrameEnd}
+use Rattle.sane_fixed.specs.Status.{status_of}
 use Rattle.client_replies.specs.ProtocolStates.{Answer, next_outcome, target_of, answer_to}
 use Rattle.net_jobs.specs.JobTraces.{TraceEvent, Replied, Opened, Came, Finished, Gave, Turned, JobTrace, EventsLead, EventLeads, initial_trace, frame_end_at}
 

@@ -11,7 +11,8 @@ use Rattle.scan_job.specs.declared.job.Job.{Job}
 use Rattle.scan_job.specs.declared.outcome.Outcome.TheVariants.{Running}
 use Rattle.client_replies.specs.declared.progress.JobTarget.{JobTarget}
 use Rattle.client_replies.specs.declared.progress.Progress.TheVariants as stages
-use Rattle.client_replies.specs.ReplyTurns.{turn, frame_ended, FrameEnd, status_of}
+use Rattle.client_replies.specs.ReplyTurns.{turn, frame_ended, FrameEnd}
+use Rattle.sane_fixed.specs.Status.{status_of}
 use Rattle.client_replies.specs.ProtocolStates.{ProtocolState, with_payload, protocol_after_turn, after_reply}
 use Rattle.client_replies.specs.ProtocolStates.{progress_connected, target_of, is_receiving, is_running, turns}
 use Rattle.client_replies.specs.ProtocolStates.{protocol_of_next_page, wanted_port}

@@ -18,7 +18,7 @@ pub enum Status {
 impl Status {
     ghost use Rattle.std.specs.Prelude.{◌≡◌, ◌≢◌, IfSome, IfNone};
     ghost use Rattle.sane_fixed.specs.declared.status.Status.{Status as AnyStatus};
-    ghost use Rattle.sane_fixed.specs.Status.{status_code, status_name};
+    ghost use Rattle.sane_fixed.specs.Status.{status_code, status_name, status_of};
 
     /// The standard's number, 0 to 11.
     pub fn code(self) -> u32
@@ -32,6 +32,8 @@ impl Status {
         /// Statuses, kinds, units and frame formats have SANE's numbers, both ways; statuses have SANE's names.
         /// Carried by: `Status::from_code`, `Status::name`, `Kind::from_code`, `Unit::from_code`,
         /// `FrameFormat::from_code`
+        ensures is { result ≡ status_of code }
+        // So it is the one that has that number, and none where none has it.
         ensures found { IfSome result (λ status. status_code status ≡ code) }
         ensures none { IfNone result ((status : AnyStatus) → status_code status ≢ code) }
     {

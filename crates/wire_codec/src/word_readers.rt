@@ -4,7 +4,7 @@ ghost use Rattle.std.specs.Prelude.{◌≡◌, ◌≤◌, IfOk};
 ghost use Rattle.wire_format.specs.Format.{Gives};
 ghost use Rattle.wire_format.specs.WordKinds.{word_of_kind};
 ghost use Rattle.wire_message.specs.Kinds.{length_from, words_size, place, at_least, order as order_kind};
-ghost use Rattle.wire_message.specs.Message.{from_to, word, up_to, signed_word, is_set, status_at, status as status_format, kind_at, unit_at, frame_at, action_at, lines_at, procedure_at};
+ghost use Rattle.wire_message.specs.Message.{from_to, word, up_to, signed_word, is_set, status as status_format, kind_at, unit_at, frame_at, action_at, lines_at, procedure_at};
 
 use sane_fixed::{ByteOrder, FrameFormat, Kind, Status, Unit};
 use wire_format::{Fault, ReadError, ReadStop, Word, part_stops, split_word, word_between};
@@ -140,31 +140,15 @@ pub(crate) fn order(bytes: &[u8]) -> Result<(ByteOrder, &[u8]), ReadError>
     }
 }
 
-fn status_at(n: u32) -> Status
-    ensures { result ≡ status_at n }
-{
-    match n {
-        0 => Status::Good,
-        1 => Status::Unsupported,
-        2 => Status::Cancelled,
-        3 => Status::DeviceBusy,
-        4 => Status::Inval,
-        5 => Status::Eof,
-        6 => Status::Jammed,
-        7 => Status::NoDocs,
-        8 => Status::CoverOpen,
-        9 => Status::IoError,
-        10 => Status::NoMem,
-        _ => Status::AccessDenied,
-    }
-}
-
 /// A status.
 pub(crate) fn status(bytes: &[u8]) -> Result<(Status, &[u8]), ReadError>
     ensures { Gives (λ x. (x.0, x.1.now)) result (status_format.read bytes.now) }
 {
     let (n, rest) = from_to(bytes, 0, 11)?;
-    Ok((status_at(n), rest))
+    let Some(status) = Status::from_code(n) else {
+        unreachable!()
+    };
+    Ok((status, rest))
 }
 
 pub(crate) fn kind_at(n: u32) -> Kind

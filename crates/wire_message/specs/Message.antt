@@ -6,7 +6,7 @@ use Rattle.wire_format.specs.declared.fault.Fault.TheVariants.{BadCode, BadValue
 use Rattle.wire_format.specs.Format.{Format, pure_format, fail_format, after, map_format, places, byte_between, run}
 use Rattle.wire_format.specs.WordKinds.{word_of_kind, between}
 use Rattle.sane_fixed.specs.declared.status.Status.{Status}
-use Rattle.sane_fixed.specs.declared.status.Status.TheVariants as statuses
+use Rattle.sane_fixed.specs.Status.{status_at}
 use Rattle.sane_fixed.specs.declared.kind.Kind.{Kind}
 use Rattle.sane_fixed.specs.declared.kind.Kind.TheVariants as kinds
 use Rattle.sane_fixed.specs.declared.unit.Unit.{Unit as Measure}
@@ -56,21 +56,6 @@ is_set (suc n) = true
 
 abbrev pub flag : Format Bool
 flag = map_format is_set word
-
-abbrev pub status_at : ℕ → Status
-status_at n =
-    if n == 0 then statuses.Good
-    else if n == 1 then statuses.Unsupported
-    else if n == 2 then statuses.Cancelled
-    else if n == 3 then statuses.DeviceBusy
-    else if n == 4 then statuses.Inval
-    else if n == 5 then statuses.Eof
-    else if n == 6 then statuses.Jammed
-    else if n == 7 then statuses.NoDocs
-    else if n == 8 then statuses.CoverOpen
-    else if n == 9 then statuses.IoError
-    else if n == 10 then statuses.NoMem
-    else statuses.AccessDenied
 
 abbrev pub status : Format Status
 status = map_format status_at (from_to 0 11)

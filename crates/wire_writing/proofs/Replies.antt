@@ -15,13 +15,13 @@ use Rattle.sane_fixed.specs.declared.kind.Kind.{Kind}
 use Rattle.sane_fixed.specs.declared.kind.Kind.TheVariants as kinds
 use Rattle.sane_fixed.specs.declared.info.Info.{Info}
 use Rattle.wire_message.specs.declared.message.WireValue.{WireValue}
-use Rattle.sane_fixed.specs.Status.{status_code}
+use Rattle.sane_fixed.specs.Status.{status_code, status_at}
 use Rattle.sane_fixed.specs.declared.status.Status.{Status}
 use Rattle.sane_fixed.specs.declared.status.Status.TheVariants as statuses
 use Rattle.wire_message.specs.declared.message.Procedure.TheVariants as procedures
 use Rattle.wire_message.specs.declared.message.Reply.{Reply}
 use Rattle.wire_message.specs.declared.message.Reply.TheVariants as replies
-use Rattle.wire_message.specs.Message.{from_to, word, string, devices, descriptors, kind_at, value_of, params, status_at, status, reply}
+use Rattle.wire_message.specs.Message.{from_to, word, string, devices, descriptors, kind_at, value_of, params, status, reply}
 use Rattle.wire_writing.specs.RequestWriting.{write_from_to, write_any, write_resource, value_long, value_text, write_value, code_text}
 use Rattle.wire_writing.specs.ReplyWriting.{write_devices, write_descriptors, params_text, order_code, replied_procedure, write_reply}
 use Rattle.wire_writing.proofs.Spelled.{value-writes}

@@ -2,11 +2,10 @@
 use Rattle.std.proofs.Common.{◌≡◌, ◌∙◌, ℕ, ◌+◌, ◌≤◌, List, [], ◌∷◌, ◌++◌, Option, Some, None, refl, sym, ap, subst, length, append-nil, append_assoc, length-append, arith}
 use Rattle.sane_fixed.specs.declared.status.Status.{Status as Code}
 use Rattle.sane_fixed.specs.declared.status.Status.TheVariants as codes
-use Rattle.sane_fixed.specs.Status.{status_code}
+use Rattle.sane_fixed.specs.Status.{status_code, status_of}
 use Rattle.data_records.specs.declared.records.RecordPhase.{RecordPhase}
 use Rattle.data_records.specs.declared.records.RecordPhase.TheVariants as phases
 use Rattle.data_records.specs.Records.{CarriesRecords, RecordsContinue, HasEnded, IsRecords, all_counted, end_record}
-use Rattle.client_replies.specs.ReplyTurns.{status_of as status_at}
 use Rattle.system_model.specs.AbstractMessages.{Status}
 use Rattle.system_model.specs.Devices.{abstract_status}
 use Rattle.world_refines.specs.Wires.{CarriesFlight}
@@ -85,7 +84,7 @@ pub at_end : (old : RecordPhase) (n : ℕ) (used more flight given : List ℕ) (
 at_end old n used more flight given closing step c = let l = left_behind old (phases.Ended n) used more flight given closing step c in at_end_by n more flight given l.rest closing l.flight_is l.carried
 
 -- the status of its number
-pub code_at : (code : Code) → status_at (status_code code) ≡ Some code
+pub code_at : (code : Code) → status_of (status_code code) ≡ Some code
 code_at codes.Good = refl
 code_at codes.Unsupported = refl
 code_at codes.Cancelled = refl

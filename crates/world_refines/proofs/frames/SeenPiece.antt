@@ -25,7 +25,7 @@ use Rattle.client_replies.specs.declared.progress.Progress.{Progress}
 use Rattle.client_replies.specs.declared.progress.Progress.TheVariants as stages
 use Rattle.client_replies.specs.ProtocolStates.{ProtocolState, target_of, is_batch, is_imaging, is_receiving, is_running, is_turning, next_outcome, next_progress, scans, turns}
 use Rattle.client_replies.specs.ProtocolStates as client
-use Rattle.client_replies.specs.ReplyTurns.{status_of as status_at}
+use Rattle.sane_fixed.specs.Status.{status_of}
 use Rattle.net_client.specs.ClientStates.{ClientRepresents, ClientState, protocol_of}
 use Rattle.net_client.specs.FramePieces.{Receives}
 use Rattle.system_model.specs.AbstractMessages as words
@@ -400,7 +400,7 @@ whole_page t i p bytes mid past m h end_ r done =
     joined_by (is_joined past.ended) past shown page.0 refl (sym (ap (λ (x : List (List Frame)). x ++ page.0 ∷ []) before) ∙ (sym page.1 ∙ r.files.all))
 
 ends : (t : Ghost) (i : ℕ) (p : Endpoint) (n : ℕ) (image : Image) (piece : List ℕ) (mid : ClientState) (given : List ℕ) (number : ℕ) (past : JoinHistory) (sent : List ℕ) → IsReader t i p image.bytes → piece ++ bytes_not_delivered n image.bytes ≡ image.bytes → IsKept p.client mid → RecordsBring p.client.phase (phases.Ended number) piece given → mid.out ≡ p.client.out ++ sent →
-    EndByteRefines (place_of_info t.infos) p.client.target (t.system.job i).session.job (map (λ (q : JoinHistory). q.ended) (t.pages i)) (t.history i).given past mid (client_after_bytes (t.system.job i).client.stage (t.system.job i).client given) sent (status_at number) → IsMid t i p piece (bytes_not_delivered n image.bytes) (handed n image p) mid
+    EndByteRefines (place_of_info t.infos) p.client.target (t.system.job i).session.job (map (λ (q : JoinHistory). q.ended) (t.pages i)) (t.history i).given past mid (client_after_bytes (t.system.job i).client.stage (t.system.job i).client given) sent (status_of number) → IsMid t i p piece (bytes_not_delivered n image.bytes) (handed n image p) mid
 ends t i p n image piece mid given number past sent h whole kept b out e =
     let me = t.system.job i in
     let rest = bytes_not_delivered n image.bytes in
@@ -420,7 +420,7 @@ ends t i p n image piece mid given number past sent h whole kept b out e =
     let is_end : IsEnd now.client me.client = record { known = ended.known; alive = ended.alive; done = ended.done } in
     let closes : EndRecordRefines place p.client.target me.session.job shown (t.history i).given past mid now.client sent =
     subst (λ (m : ClientView). EndRecordRefines place p.client.target me.session.job shown (t.history i).given past mid (finish_in m.stage me.session.job.task m status) sent) (read_is me.client h.params h.heard given h.stage short)
-    (subst (λ (o : Option Code). EndByteRefines place p.client.target me.session.job shown (t.history i).given past mid (client_after_bytes me.client.stage me.client given) sent o) (ap status_at a.number ∙ code_at a.code) e) in
+    (subst (λ (o : Option Code). EndByteRefines place p.client.target me.session.job shown (t.history i).given past mid (client_after_bytes me.client.stage me.client given) sent o) (ap status_of a.number ∙ code_at a.code) e) in
     let word : mid.notes.word ≡ 0 = kept.word ∙ h.exchanges.word h.runs in
     let spell : SpellsSentAt (target_of (t.jobs i)) 0 mid.progress sent me.session.job now.client =
     subst (λ (x : JobTarget). SpellsSentAt x 0 mid.progress sent me.session.job now.client) h.exchanges.target (subst (λ (w : ℕ). SpellsSentAt p.client.target w mid.progress sent me.session.job now.client) word closes.spells) in

@@ -10,7 +10,7 @@ use Rattle.client_replies.specs.declared.progress.Next.TheVariants.{Finish, Stop
 use Rattle.client_replies.specs.declared.progress.Notes.{Notes}
 use Rattle.client_replies.specs.declared.progress.Progress.{Progress}
 use Rattle.client_replies.specs.declared.progress.Progress.TheVariants as stages
-use Rattle.client_replies.specs.ReplyTurns.{status_of}
+use Rattle.sane_fixed.specs.Status.{status_of}
 use Rattle.client_replies.specs.ProtocolStates.{ProtocolState, after_reply, heard_at, is_receiving, next_progress}
 use Rattle.net_client.specs.FramePieces.{Receives}
 use Rattle.net_client.specs.ClientStates.{ClientState}
