@@ -95,6 +95,18 @@ IsPlain tables = (k v : ℕ) → k < 3 → v < 256 → slice_index (slice_index_
 abbrev pub IsSame : List ℕ → Type 0
 IsSame table = (v : ℕ) → v < 256 → slice_index table v ≡ v
 
+-- the three samples of each of these places lie in the row
+abbrev pub AreInRow : List ℕ → List ℕ → Type 0
+AreInRow places row = (x : ℕ) → x < length places → 3 * slice_index places x + 2 < length row
+
+-- the places lie one beside the other, from the first on
+abbrev pub IsRunFrom : ℕ → List ℕ → Type 0
+IsRunFrom first places = (x : ℕ) → x < length places → slice_index places x ≡ first + x
+
+-- from that place on two lines are the same
+abbrev pub IsSameFrom : ℕ → List ℕ → List ℕ → Type 0
+IsSameFrom n old new = (j : ℕ) → n ≤ j → slice_index new j ≡ slice_index old j
+
 -- the row holds what is seen at that height, on the page or off it
 pub record IsSeen (page : PageView) (height : ℕ) (row : List ℕ) : Type 0 where
   pub each : (c k : ℕ) → c ≤ page.width → k < 3 → slice_index row (3 * c + k) ≡ dot_at page c height k

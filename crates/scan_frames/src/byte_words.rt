@@ -1,7 +1,7 @@
 //! Samples of two bytes in a line.
 
 ghost use Rattle.std.specs.Prelude.{◌≡◌, ◌≤◌, ◌<◌, ◌+◌, ◌*◌, ℕ, IfSome, length, slice_index};
-ghost use Rattle.scan_frames.specs.Inside.{HasSample};
+ghost use Rattle.scan_frames.specs.Inside.{HasSample, AreInRow, IsRunFrom, IsSameFrom};
 
 use crate::lanes::{eights, put_word_eights};
 use crate::setup::Packing;
@@ -25,14 +25,12 @@ pub fn put_word(order: ByteOrder, line: &mut [u8], i: usize, v: u16)
 /// Puts one channel's samples of all places as they are, two bytes each.
 fn put_place_words(order: ByteOrder, k: u32, row: &[u16], places: &[u32], line: &mut [u8])
     requires channel { k < 3 }
-    requires places { (x : ℕ) → x < length places.now
-        → 3 * slice_index places.now x + 2 < length row.now }
+    requires places { AreInRow places.now row.now }
     requires room { 2 * length places.now ≤ length line.old }
     ensures here { (x : ℕ) → x < length places.now
         → HasSample Packing.Words order line.new x
         (slice_index row.now (3 * slice_index places.now x + k)) }
-    ensures behind { (j : ℕ) → 2 * length places.now ≤ j
-        → slice_index line.new j ≡ slice_index line.old j }
+    ensures behind { IsSameFrom (2 * length places.now) line.old line.new }
 {
     for (x, place) in places.iter().enumerate() {
         put_word(order, line, x, row[3 * *place as usize + k as usize]);
@@ -49,15 +47,13 @@ fn put_run_words(
     line: &mut [u8],
 )
     requires channel { k < 3 }
-    requires run { (x : ℕ) → x < length places.now → slice_index places.now x ≡ first + x }
-    requires places { (x : ℕ) → x < length places.now
-        → 3 * slice_index places.now x + 2 < length row.now }
+    requires run { IsRunFrom first places.now }
+    requires places { AreInRow places.now row.now }
     requires room { 2 * length places.now ≤ length line.old }
     ensures here { (x : ℕ) → x < length places.now
         → HasSample Packing.Words order line.new x
         (slice_index row.now (3 * slice_index places.now x + k)) }
-    ensures behind { (j : ℕ) → 2 * length places.now ≤ j
-        → slice_index line.new j ≡ slice_index line.old j }
+    ensures behind { IsSameFrom (2 * length places.now) line.old line.new }
 {
     if places.is_empty() {
         return;
@@ -80,16 +76,13 @@ pub fn put_channel_words(
     line: &mut [u8],
 )
     requires channel { k < 3 }
-    requires run { IfSome first (λ f. (x : ℕ) → x < length places.now
-        → slice_index places.now x ≡ f + x) }
-    requires places { (x : ℕ) → x < length places.now
-        → 3 * slice_index places.now x + 2 < length row.now }
+    requires run { IfSome first (λ f. IsRunFrom f places.now) }
+    requires places { AreInRow places.now row.now }
     requires room { 2 * length places.now ≤ length line.old }
     ensures here { (x : ℕ) → x < length places.now
         → HasSample Packing.Words order line.new x
         (slice_index row.now (3 * slice_index places.now x + k)) }
-    ensures behind { (j : ℕ) → 2 * length places.now ≤ j
-        → slice_index line.new j ≡ slice_index line.old j }
+    ensures behind { IsSameFrom (2 * length places.now) line.old line.new }
 {
     match first {
         Some(first) => put_run_words(order, k, row, first as usize, places, line),

@@ -7,7 +7,7 @@ ghost use Rattle.page_picture.specs.Tone.{brightness};
 ghost use Rattle.scan_frames.specs.Line.{packing_of, line_of};
 ghost use Rattle.scan_frames.specs.Frames.{channel_in, format_at};
 ghost use Rattle.scan_frames.specs.Tables.{AreComposed};
-ghost use Rattle.scan_frames.specs.Inside.{IsPlain, IsSame, HasSample, IsGrayRow, bit_in, bits_in, sample_end, gray_in, value_at, sample_in_row};
+ghost use Rattle.scan_frames.specs.Inside.{IsPlain, IsSame, HasSample, IsGrayRow, bit_in, bits_in, sample_end, gray_in, value_at, sample_in_row, AreInRow, IsRunFrom, IsSameFrom};
 ghost use Rattle.scan_frames.specs.Samples.{HasZeros};
 
 use crate::byte_words::{put_channel_words, put_samples, put_word};
@@ -94,14 +94,12 @@ fn put_place(scene: &Scene, layout: Layout, row: &[u16], place: u32, first: usiz
 
 /// Puts the samples of all places in red, green and blue, a byte each, by a table for each channel.
 fn put_colors(tables: &[[u8; 256]; 3], row: &[u16], places: &[u32], line: &mut [u8])
-    requires places { (x : ℕ)
-        → x < length places.now → 3 * slice_index places.now x + 2 < length row.now }
+    requires places { AreInRow places.now row.now }
     requires room { 3 * length places.now ≤ length line.old }
     ensures here { (x k : ℕ) → x < length places.now
         → k < 3 → slice_index line.new (3 * x + k) ≡ slice_index (slice_index_or tables.now k [])
         (slice_index row.now (3 * slice_index places.now x + k) / 256) }
-    ensures behind { (j : ℕ)
-        → 3 * length places.now ≤ j → slice_index line.new j ≡ slice_index line.old j }
+    ensures behind { IsSameFrom (3 * length places.now) line.old line.new }
 {
     let [red, green, blue] = tables;
     for (x, place) in places.iter().enumerate() {
@@ -156,17 +154,14 @@ fn put_rgb(
     places: &[u32],
     line: &mut [u8],
 )
-    requires places { (x : ℕ)
-        → x < length places.now → 3 * slice_index places.now x + 2 < length row.now }
-    requires run { IfSome first (λ f. (x : ℕ)
-        → x < length places.now → slice_index places.now x ≡ f + x) }
+    requires places { AreInRow places.now row.now }
+    requires run { IfSome first (λ f. IsRunFrom f places.now) }
     requires few { length places.now ≤ 65536 }
     requires room { 3 * length places.now ≤ length line.old }
     ensures here { (x k : ℕ) → x < length places.now
         → k < 3 → slice_index line.new (3 * x + k) ≡ slice_index (slice_index_or tables.now k [])
         (slice_index row.now (3 * slice_index places.now x + k) / 256) }
-    ensures behind { (j : ℕ)
-        → 3 * length places.now ≤ j → slice_index line.new j ≡ slice_index line.old j }
+    ensures behind { IsSameFrom (3 * length places.now) line.old line.new }
 {
     if let Some(first) = first {
         let start = 3 * first as usize;
@@ -181,13 +176,11 @@ fn put_rgb(
 /// Puts the samples of all places in one channel, a byte each, by its table.
 fn put_color(table: &[u8; 256], k: u32, row: &[u16], places: &[u32], line: &mut [u8])
     requires channel { k < 3 }
-    requires places { (x : ℕ)
-        → x < length places.now → 3 * slice_index places.now x + 2 < length row.now }
+    requires places { AreInRow places.now row.now }
     requires room { length places.now ≤ length line.old }
     ensures here { (x : ℕ) → x < length places.now → slice_index line.new x
         ≡ slice_index table.now (slice_index row.now (3 * slice_index places.now x + k) / 256) }
-    ensures behind { (j : ℕ)
-        → length places.now ≤ j → slice_index line.new j ≡ slice_index line.old j }
+    ensures behind { IsSameFrom (length places.now) line.old line.new }
 {
     for (x, place) in places.iter().enumerate() {
         let seen = row[3 * *place as usize + k as usize];
@@ -198,14 +191,12 @@ fn put_color(table: &[u8; 256], k: u32, row: &[u16], places: &[u32], line: &mut 
 /// Puts the upper bytes of one channel's samples of all places, which lie one beside the other from `first` on.
 fn put_run_upper(k: u32, row: &[u16], first: usize, places: &[u32], line: &mut [u8])
     requires channel { k < 3 }
-    requires run { (x : ℕ) → x < length places.now → slice_index places.now x ≡ first + x }
-    requires places { (x : ℕ)
-        → x < length places.now → 3 * slice_index places.now x + 2 < length row.now }
+    requires run { IsRunFrom first places.now }
+    requires places { AreInRow places.now row.now }
     requires room { length places.now ≤ length line.old }
     ensures here { (x : ℕ) → x < length places.now
         → slice_index line.new x ≡ slice_index row.now (3 * slice_index places.now x + k) / 256 }
-    ensures behind { (j : ℕ)
-        → length places.now ≤ j → slice_index line.new j ≡ slice_index line.old j }
+    ensures behind { IsSameFrom (length places.now) line.old line.new }
 {
     if places.is_empty() {
         return;
@@ -221,14 +212,12 @@ fn put_run_upper(k: u32, row: &[u16], first: usize, places: &[u32], line: &mut [
 /// The same as `put_color`, where the places lie one beside the other from `first` on.
 fn put_run(table: &[u8; 256], k: u32, row: &[u16], first: usize, places: &[u32], line: &mut [u8])
     requires channel { k < 3 }
-    requires run { (x : ℕ) → x < length places.now → slice_index places.now x ≡ first + x }
-    requires places { (x : ℕ)
-        → x < length places.now → 3 * slice_index places.now x + 2 < length row.now }
+    requires run { IsRunFrom first places.now }
+    requires places { AreInRow places.now row.now }
     requires room { length places.now ≤ length line.old }
     ensures here { (x : ℕ) → x < length places.now → slice_index line.new x
         ≡ slice_index table.now (slice_index row.now (3 * slice_index places.now x + k) / 256) }
-    ensures behind { (j : ℕ)
-        → length places.now ≤ j → slice_index line.new j ≡ slice_index line.old j }
+    ensures behind { IsSameFrom (length places.now) line.old line.new }
 {
     if is_same(table) {
         return put_run_upper(k, row, first, places, line);
@@ -249,15 +238,12 @@ fn put_channel(
     line: &mut [u8],
 )
     requires channel { k < 3 }
-    requires run { IfSome first (λ f. (x : ℕ)
-        → x < length places.now → slice_index places.now x ≡ f + x) }
-    requires places { (x : ℕ)
-        → x < length places.now → 3 * slice_index places.now x + 2 < length row.now }
+    requires run { IfSome first (λ f. IsRunFrom f places.now) }
+    requires places { AreInRow places.now row.now }
     requires room { length places.now ≤ length line.old }
     ensures here { (x : ℕ) → x < length places.now → slice_index line.new x
         ≡ slice_index table.now (slice_index row.now (3 * slice_index places.now x + k) / 256) }
-    ensures behind { (j : ℕ)
-        → length places.now ≤ j → slice_index line.new j ≡ slice_index line.old j }
+    ensures behind { IsSameFrom (length places.now) line.old line.new }
 {
     match first {
         Some(first) => put_run(table, k, row, first as usize, places, line),
@@ -268,8 +254,7 @@ fn put_channel(
 /// Puts the samples of all places in red, green and blue as they are, two bytes each.
 fn put_words(layout: Layout, row: &[u16], places: &[u32], line: &mut [u8])
     requires packing { layout.packing ≡ Packing.Words }
-    requires places { (x : ℕ)
-        → x < length places.now → 3 * slice_index places.now x + 2 < length row.now }
+    requires places { AreInRow places.now row.now }
     requires few { length places.now ≤ 65536 }
     requires room { 6 * length places.now ≤ length line.old }
     ensures here { (x k : ℕ) → x < length places.now → k < 3 → HasSample Packing.Words
@@ -288,10 +273,8 @@ fn put_words(layout: Layout, row: &[u16], places: &[u32], line: &mut [u8])
 /// The same as `put_words`, without a look-up where there is a `first` from which on the places lie one beside the other.
 fn put_row_words(layout: Layout, first: Option<u32>, row: &[u16], places: &[u32], line: &mut [u8])
     requires packing { layout.packing ≡ Packing.Words }
-    requires run { IfSome first (λ f. (x : ℕ)
-        → x < length places.now → slice_index places.now x ≡ f + x) }
-    requires places { (x : ℕ)
-        → x < length places.now → 3 * slice_index places.now x + 2 < length row.now }
+    requires run { IfSome first (λ f. IsRunFrom f places.now) }
+    requires places { AreInRow places.now row.now }
     requires few { length places.now ≤ 65536 }
     requires room { 6 * length places.now ≤ length line.old }
     ensures here { (x k : ℕ) → x < length places.now → k < 3 → HasSample Packing.Words
@@ -318,15 +301,12 @@ fn put_gray_words(
     places: &[u32],
     line: &mut [u8],
 )
-    requires run { IfSome first (λ f. (x : ℕ) → x < length places.now
-        → slice_index places.now x ≡ f + x) }
-    requires places { (x : ℕ) → x < length places.now
-        → 3 * slice_index places.now x + 2 < length row.now }
+    requires run { IfSome first (λ f. IsRunFrom f places.now) }
+    requires places { AreInRow places.now row.now }
     requires room { 2 * length places.now ≤ length line.old }
     ensures here { (x : ℕ) → x < length places.now
         → HasSample Packing.Words order line.new x (gray_in row.now (slice_index places.now x)) }
-    ensures behind { (j : ℕ) → 2 * length places.now ≤ j
-        → slice_index line.new j ≡ slice_index line.old j }
+    ensures behind { IsSameFrom (2 * length places.now) line.old line.new }
 {
     if is_gray(row) {
         return put_channel_words(order, 0, first, row, places, line);
@@ -347,12 +327,10 @@ fn put_bytes(
     line: &mut [u8],
 )
     requires tables { AreComposed scene.now tables.now }
-    requires run { IfSome first (λ f. (x : ℕ)
-        → x < length places.now → slice_index places.now x ≡ f + x) }
+    requires run { IfSome first (λ f. IsRunFrom f places.now) }
     requires packing { packing_of scene.now.depth ≡ Packing.Bytes }
     requires color { scene.now.mode ≡ Mode.Color }
-    requires places { (x : ℕ)
-        → x < length places.now → 3 * slice_index places.now x + 2 < length row.now }
+    requires places { AreInRow places.now row.now }
     requires few { length places.now ≤ 65536 }
     requires room { channels_within layout.format * length places.now ≤ length line.old }
     ensures here { (x k : ℕ) → x < length places.now → k < channels_within layout.format
@@ -375,8 +353,7 @@ fn put_bytes(
 /// Puts the samples of all places, one by one.
 fn put_each(scene: &Scene, layout: Layout, row: &[u16], places: &[u32], line: &mut [u8])
     requires packing { layout.packing ≡ packing_of scene.now.depth }
-    requires places { (x : ℕ)
-        → x < length places.now → 3 * slice_index places.now x + 2 < length row.now }
+    requires places { AreInRow places.now row.now }
     requires few { length places.now ≤ 65536 }
     requires room { sample_end layout.packing (channels_within layout.format * length places.now)
         ≤ length line.old }
@@ -403,10 +380,8 @@ fn put_all(
     line: &mut [u8],
 )
     requires packing { layout.packing ≡ packing_of scene.now.depth }
-    requires run { IfSome first (λ f. (x : ℕ)
-        → x < length places.now → slice_index places.now x ≡ f + x) }
-    requires places { (x : ℕ)
-        → x < length places.now → 3 * slice_index places.now x + 2 < length row.now }
+    requires run { IfSome first (λ f. IsRunFrom f places.now) }
+    requires places { AreInRow places.now row.now }
     requires few { length places.now ≤ 65536 }
     requires room { sample_end layout.packing (channels_within layout.format * length places.now)
         ≤ length line.old }
@@ -435,13 +410,11 @@ fn put_all(
 
 /// Puts the samples of all places in gray, a byte each, by the gray sum of each.
 fn put_sums(table: &[u8; 256], row: &[u16], places: &[u32], line: &mut [u8])
-    requires places { (x : ℕ)
-        → x < length places.now → 3 * slice_index places.now x + 2 < length row.now }
+    requires places { AreInRow places.now row.now }
     requires room { length places.now ≤ length line.old }
     ensures here { (x : ℕ) → x < length places.now → slice_index line.new x
         ≡ slice_index table.now (gray_in row.now (slice_index places.now x) / 256) }
-    ensures behind { (j : ℕ)
-        → length places.now ≤ j → slice_index line.new j ≡ slice_index line.old j }
+    ensures behind { IsSameFrom (length places.now) line.old line.new }
 {
     for (x, place) in places.iter().enumerate() {
         line[x] = table[gray(row, *place) as usize / 256];
@@ -450,14 +423,12 @@ fn put_sums(table: &[u8; 256], row: &[u16], places: &[u32], line: &mut [u8])
 
 /// Puts the upper bytes of the grays of all places, which lie one beside the other from `first` on.
 fn put_upper_sums(row: &[u16], first: usize, places: &[u32], line: &mut [u8])
-    requires run { (x : ℕ) → x < length places.now → slice_index places.now x ≡ first + x }
-    requires places { (x : ℕ) → x < length places.now
-        → 3 * slice_index places.now x + 2 < length row.now }
+    requires run { IsRunFrom first places.now }
+    requires places { AreInRow places.now row.now }
     requires room { length places.now ≤ length line.old }
     ensures here { (x : ℕ) → x < length places.now
         → slice_index line.new x ≡ gray_in row.now (slice_index places.now x) / 256 }
-    ensures behind { (j : ℕ) → length places.now ≤ j
-        → slice_index line.new j ≡ slice_index line.old j }
+    ensures behind { IsSameFrom (length places.now) line.old line.new }
 {
     if places.is_empty() {
         return;
@@ -472,16 +443,13 @@ fn put_upper_sums(row: &[u16], first: usize, places: &[u32], line: &mut [u8])
 
 /// The same as `put_sums`, eight dots at once where the table changes nothing and the places lie one beside the other.
 fn put_row_sums(table: &[u8; 256], first: Option<u32>, row: &[u16], places: &[u32], line: &mut [u8])
-    requires run { IfSome first (λ f. (x : ℕ) → x < length places.now
-        → slice_index places.now x ≡ f + x) }
-    requires places { (x : ℕ) → x < length places.now
-        → 3 * slice_index places.now x + 2 < length row.now }
+    requires run { IfSome first (λ f. IsRunFrom f places.now) }
+    requires places { AreInRow places.now row.now }
     requires room { length places.now ≤ length line.old }
     ensures here { (x : ℕ) → x < length places.now
         → slice_index line.new x
         ≡ slice_index table.now (gray_in row.now (slice_index places.now x) / 256) }
-    ensures behind { (j : ℕ) → length places.now ≤ j
-        → slice_index line.new j ≡ slice_index line.old j }
+    ensures behind { IsSameFrom (length places.now) line.old line.new }
 {
     match first {
         Some(first) if is_same(table) => put_upper_sums(row, first as usize, places, line),
@@ -492,16 +460,13 @@ fn put_row_sums(table: &[u8; 256], first: Option<u32>, row: &[u16], places: &[u3
 /// Puts the samples of all places in gray, a byte each; of a gray row they are those of its first channel, without a sum.
 #[tactic(auto, using(crate::proofs::Grays::gray_of_even))]
 fn put_grays(table: &[u8; 256], first: Option<u32>, row: &[u16], places: &[u32], line: &mut [u8])
-    requires places { (x : ℕ)
-        → x < length places.now → 3 * slice_index places.now x + 2 < length row.now }
-    requires run { IfSome first (λ f. (x : ℕ)
-        → x < length places.now → slice_index places.now x ≡ f + x) }
+    requires places { AreInRow places.now row.now }
+    requires run { IfSome first (λ f. IsRunFrom f places.now) }
     requires few { length places.now ≤ 65536 }
     requires room { length places.now ≤ length line.old }
     ensures here { (x : ℕ) → x < length places.now → slice_index line.new x
         ≡ slice_index table.now (gray_in row.now (slice_index places.now x) / 256) }
-    ensures behind { (j : ℕ)
-        → length places.now ≤ j → slice_index line.new j ≡ slice_index line.old j }
+    ensures behind { IsSameFrom (length places.now) line.old line.new }
 {
     if is_gray(row) {
         put_channel(table, 0, first, row, places, line)
@@ -515,8 +480,7 @@ fn put_grays(table: &[u8; 256], first: Option<u32>, row: &[u16], places: &[u32],
 fn bit(scene: &Scene, row: &[u16], places: &[u32], channel: u32, x: usize) -> u8
     requires depth { packing_of scene.now.depth ≡ Packing.Bits }
     requires channel { channel < 3 }
-    requires places { (x : ℕ)
-        → x < length places.now → 3 * slice_index places.now x + 2 < length row.now }
+    requires places { AreInRow places.now row.now }
     ensures value { result ≡ bit_in scene.now row.now places.now channel x }
     ensures limit { result ≤ 1 }
 {
@@ -533,8 +497,7 @@ fn bit(scene: &Scene, row: &[u16], places: &[u32], channel: u32, x: usize) -> u8
 fn packed(scene: &Scene, row: &[u16], places: &[u32], channel: u32, b: usize) -> u8
     requires depth { packing_of scene.now.depth ≡ Packing.Bits }
     requires channel { channel < 3 }
-    requires places { (x : ℕ)
-        → x < length places.now → 3 * slice_index places.now x + 2 < length row.now }
+    requires places { AreInRow places.now row.now }
     requires few { b ≤ 65536 }
     ensures { result ≡ bits_in scene.now row.now places.now channel b }
 {
@@ -550,8 +513,7 @@ fn packed(scene: &Scene, row: &[u16], places: &[u32], channel: u32, b: usize) ->
 fn gray_bit(scene: &Scene, row: &[u16], places: &[u32], channel: u32, x: usize) -> u8
     requires depth { packing_of scene.now.depth ≡ Packing.Bits }
     requires gray { scene.now.mode ≡ Mode.Gray }
-    requires places { (x : ℕ)
-        → x < length places.now → 3 * slice_index places.now x + 2 < length row.now }
+    requires places { AreInRow places.now row.now }
     requires inside { x < length places.now }
     ensures value { result ≡ bit_in scene.now row.now places.now channel x }
     ensures limit { result ≤ 1 }
@@ -565,8 +527,7 @@ fn gray_bit(scene: &Scene, row: &[u16], places: &[u32], channel: u32, x: usize) 
 fn packed_grays(scene: &Scene, row: &[u16], places: &[u32], channel: u32, b: usize) -> u8
     requires depth { packing_of scene.now.depth ≡ Packing.Bits }
     requires gray { scene.now.mode ≡ Mode.Gray }
-    requires places { (x : ℕ)
-        → x < length places.now → 3 * slice_index places.now x + 2 < length row.now }
+    requires places { AreInRow places.now row.now }
     requires few { b ≤ 65536 }
     requires inside { 8 * b + 8 ≤ length places.now }
     ensures { result ≡ bits_in scene.now row.now places.now channel b }
@@ -582,8 +543,7 @@ fn packed_grays(scene: &Scene, row: &[u16], places: &[u32], channel: u32, b: usi
 fn put_any_bits(scene: &Scene, row: &[u16], places: &[u32], channel: u32, line: &mut [u8])
     requires depth { packing_of scene.now.depth ≡ Packing.Bits }
     requires channel { channel < 3 }
-    requires places { (x : ℕ)
-        → x < length places.now → 3 * slice_index places.now x + 2 < length row.now }
+    requires places { AreInRow places.now row.now }
     requires few { length line.old ≤ 65536 }
     ensures { (b : ℕ) → b < length line.old
         → slice_index line.new b ≡ bits_in scene.now row.now places.now channel b }
@@ -607,9 +567,8 @@ fn run_bit(scene: &Scene, row: &[u16], first: usize, places: &[u32], channel: u3
     requires depth { packing_of scene.now.depth ≡ Packing.Bits }
     requires gray { scene.now.mode ≡ Mode.Gray }
     requires even { IsGrayRow row.now }
-    requires run { (x : ℕ) → x < length places.now → slice_index places.now x ≡ first + x }
-    requires places { (x : ℕ)
-        → x < length places.now → 3 * slice_index places.now x + 2 < length row.now }
+    requires run { IsRunFrom first places.now }
+    requires places { AreInRow places.now row.now }
     requires inside { x < length places.now }
     ensures value { result ≡ bit_in scene.now row.now places.now channel x }
     ensures limit { result ≤ 1 }
@@ -631,9 +590,8 @@ fn packed_run(
     requires depth { packing_of scene.now.depth ≡ Packing.Bits }
     requires gray { scene.now.mode ≡ Mode.Gray }
     requires even { IsGrayRow row.now }
-    requires run { (x : ℕ) → x < length places.now → slice_index places.now x ≡ first + x }
-    requires places { (x : ℕ)
-        → x < length places.now → 3 * slice_index places.now x + 2 < length row.now }
+    requires run { IsRunFrom first places.now }
+    requires places { AreInRow places.now row.now }
     requires few { b ≤ 65536 }
     requires inside { 8 * b + 8 ≤ length places.now }
     ensures { result ≡ bits_in scene.now row.now places.now channel b }
@@ -657,9 +615,8 @@ fn put_same_eights(
     requires depth { packing_of scene.now.depth ≡ Packing.Bits }
     requires gray { scene.now.mode ≡ Mode.Gray }
     requires even { IsGrayRow row.now }
-    requires run { (x : ℕ) → x < length places.now → slice_index places.now x ≡ first + x }
-    requires places { (x : ℕ) → x < length places.now
-        → 3 * slice_index places.now x + 2 < length row.now }
+    requires run { IsRunFrom first places.now }
+    requires places { AreInRow places.now row.now }
     ensures line { result ≤ length line.old }
     ensures dots { 8 * result ≤ length places.now }
     ensures here { (b : ℕ) → b < result
@@ -686,10 +643,9 @@ fn put_run_bits(
     requires depth { packing_of scene.now.depth ≡ Packing.Bits }
     requires gray { scene.now.mode ≡ Mode.Gray }
     requires even { IsGrayRow row.now }
-    requires run { (x : ℕ) → x < length places.now → slice_index places.now x ≡ first + x }
+    requires run { IsRunFrom first places.now }
     requires channel { channel < 3 }
-    requires places { (x : ℕ)
-        → x < length places.now → 3 * slice_index places.now x + 2 < length row.now }
+    requires places { AreInRow places.now row.now }
     requires few { length line.old ≤ 65536 }
     ensures { (b : ℕ) → b < length line.old
         → slice_index line.new b ≡ bits_in scene.now row.now places.now channel b }
@@ -715,11 +671,9 @@ fn put_bits(
     line: &mut [u8],
 )
     requires depth { packing_of scene.now.depth ≡ Packing.Bits }
-    requires run { IfSome first (λ f. (x : ℕ)
-        → x < length places.now → slice_index places.now x ≡ f + x) }
+    requires run { IfSome first (λ f. IsRunFrom f places.now) }
     requires channel { channel < 3 }
-    requires places { (x : ℕ)
-        → x < length places.now → 3 * slice_index places.now x + 2 < length row.now }
+    requires places { AreInRow places.now row.now }
     requires few { length line.old ≤ 65536 }
     ensures { (b : ℕ) → b < length line.old
         → slice_index line.new b ≡ bits_in scene.now row.now places.now channel b }
