@@ -14,11 +14,8 @@ use Rattle.client_replies.specs.declared.progress.Progress.TheVariants as stages
 use Rattle.client_replies.specs.declared.progress.Notes.{Notes}
 use Rattle.client_replies.specs.Asking.{request_for}
 use Rattle.client_replies.specs.ProtocolStates.{ProtocolState, shows, progress_connected}
-use Rattle.system_model.specs.AbstractMessages as words
 use Rattle.system_model.specs.Client as model
 use Rattle.system_model.specs.ClientReplies.{stage_after_stop, client_after_stop}
-use Rattle.system_model.specs.Devices.{abstract_status}
-use Rattle.client_refines.specs.DecodedReplies.{why_of}
 use Rattle.client_refines.specs.ClientRefinement.{WaitsAs, ShowRefines, OutcomeRefines, Files, ClientRefines, IsApt}
 use Rattle.client_refines.specs.ClientLives.{ClientsBeginAlike, JobsStopAlike, stopped_by, PullsAndLinksAreUnseen}
 use Rattle.client_replies.specs.declared.progress.JobTarget.{JobTarget}
@@ -51,25 +48,25 @@ same_shown : (b : Bool) (options : List (Descriptor × Option Value)) (m : model
 same_shown true options m s e = e
 same_shown false options m s e = tt
 
-stops_by : (place : DeviceInfo → ℕ) (target : JobTarget) (job : model.AbstractJob) (pages : List (List Frame)) (protocol : ProtocolState) (m : model.ClientView) (status : Status) (why : Why) (w : words.Why) (o : Outcome) → protocol.outcome ≡ o
-    → why_of why ≡ Some w → Files pages protocol.history m.frames m.pages → OutcomeRefines place target job pages o protocol.progress protocol.notes protocol.history m
-    → ClientRefines place target job pages (stopped_by status why protocol o) (client_after_stop (abstract_status status) w m)
-stops_by place target job pages protocol m status why w Running o e f s =
+stops_by : (place : DeviceInfo → ℕ) (target : JobTarget) (job : model.AbstractJob) (pages : List (List Frame)) (protocol : ProtocolState) (m : model.ClientView) (status : Status) (why : Why) (o : Outcome) → protocol.outcome ≡ o
+    → Files pages protocol.history m.frames m.pages → OutcomeRefines place target job pages o protocol.progress protocol.notes protocol.history m
+    → ClientRefines place target job pages (stopped_by status why protocol o) (client_after_stop status why m)
+stops_by place target job pages protocol m status why Running o f s =
     let g = runs job protocol.progress protocol.notes protocol.history m s.1 in
-    record { files = record { part = f.part; all = f.all }; stands = (w, (e, ap (λ (y : model.JobStage). stage_after_stop (abstract_status status) w y) g.1)) }
-stops_by place target job pages protocol m status why w (Done reports) o e f s = record {
+    record { files = record { part = f.part; all = f.all }; stands = ap (λ (y : model.JobStage). stage_after_stop status why y) g.1 }
+stops_by place target job pages protocol m status why (Done reports) o f s = record {
   files = record { part = f.part; all = f.all };
-  stands = subst (λ (y : Outcome). OutcomeRefines place target job pages y protocol.progress protocol.notes protocol.history (client_after_stop (abstract_status status) w m)) (sym o)
-      (record { stage = ap (λ (y : model.JobStage). stage_after_stop (abstract_status status) w y) s.stage; settings = s.settings; devices = s.devices; options = same_shown (shows target.task) reports.options m _ s.options });
+  stands = subst (λ (y : Outcome). OutcomeRefines place target job pages y protocol.progress protocol.notes protocol.history (client_after_stop status why m)) (sym o)
+      (record { stage = ap (λ (y : model.JobStage). stage_after_stop status why y) s.stage; settings = s.settings; devices = s.devices; options = same_shown (shows target.task) reports.options m _ s.options });
 }
-stops_by place target job pages protocol m status why w (Ended earlier reason) o e f s = record {
+stops_by place target job pages protocol m status why (Ended earlier reason) o f s = record {
   files = record { part = f.part; all = f.all };
-  stands = subst (λ (y : Outcome). OutcomeRefines place target job pages y protocol.progress protocol.notes protocol.history (client_after_stop (abstract_status status) w m)) (sym o)
-      (s.0, (s.1.0, ap (λ (y : model.JobStage). stage_after_stop (abstract_status status) w y) s.1.1));
+  stands = subst (λ (y : Outcome). OutcomeRefines place target job pages y protocol.progress protocol.notes protocol.history (client_after_stop status why m)) (sym o)
+      (ap (λ (y : model.JobStage). stage_after_stop status why y) s);
 }
 
 pub stops_alike : JobsStopAlike
-stops_alike place target job pages protocol m status why w e r = stops_by place target job pages protocol m status why w protocol.outcome refl e r.files r.stands
+stops_alike place target job pages protocol m status why r = stops_by place target job pages protocol m status why protocol.outcome refl r.files r.stands
 
 -- ---- what no rule speaks of
 

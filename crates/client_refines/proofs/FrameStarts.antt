@@ -57,19 +57,19 @@ shows_none tasks.Show notes m s = absurd (let clash : false ≡ true = s in cc)
 shows_none task notes m s = tt
 
 no_docs : (x : Side) (task : Task) (notes : Notes) (m : model.ClientView) (all : Bool) (frames : List Frame) (pages : List (List Frame)) → all ≡ ran_out frames pages → scans task ≡ true → FilesAs x m → KnowsAs task x.pages notes m
-    → Goes x task (turn notes (if all then Finish [] else stop_by_answer statuses.NoDocs)) (start_refused words.NoDocs frames pages m)
+    → Goes x task (turn notes (if all then Finish [] else stop_by_answer statuses.NoDocs)) (start_refused statuses.NoDocs frames pages m)
 no_docs x task notes m true [] (page ∷ pages) e s f k = (f, record { stage = refl; settings = k.answers; devices = k.none; options = shows_none task notes _ s })
 no_docs x task notes m false [] (page ∷ pages) e s f k = absurd (let clash : false ≡ true = e in cc)
 no_docs x task notes m true [] [] e s f k = absurd (let clash : true ≡ false = e in cc)
 no_docs x task notes m true (g ∷ frames) pages e s f k = absurd (let clash : true ≡ false = e in cc)
-no_docs x task notes m false [] [] e s f k = ends x task notes m statuses.NoDocs whys.Answer words.Answer refl f
-no_docs x task notes m false (g ∷ frames) pages e s f k = ends x task notes m statuses.NoDocs whys.Answer words.Answer refl f
+no_docs x task notes m false [] [] e s f k = ends x task notes m statuses.NoDocs whys.Answer f
+no_docs x task notes m false (g ∷ frames) pages e s f k = ends x task notes m statuses.NoDocs whys.Answer f
 
 starts_by : (x : Side) (task : Task) (notes : Notes) (m : model.ClientView) (all : Bool) (status : Status) (port : ℕ) (order : ByteOrder) → all ≡ ran_out m.frames m.pages → scans task ≡ true → FilesAs x m → KnowsAs task x.pages notes m
     → Hears x task (turn notes (started_by all status port order)) m model.Starting (reply_if_good status (words.Begun order))
 starts_by x task notes m all statuses.Good port order e s f k = (f, (k, (refl, refl)))
 starts_by x task notes m all statuses.NoDocs port order e s f k = no_docs x task notes m all m.frames m.pages e s f k
-starts_by x task notes m all status port order e s f k = ends x task notes m status whys.Answer words.Answer refl f
+starts_by x task notes m all status port order e s f k = ends x task notes m status whys.Answer f
 
 starts_plain : (x : Side) (task : Task) (notes : Notes) (m : model.ClientView) (all : Bool) (status : Status) (port : ℕ) (order : ByteOrder) (resource : List ℕ) → all ≡ ran_out m.frames m.pages → scans task ≡ true → FilesAs x m
     → KnowsAs task x.pages notes m → Hears x task (turn notes (started_with all status port order resource)) m model.Starting (reply_without_resource resource (reply_if_good status (words.Begun order)))
@@ -118,7 +118,7 @@ begins x task notes m params order port true o c j a f k past e =
     ))
 begins x task notes m params order port false o c j a f k past e =
     subst (λ (p : JoinHistory). Goes (onto x p) task (turn notes (begun_by p.fault port)) (record m { stage = begins_frame params false })) (sym e)
-    (record { part = f.part; all = f.all }, (words.Malformed, (refl, refl)))
+    (record { part = f.part; all = f.all }, refl)
 
 shapes_by : (x : Side) (task : Task) (notes : Notes) (m : model.ClientView) (port : ℕ) (order : ByteOrder) (status : Status) (params : Params) → m.order ≡ order → IsBetweenFrames x.history → FilesAs x m → KnowsAs task x.pages notes m
     → Hears (onto x (shaped_by status port order params x.history).history) task (turn notes (shaped_by status port order params x.history).next) m model.Shaping (reply_if_good status (words.Shaped params))

@@ -34,7 +34,7 @@ pub greets : (x : Side) (task : Task) (notes : Notes) (m : model.ClientView) (r 
     → Hears x task (turn notes (after_init_reply task r)) m model.Greeting (decoded_reply_at x.place stages.Greeting r)
 greets x task notes m (replies.Init status version) t f k o =
     good_hears x task notes m model.Greeting status (Wait (after_greeting task)) words.Greeted (λ s. refl) f
-    (f, (k, subst (λ (y : model.Task). WaitsAs x.job (after_greeting task) notes x.history (model.with_progress (model.progress_after_init y) m)) (sym t) (greets_by x task notes m o)))
+    (f, (k, subst (λ (y : model.AbstractTask). WaitsAs x.job (after_greeting task) notes x.history (model.with_progress (model.progress_after_init y) m)) (sym t) (greets_by x task notes m o)))
 greets x task notes m r t f k o = awry_ends x task notes m f
 
 lists_none : (task : Task) (notes : Notes) (devices : List DeviceInfo) (m : model.ClientView) → suits task stages.Listing ≡ true → ShowRefines (shows task) (reports_of task notes devices).options m
@@ -63,7 +63,7 @@ admits x task notes m g status word r t f k o = refused x task notes m g status 
 
 challenges : (x : Side) (task : Task) (notes : Notes) (m : model.ClientView) (g : model.AbstractProgress) (resource password : List ℕ) (c : Option (List ℕ)) → Takes g x.job m → FilesAs x m
     → KnowsAs task x.pages notes m → NoSettingPut x.job notes m → Hears x task (turn notes (after_challenge resource (option_map (λ challenge. answer_text (md5 (challenge ++ password))) c))) m g (challenge_reply resource c)
-challenges x task notes m g resource password None t f k o = ends x task notes m statuses.AccessDenied whys.Plain words.Plain refl f
+challenges x task notes m g resource password None t f k o = ends x task notes m statuses.AccessDenied whys.Plain f
 challenges x task notes m g resource password (Some c) t f k o =
     subst (λ (n : model.ClientView). Goes x task (turn notes (Wait (stages.Allowing resource (answer_text (md5 (c ++ password)))))) n) (sym (t.1 resource)) (f, (k, ((resource, (refl, refl)), o)))
 

@@ -11,20 +11,10 @@ use Rattle.scan_job.specs.declared.report.Reports.{Reports}
 use Rattle.client_replies.specs.declared.progress.JobTarget.{JobTarget}
 use Rattle.client_replies.specs.declared.progress.Progress.{Progress}
 use Rattle.client_replies.specs.declared.progress.Notes.{Notes}
-use Rattle.system_model.specs.AbstractMessages as words
 use Rattle.system_model.specs.Client as model
-use Rattle.system_model.specs.Devices.{abstract_status}
-use Rattle.client_refines.specs.DecodedReplies.{why_of}
 use Rattle.client_refines.specs.ClientRefinement.{OutcomeRefines, DoneAs, EndedAs}
 use Rattle.client_refines.specs.ClientLives.{EndAlike, OutcomesAreAlike}
 use Rattle.client_refines.proofs.ClientEndings.{runs}
-
-ended_so : (s : Status) (w : Why) (found status : words.Status) (named why : words.Why) → found ≡ abstract_status s → why_of w ≡ Some named → model.Ended found named ≡ model.Ended status why
-    → (t : Status) × (v : Why) × (Ended s w ≡ Ended t v) × (abstract_status t ≡ status) × (why_of v ≡ Some why)
-ended_so s w found status named why f n e =
-    let same_status : found ≡ status = cc in
-    let same_why : named ≡ why = cc in
-    (s, w, refl, sym f ∙ same_status, n ∙ ap (λ (y : words.Why). Some y) same_why)
 
 ends_alike : (place : DeviceInfo → ℕ) (target : JobTarget) (job : model.AbstractJob) (pages : List (List Frame)) (o : Outcome) (progress : Progress) (notes : Notes) (past : JoinHistory) (m : model.ClientView)
     → OutcomeRefines place target job pages o progress notes past m → EndAlike place target.task o m
@@ -53,9 +43,9 @@ ends_alike place target job pages (Ended status why) progress notes past m s = r
       let same_status : status ≡ found = cc in
       let same_why : why ≡ reason = cc in
       subst (λ (x : Status). EndedAs x reason m) same_status (subst (λ (x : Why). EndedAs status x m) same_why s);
-  runs_by = λ p e. absurd (let clash : model.Ended (abstract_status status) s.0 ≡ model.Running p = sym s.1.1 ∙ e in cc);
-  done_by = λ e. absurd (let clash : model.Ended (abstract_status status) s.0 ≡ model.Done = sym s.1.1 ∙ e in cc);
-  ended_by = λ found reason e. ended_so status why (abstract_status status) found s.0 reason refl s.1.0 (sym s.1.1 ∙ e);
+  runs_by = λ p e. absurd (let clash : model.Ended status why ≡ model.Running p = sym s ∙ e in cc);
+  done_by = λ e. absurd (let clash : model.Ended status why ≡ model.Done = sym s ∙ e in cc);
+  ended_by = λ found reason e. (let same : model.Ended status why ≡ model.Ended found reason = sym s ∙ e in cc);
 }
 
 pub outcomes_alike : OutcomesAreAlike

@@ -24,10 +24,9 @@ use Rattle.client_replies.specs.declared.progress.Next.TheVariants.{Wait, Finish
 use Rattle.client_replies.specs.ReplyTurns.{turn, page_whole, frame_joined, frame_ended_by}
 use Rattle.client_replies.specs.ProtocolStates.{ProtocolState, protocol_after_turn, scans, is_batch, suits, FitsAt, protocol_of_next_page}
 use Rattle.scan_job.specs.JobSize.{HasCount}
-use Rattle.system_model.specs.AbstractMessages as words
 use Rattle.system_model.specs.Client as model
 use Rattle.system_model.specs.ClientReplies.{client_after_bytes, reads_on, finish_in, end_frame, close_frame, close_page, after_page}
-use Rattle.system_model.specs.Devices.{abstract_status, frame_overflows, frame_fills}
+use Rattle.system_model.specs.Devices.{frame_overflows, frame_fills}
 use Rattle.client_refines.specs.ClientRefinement.{task_of, IsApt, parts, wholes, Files, is_nil, KnowsAs, FrameIsShared, WaitsAs, OutcomeRefines, ClientRefines}
 use Rattle.client_refines.specs.FrameRefinement.{protocol_after_bytes, protocol_after_bytes_by, BytesAreReadAlike, FramesEndAlike, PagesTurnUnseen}
 use Rattle.client_refines.proofs.Sides.{Side, onto, Goes, FilesAs, ends, part_is, no_whole, pages_are, settled_reads}
@@ -62,7 +61,7 @@ takes : (place : DeviceInfo → ℕ) (target : JobTarget) (job : model.AbstractJ
     → ClientRefines place target job pages (protocol_after_bytes_by target.task protocol past past.fault) (record m { stage = reads_on b i.params (i.payload ++ bytes) })
 takes place target job pages protocol m bytes port made true i o p c f k past e =
     subst (λ (y : JoinHistory). ClientRefines place target job pages (protocol_after_bytes_by target.task protocol y y.fault) (record m { stage = reads_on true i.params (i.payload ++ bytes) })) (sym e)
-    (record { files = record { part = f.part; all = f.all }; stands = (words.Long, (refl, refl)) })
+    (record { files = record { part = f.part; all = f.all }; stands = refl })
 takes place target job pages protocol m bytes port made false i o p c f k past e =
     subst (λ (y : JoinHistory). ClientRefines place target job pages (protocol_after_bytes_by target.task protocol y y.fault) (record m { stage = reads_on false i.params (i.payload ++ bytes) })) (sym e)
     (subst (λ (y : Option JoinFault). ClientRefines place target job pages (protocol_after_bytes_by target.task protocol (record protocol.history { under = Some (record { params = i.params; order = m.order; payload = i.payload ++ bytes }) }) y) (record m { stage = reads_on false i.params (i.payload ++ bytes) })) (sym c)
@@ -153,7 +152,7 @@ frame_ends : (x : Side) (task : Task) (notes : Notes) (m : model.ClientView) (f 
 frame_ends x task notes m f true past t h s j e l files k =
     let pages : m.pages ≡ x.pages = pages_are x m j files in
     let number : notes.file ≡ suc (length m.pages) = k.number ∙ ap (λ (ps : List (List Frame)). suc (length ps)) (sym pages) in
-    subst (λ (y : model.Task). Goes (onto x past) task (turn notes (page_whole task notes.file)) (record m { stage = after_page (ltb (length m.pages) (model.further_pages y)); frames = []; pages = m.pages ++ (m.frames ++ f ∷ []) ∷ [] })) (sym t)
+    subst (λ (y : model.AbstractTask). Goes (onto x past) task (turn notes (page_whole task notes.file)) (record m { stage = after_page (ltb (length m.pages) (model.further_pages y)); frames = []; pages = m.pages ++ (m.frames ++ f ∷ []) ∷ [] })) (sym t)
     (page_ends (onto x past) task notes (record m { frames = []; pages = m.pages ++ (m.frames ++ f ∷ []) ∷ [] }) (length m.pages) h s number
     (record {
       part = sym (ap (λ (fs : List Frame). parts fs) e ∙ ap (λ (b : Bool). if b then [] else x.history.ended ++ f ∷ []) l);
@@ -184,8 +183,8 @@ closes_by : (x : Side) (task : Task) (notes : Notes) (m : model.ClientView) (i :
     → past ≡ (if b then record x.history { ended = x.history.ended ++ record { params = i.params; order = m.order; payload = i.payload } ∷ []; under = None } else with_fault faults.Short x.history) → FilesAs x m → KnowsAs task x.pages notes m
     → Goes (onto x past) task (turn notes (frame_joined task notes.file (answer_of_end past))) (close_frame b x.job.task i.params i.payload m)
 closes_by x task notes m i false past t h s c e f k =
-    subst (λ (y : JoinHistory). Goes (onto x y) task (turn notes (frame_joined task notes.file (answer_of_end y))) (model.with_ending words.IoError words.Short m)) (sym e)
-    (record { part = f.part; all = f.all }, (words.Short, (refl, refl)))
+    subst (λ (y : JoinHistory). Goes (onto x y) task (turn notes (frame_joined task notes.file (answer_of_end y))) (model.with_ending statuses.IoError whys.Short m)) (sym e)
+    (record { part = f.part; all = f.all }, refl)
 closes_by x task notes m i true past t h s c e f k =
     let g : Frame = record { params = i.params; order = m.order; payload = i.payload } in
     let whole : JoinHistory = record x.history { ended = x.history.ended ++ g ∷ []; under = None } in
@@ -199,22 +198,22 @@ stays : (x : Side) (m : model.ClientView) → FilesAs x m → FilesAs (onto x x.
 stays x m f = record { part = f.part; all = f.all }
 
 ends_by : (x : Side) (task : Task) (notes : Notes) (m : model.ClientView) (i : FrameIsShared x.history m) (status : Status) → x.job.task ≡ task_of task → HasCount task → scans task ≡ true → x.history.fault ≡ None → FilesAs x m → KnowsAs task x.pages notes m
-    → Goes (onto x (frame_ended_by task notes.file x.history (Some status)).history) task (turn notes (frame_ended_by task notes.file x.history (Some status)).next) (end_frame (abstract_status status) x.job.task i.params i.payload m)
+    → Goes (onto x (frame_ended_by task notes.file x.history (Some status)).history) task (turn notes (frame_ended_by task notes.file x.history (Some status)).next) (end_frame status x.job.task i.params i.payload m)
 ends_by x task notes m i statuses.Eof t h s c f k =
     subst (λ (b : Bool). Goes (onto x (after_end x.history)) task (turn notes (frame_joined task notes.file (answer_of_end (after_end x.history)))) (close_frame b x.job.task i.params i.payload m)) (sym (fills_is i.params m.order i.payload))
     (closes_by x task notes m i (is_full (record { params = i.params; order = m.order; payload = i.payload })) (after_end x.history) t h s c
     (closes x.history (record { params = i.params; order = m.order; payload = i.payload }) (is_full (record { params = i.params; order = m.order; payload = i.payload })) c i.under refl) f k)
-ends_by x task notes m i statuses.Good t h s c f k = ends (onto x x.history) task notes m statuses.IoError whys.Malformed words.Malformed refl (stays x m f)
-ends_by x task notes m i statuses.Unsupported t h s c f k = ends (onto x x.history) task notes m statuses.Unsupported whys.Answer words.Answer refl (stays x m f)
-ends_by x task notes m i statuses.Cancelled t h s c f k = ends (onto x x.history) task notes m statuses.Cancelled whys.Answer words.Answer refl (stays x m f)
-ends_by x task notes m i statuses.DeviceBusy t h s c f k = ends (onto x x.history) task notes m statuses.DeviceBusy whys.Answer words.Answer refl (stays x m f)
-ends_by x task notes m i statuses.Inval t h s c f k = ends (onto x x.history) task notes m statuses.Inval whys.Answer words.Answer refl (stays x m f)
-ends_by x task notes m i statuses.Jammed t h s c f k = ends (onto x x.history) task notes m statuses.Jammed whys.Answer words.Answer refl (stays x m f)
-ends_by x task notes m i statuses.NoDocs t h s c f k = ends (onto x x.history) task notes m statuses.NoDocs whys.Answer words.Answer refl (stays x m f)
-ends_by x task notes m i statuses.CoverOpen t h s c f k = ends (onto x x.history) task notes m statuses.CoverOpen whys.Answer words.Answer refl (stays x m f)
-ends_by x task notes m i statuses.IoError t h s c f k = ends (onto x x.history) task notes m statuses.IoError whys.Answer words.Answer refl (stays x m f)
-ends_by x task notes m i statuses.NoMem t h s c f k = ends (onto x x.history) task notes m statuses.NoMem whys.Answer words.Answer refl (stays x m f)
-ends_by x task notes m i statuses.AccessDenied t h s c f k = ends (onto x x.history) task notes m statuses.AccessDenied whys.Answer words.Answer refl (stays x m f)
+ends_by x task notes m i statuses.Good t h s c f k = ends (onto x x.history) task notes m statuses.IoError whys.Malformed (stays x m f)
+ends_by x task notes m i statuses.Unsupported t h s c f k = ends (onto x x.history) task notes m statuses.Unsupported whys.Answer (stays x m f)
+ends_by x task notes m i statuses.Cancelled t h s c f k = ends (onto x x.history) task notes m statuses.Cancelled whys.Answer (stays x m f)
+ends_by x task notes m i statuses.DeviceBusy t h s c f k = ends (onto x x.history) task notes m statuses.DeviceBusy whys.Answer (stays x m f)
+ends_by x task notes m i statuses.Inval t h s c f k = ends (onto x x.history) task notes m statuses.Inval whys.Answer (stays x m f)
+ends_by x task notes m i statuses.Jammed t h s c f k = ends (onto x x.history) task notes m statuses.Jammed whys.Answer (stays x m f)
+ends_by x task notes m i statuses.NoDocs t h s c f k = ends (onto x x.history) task notes m statuses.NoDocs whys.Answer (stays x m f)
+ends_by x task notes m i statuses.CoverOpen t h s c f k = ends (onto x x.history) task notes m statuses.CoverOpen whys.Answer (stays x m f)
+ends_by x task notes m i statuses.IoError t h s c f k = ends (onto x x.history) task notes m statuses.IoError whys.Answer (stays x m f)
+ends_by x task notes m i statuses.NoMem t h s c f k = ends (onto x x.history) task notes m statuses.NoMem whys.Answer (stays x m f)
+ends_by x task notes m i statuses.AccessDenied t h s c f k = ends (onto x x.history) task notes m statuses.AccessDenied whys.Answer (stays x m f)
 
 pub ends_alike : FramesEndAlike
 ends_alike place target job pages protocol m n status t h e image o fits r =
@@ -223,8 +222,8 @@ ends_alike place target job pages protocol m n status t h e image o fits r =
     let i : FrameIsShared protocol.history m = s.1 in
     let at_image : FitsAt (stages.Imaging image.0 image.1.0) protocol.history = subst (λ (y : Progress). FitsAt y protocol.history) image.1.1 fits.1 in
     let scan : suits target.task (stages.Imaging image.0 image.1.0) ≡ true = subst (λ (y : Progress). suits target.task y ≡ true) image.1.1 fits.0 in
-    subst (λ (y : Option Status). ClientRefines place target job pages (protocol_after_turn target.task (turn protocol.notes (frame_ended_by target.task protocol.notes.file protocol.history y).next) (frame_ended_by target.task protocol.notes.file protocol.history y).history) (finish_in m.stage job.task m (abstract_status status))) (sym e)
-    (subst (λ (y : model.JobStage). ClientRefines place target job pages (protocol_after_turn target.task (turn protocol.notes (frame_ended_by target.task protocol.notes.file protocol.history (Some status)).next) (frame_ended_by target.task protocol.notes.file protocol.history (Some status)).history) (finish_in y job.task m (abstract_status status))) (sym i.stage)
+    subst (λ (y : Option Status). ClientRefines place target job pages (protocol_after_turn target.task (turn protocol.notes (frame_ended_by target.task protocol.notes.file protocol.history y).next) (frame_ended_by target.task protocol.notes.file protocol.history y).history) (finish_in m.stage job.task m status)) (sym e)
+    (subst (λ (y : model.JobStage). ClientRefines place target job pages (protocol_after_turn target.task (turn protocol.notes (frame_ended_by target.task protocol.notes.file protocol.history (Some status)).next) (frame_ended_by target.task protocol.notes.file protocol.history (Some status)).history) (finish_in y job.task m status)) (sym i.stage)
     (settled_reads (onto x (frame_ended_by target.task protocol.notes.file protocol.history (Some status)).history) target (turn protocol.notes (frame_ended_by target.task protocol.notes.file protocol.history (Some status)).next) _
     (ends_by x target.task protocol.notes m i status t h scan at_image.0 r.files s.0)
     (later_apt target (frame_ended_by target.task protocol.notes.file protocol.history (Some status)).next protocol.notes (end_later target protocol.notes target.task protocol.notes.file protocol.history (Some status)))))

@@ -32,7 +32,6 @@ use Rattle.net_client.proofs.Ending.{ended_gives_by}
 use Rattle.system_model.specs.AbstractMessages as words
 use Rattle.system_model.specs.Client as model
 use Rattle.system_model.specs.ClientReplies.{client_after_bytes, finish_in, client_after_stop}
-use Rattle.system_model.specs.Devices.{abstract_status}
 use Rattle.client_refines.specs.ClientRefinement.{task_of, parts, wholes, OutcomeRefines, ClientRefines}
 use Rattle.client_refines.specs.FrameRefinement.{protocol_after_bytes_by}
 use Rattle.client_refines.specs.PieceRefinement as pieces
@@ -159,8 +158,8 @@ closes place job pages old new past n sent m None e t count a r serves protocol 
         serves = serves;
         given_is = ended_gives_by old.target.task old.notes.file past (status_of n);
         reads =
-            subst (λ (y : JoinHistory). ClientRefines place old.target job pages (protocol_of new y) (client_after_stop words.IoError words.Malformed m)) (sym (ap (λ (f : FrameEnd). f.history) is))
-            (ends_so place old.target job pages (protocol_of old past) new m statuses.IoError whys.Malformed words.Malformed refl a.running outcome r);
+            subst (λ (y : JoinHistory). ClientRefines place old.target job pages (protocol_of new y) (client_after_stop statuses.IoError whys.Malformed m)) (sym (ap (λ (f : FrameEnd). f.history) is))
+            (ends_so place old.target job pages (protocol_of old past) new m statuses.IoError whys.Malformed a.running outcome r);
       },
       let s : [] ≡ sent = cc in sym s,
     )
@@ -171,11 +170,11 @@ closes place job pages old new past n sent m (Some status) e t count a r serves 
       stands = record {
         serves = serves;
         given_is = ended_gives_by old.target.task old.notes.file past (status_of n);
-        reads = subst (λ (y : ProtocolState). ClientRefines place old.target job pages y (finish_in m.stage job.task m (abstract_status status))) (sym protocol) h;
+        reads = subst (λ (y : ProtocolState). ClientRefines place old.target job pages y (finish_in m.stage job.task m status)) (sym protocol) h;
       };
       spells =
-          subst (λ (y : ProtocolState). SpellsSentAt old.target y.notes.word y.progress sent job (finish_in m.stage job.task m (abstract_status status))) (sym protocol)
-          (subst (λ (word : ℕ). SpellsSentAt old.target word (next_progress end.next) sent job (finish_in m.stage job.task m (abstract_status status))) (sym (next_word old.notes end.next))
+          subst (λ (y : ProtocolState). SpellsSentAt old.target y.notes.word y.progress sent job (finish_in m.stage job.task m status)) (sym protocol)
+          (subst (λ (word : ℕ). SpellsSentAt old.target word (next_progress end.next) sent job (finish_in m.stage job.task m status)) (sym (next_word old.notes end.next))
           (settled_spells (record { place = place; job = job; pages = pages; history = end.history }) old.target end.next old.notes _ sent t (end_is_later old.target old.notes past n) h said));
     }
 
@@ -218,8 +217,8 @@ starved place job pages old new past now piece f given more phase m a u most r b
       serves = serves;
       given_is = ap (λ (y : JoinHistory). y.given) is;
       reads =
-          other_past place old.target job pages new (with_payload past f given) now (client_after_stop words.NoMem words.Memory (client_after_bytes m.stage m given)) statuses.NoMem whys.Memory n (ap (λ (y : JoinHistory). y.ended) is)
-          (ends_so place old.target job pages (protocol_of old (with_payload past f given)) new (client_after_bytes m.stage m given) statuses.NoMem whys.Memory words.Memory refl a.running n read);
+          other_past place old.target job pages new (with_payload past f given) now (client_after_stop statuses.NoMem whys.Memory (client_after_bytes m.stage m given)) statuses.NoMem whys.Memory n (ap (λ (y : JoinHistory). y.ended) is)
+          (ends_so place old.target job pages (protocol_of old (with_payload past f given)) new (client_after_bytes m.stage m given) statuses.NoMem whys.Memory a.running n read);
     })
 
 long_reads : (place : DeviceInfo → ℕ) (job : model.AbstractJob) (pages : List (List Frame)) (old new : ClientState) (past : JoinHistory) (f : Frame) (bytes : List ℕ) (fault : JoinFault) (m : model.ClientView) → At old past → past.under ≡ Some f

@@ -27,11 +27,9 @@ use Rattle.net_client.specs.ClientStates.{ClientState, protocol_of, ClientRepres
 use Rattle.client_replies.specs.ProtocolStates.{ProtocolState, HistoryFits, NextFits, next_outcome, next_progress, heard_at, after_reply, is_running}
 use Rattle.net_client.specs.ReplyPieces.{HearsReplies, IsReply, awaited_procedure, HasHeard, Whole, Garbled, OutOfMemoryBehind, OutOfMemoryAtOnce}
 use Rattle.client_replies.proofs.Fitting.{answer_fits}
-use Rattle.system_model.specs.AbstractMessages as words
 use Rattle.system_model.specs.Client as model
 use Rattle.system_model.specs.ClientReplies.{hear_in, client_after_stop}
-use Rattle.system_model.specs.Devices.{abstract_status}
-use Rattle.client_refines.specs.DecodedReplies.{DecodedReply, Before, Says, Demands, decoded_reply_at, HasShortArray, IsShortAt, why_of}
+use Rattle.client_refines.specs.DecodedReplies.{DecodedReply, Before, Says, Demands, decoded_reply_at, HasShortArray, IsShortAt}
 use Rattle.client_refines.specs.ClientRefinement.{task_of, OutcomeRefines, ClientRefines}
 use Rattle.client_refines.specs.Replies.{HeardAs}
 use Rattle.client_refines.specs.ClientLives.{stopped_by}
@@ -176,12 +174,12 @@ silence : (target : JobTarget) → SpellsSent target [] []
 silence target = record { requests = []; text = refl; same = tt }
 
 -- of a job that ran, and has ended so, no more is read than that
-pub ends_so : (place : DeviceInfo → ℕ) (target : JobTarget) (job : model.AbstractJob) (pages : List (List Frame)) (protocol : ProtocolState) (new : ClientState) (m : model.ClientView) (status : Status) (why : Why) (w : words.Why) → why_of why ≡ Some w
-    → protocol.outcome ≡ Running → new.outcome ≡ Ended status why → ClientRefines place target job pages protocol m → ClientRefines place target job pages (protocol_of new protocol.history) (client_after_stop (abstract_status status) w m)
-ends_so place target job pages protocol new m status why w e o n r =
-    let h : ClientRefines place target job pages (stopped_by status why protocol Running) (client_after_stop (abstract_status status) w m) =
-    subst (λ (y : Outcome). ClientRefines place target job pages (stopped_by status why protocol y) (client_after_stop (abstract_status status) w m)) o (stops_alike place target job pages protocol m status why w e r) in
-    record { files = h.files; stands = subst (λ (y : Outcome). OutcomeRefines place target job pages y new.progress new.notes protocol.history (client_after_stop (abstract_status status) w m)) (sym n) h.stands }
+pub ends_so : (place : DeviceInfo → ℕ) (target : JobTarget) (job : model.AbstractJob) (pages : List (List Frame)) (protocol : ProtocolState) (new : ClientState) (m : model.ClientView) (status : Status) (why : Why)
+    → protocol.outcome ≡ Running → new.outcome ≡ Ended status why → ClientRefines place target job pages protocol m → ClientRefines place target job pages (protocol_of new protocol.history) (client_after_stop status why m)
+ends_so place target job pages protocol new m status why o n r =
+    let h : ClientRefines place target job pages (stopped_by status why protocol Running) (client_after_stop status why m) =
+    subst (λ (y : Outcome). ClientRefines place target job pages (stopped_by status why protocol y) (client_after_stop status why m)) o (stops_alike place target job pages protocol m status why r) in
+    record { files = h.files; stands = subst (λ (y : Outcome). OutcomeRefines place target job pages y new.progress new.notes protocol.history (client_after_stop status why m)) (sym n) h.stands }
 
 hears_all : (place : DeviceInfo → ℕ) (job : model.AbstractJob) (pages : List (List Frame)) (old was : ClientState) (past : JoinHistory) (piece : List ℕ) (m : model.ClientView) (Holds : ListeningClient → Type 0) (h : HasHeard old past piece was)
     → job.task ≡ task_of old.target.task → is_running old.outcome ≡ true → ClientRepresents past old → ClientRefines place old.target job pages (protocol_of old past) m
@@ -195,9 +193,9 @@ pub all_heard : PiecesAreHeardAlike
 all_heard place job pages old new past piece m t o s r (Whole h wants) = hears_all place job pages old new past piece m _ h t o s r (λ n f. f)
 all_heard place job pages old new past piece m t o s r (Garbled was h runs g) =
     hears_all place job pages old was past piece m _ h t o s r
-    (λ n f. (f, ends_so place old.target job pages (protocol_of was h.history_then) new n.client statuses.IoError whys.Malformed words.Malformed refl (runs_is was.outcome runs) (ap (λ (v : ClientState). v.outcome) g.ends) f.reads))
+    (λ n f. (f, ends_so place old.target job pages (protocol_of was h.history_then) new n.client statuses.IoError whys.Malformed (runs_is was.outcome runs) (ap (λ (v : ClientState). v.outcome) g.ends) f.reads))
 all_heard place job pages old new past piece m t o s r (OutOfMemoryBehind was h runs x) =
     hears_all place job pages old was past piece m _ h t o s r
-    (λ n f. (f, ends_so place old.target job pages (protocol_of was h.history_then) new n.client statuses.NoMem whys.Memory words.Memory refl (runs_is was.outcome runs) x.starved.outcome f.reads))
+    (λ n f. (f, ends_so place old.target job pages (protocol_of was h.history_then) new n.client statuses.NoMem whys.Memory (runs_is was.outcome runs) x.starved.outcome f.reads))
 all_heard place job pages old new past piece m t o s r (OutOfMemoryAtOnce x) =
-    ends_so place old.target job pages (protocol_of old past) new m statuses.NoMem whys.Memory words.Memory refl (runs_is old.outcome o) x.starved.outcome r
+    ends_so place old.target job pages (protocol_of old past) new m statuses.NoMem whys.Memory (runs_is old.outcome o) x.starved.outcome r

@@ -64,11 +64,11 @@ waits_ask target job progress notes past m a w k = (asks_alike target job progre
 
 next_asks : (x : Side) (target : JobTarget) (next : Next) (notes : Notes) (m : model.ClientView) → x.job.task ≡ task_of target.task → IsAsked target next notes → NextAs x target.task next notes m → AreAsked target notes.word x.job next m
 next_asks x target (Wait progress) notes m t a n =
-    subst (λ (y : model.Task). AreRequests target (request_list (request_for target notes.word progress)) (asks_of notes.word m.known (model.requests_sent y m.stage))) (sym t) (waits_ask target x.job progress notes x.history m a n.1 n.0.descriptors)
+    subst (λ (y : model.AbstractTask). AreRequests target (request_list (request_for target notes.word progress)) (asks_of notes.word m.known (model.requests_sent y m.stage))) (sym t) (waits_ask target x.job progress notes x.history m a n.1 n.0.descriptors)
 next_asks x target (Finish devices) notes m t a n =
     subst (λ (s : model.JobStage). AreRequests target (goodbye target.task notes.word) (asks_of notes.word m.known (model.requests_sent x.job.task s))) (sym n.stage)
-    (subst (λ (y : model.Task). AreRequests target (goodbye target.task notes.word) (asks_of notes.word m.known (model.abstract_goodbye y))) (sym t) (goodbyes_alike target notes.word m.known))
-next_asks x target (Stop status why) notes m t a n = subst (λ (s : model.JobStage). AreRequests target [] (asks_of notes.word m.known (model.requests_sent x.job.task s))) (sym n.1.1) tt
+    (subst (λ (y : model.AbstractTask). AreRequests target (goodbye target.task notes.word) (asks_of notes.word m.known (model.abstract_goodbye y))) (sym t) (goodbyes_alike target notes.word m.known))
+next_asks x target (Stop status why) notes m t a n = subst (λ (s : model.JobStage). AreRequests target [] (asks_of notes.word m.known (model.requests_sent x.job.task s))) (sym n) tt
 
 -- ---- by the decoded reply of a reply
 
@@ -114,7 +114,7 @@ turning_spells : (target : JobTarget) (job : model.AbstractJob) (notes : Notes) 
     → Some [] ≡ Some sent → SpellsSentAt target notes.word stages.Turning sent job m
 turning_spells target job notes past m sent t w k e = (
   let s : [] ≡ sent = cc in sym s,
-  ap (λ (y : model.Task). model.requests_sent y m.stage) t ∙ (asks_alike target job stages.Turning notes past m w tt k).requests.1,
+  ap (λ (y : model.AbstractTask). model.requests_sent y m.stage) t ∙ (asks_alike target job stages.Turning notes past m w tt k).requests.1,
 )
 
 wait_spells : (x : Side) (target : JobTarget) (progress : Progress) (notes : Notes) (m : model.ClientView) (sent : List ℕ) → x.job.task ≡ task_of target.task → IsLater target (Wait progress) notes → NextAs x target.task (Wait progress) notes m

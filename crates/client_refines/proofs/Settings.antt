@@ -52,8 +52,8 @@ all_put x tasks.SetOnly notes m f k b = (f, record { stage = refl; settings = k.
 all_put x tasks.Scan notes m f k b = (f, (k, (refl, sym (ap is_nil b.1))))
 all_put x (tasks.Batch count) notes m f k b = (f, (k, (refl, sym (ap is_nil b.1))))
 
-bad : (x : Side) (task : Task) (notes : Notes) (m : model.ClientView) → FilesAs x m → Goes x task (turn notes stop_bad_setting) (model.with_ending words.Inval words.Setting m)
-bad x task notes m f = ends x task notes m statuses.Inval whys.Setting words.Setting refl f
+bad : (x : Side) (task : Task) (notes : Notes) (m : model.ClientView) → FilesAs x m → Goes x task (turn notes stop_bad_setting) (model.with_ending statuses.Inval whys.Setting m)
+bad x task notes m f = ends x task notes m statuses.Inval whys.Setting f
 
 abbrev read_of : List ℕ → ℕ → Option Descriptor → Option (ℕ × Value)
 read_of text n desc = desc >>= (λ d. read_value d text >>= (λ asked. Some (n, asked)))
@@ -106,7 +106,7 @@ resolve_is known requested = refl
 sets_next : (x : Side) (task : Task) (notes : Notes) (m : model.ClientView) (left : List (List ℕ × List ℕ)) → x.job.task ≡ task_of task → FilesAs x m → KnowsAs task x.pages notes m → Early notes m
     → Goes x task (next_of task notes left) (record m { stage = model.stage_of_next_setting x.job.task m.known (map requested_setting left) })
 sets_next x task notes m [] t f k b =
-    subst (λ (y : model.Task). Goes x task (turn notes (after_settings task notes.known)) (record m { stage = model.stage_after_settings y m.known })) (sym t) (all_put x task notes m f k b)
+    subst (λ (y : model.AbstractTask). Goes x task (turn notes (after_settings task notes.known)) (record m { stage = model.stage_after_settings y m.known })) (sym t) (all_put x task notes m f k b)
 sets_next x task notes m (setting ∷ left) t f k b =
     let stays : Notes = record notes { left = left } in
     let e : resolve_setting m.known (requested_setting setting) ≡ found_of setting.1 (descs notes.known) (option_number_of setting.0 notes.known) =
@@ -145,7 +145,7 @@ describes x task notes m r short t f k b = awry_ends x task notes m f
 
 -- ---- SET
 
-more_answers : (puts : List Report) (reports : List words.Report) (p : Report) (r : words.Report) → map common_abstract_report reports ≡ map common_report puts → common_abstract_report r ≡ common_report p → map common_abstract_report (reports ++ r ∷ []) ≡ map common_report (puts ++ p ∷ [])
+more_answers : (puts : List Report) (reports : List words.AbstractReport) (p : Report) (r : words.AbstractReport) → map common_abstract_report reports ≡ map common_report puts → common_abstract_report r ≡ common_report p → map common_abstract_report (reports ++ r ∷ []) ≡ map common_report (puts ++ p ∷ [])
 more_answers puts reports p r e h =
     map-append common_abstract_report reports (r ∷ []) ∙ ap (λ (ps : List CommonReport). ps ++ common_abstract_report r ∷ []) e ∙ ap (λ (q : CommonReport). map common_report puts ++ q ∷ []) h ∙ sym (map-append common_report puts (p ∷ []))
 

@@ -17,8 +17,7 @@ use Rattle.client_replies.specs.ProtocolStates.{reports_of, next_outcome, next_p
 use Rattle.system_model.specs.AbstractMessages as words
 use Rattle.system_model.specs.Client as model
 use Rattle.system_model.specs.ClientReplies.{hear_at}
-use Rattle.system_model.specs.Devices.{abstract_status}
-use Rattle.client_refines.specs.DecodedReplies.{DecodedReply, Before, Says, Demands, reply_if_good, why_of}
+use Rattle.client_refines.specs.DecodedReplies.{DecodedReply, Before, Says, Demands, reply_if_good}
 use Rattle.client_refines.specs.ClientRefinement.{parts, wholes, Files, KnowsAs, WaitsAs, DoneAs, EndedAs, OutcomeRefines, ClientRefines}
 use Rattle.client_replies.specs.declared.progress.JobTarget.{JobTarget}
 use Rattle.client_refines.proofs.Apt.{NextApt}
@@ -63,20 +62,20 @@ settled_reads x target t m g a = record { files = g.0; stands = next_stands x ta
 
 -- ---- endings
 
-pub ends : (x : Side) (task : Task) (notes : Notes) (m : model.ClientView) (status : Status) (why : Why) (w : words.Why) → why_of why ≡ Some w → FilesAs x m
-    → Goes x task (turn notes (Stop status why)) (model.with_ending (abstract_status status) w m)
-ends x task notes m status why w e f = (f, (w, (e, refl)))
+pub ends : (x : Side) (task : Task) (notes : Notes) (m : model.ClientView) (status : Status) (why : Why) → FilesAs x m
+    → Goes x task (turn notes (Stop status why)) (model.with_ending status why m)
+ends x task notes m status why f = (f, refl)
 
 pub awry_ends : (x : Side) (task : Task) (notes : Notes) (m : model.ClientView) → FilesAs x m → Goes x task (turn notes stop_malformed) (model.with_malformed m)
-awry_ends x task notes m f = ends x task notes m statuses.IoError whys.Malformed words.Malformed refl f
+awry_ends x task notes m f = ends x task notes m statuses.IoError whys.Malformed f
 
 abbrev pub Refuses : model.AbstractProgress → model.AbstractJob → model.ClientView → Type 0
-Refuses g job m = (s : words.Status) → hear_at g job m (words.Refused s) ≡ model.with_ending s words.Answer m
+Refuses g job m = (s : Status) → hear_at g job m (words.Refused s) ≡ model.with_ending s whys.Answer m
 
 pub refused : (x : Side) (task : Task) (notes : Notes) (m : model.ClientView) (g : model.AbstractProgress) (status : Status) → Refuses g x.job m → FilesAs x m
-    → Goes x task (turn notes (stop_by_answer status)) (hear_at g x.job m (words.Refused (abstract_status status)))
+    → Goes x task (turn notes (stop_by_answer status)) (hear_at g x.job m (words.Refused status))
 refused x task notes m g status r f =
-    subst (λ (n : model.ClientView). Goes x task (turn notes (stop_by_answer status)) n) (sym (r (abstract_status status))) (ends x task notes m status whys.Answer words.Answer refl f)
+    subst (λ (n : model.ClientView). Goes x task (turn notes (stop_by_answer status)) n) (sym (r status)) (ends x task notes m status whys.Answer f)
 
 pub good_hears : (x : Side) (task : Task) (notes : Notes) (m : model.ClientView) (g : model.AbstractProgress) (status : Status) (next : Next) (answer : words.AbstractReply) → Refuses g x.job m → FilesAs x m
     → Goes x task (turn notes next) (hear_at g x.job m answer) → Hears x task (turn notes (if_good status next)) m g (reply_if_good status answer)

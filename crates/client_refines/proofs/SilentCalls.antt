@@ -13,7 +13,6 @@ use Rattle.client_replies.specs.ProtocolStates.{ProtocolState, target_of, is_los
 use Rattle.net_client.specs.Sending.{requests_text}
 use Rattle.net_client.specs.ClientStates.{ClientState, protocol_of, after_client_end}
 use Rattle.frame_join.specs.FrameHistory.{empty_history}
-use Rattle.system_model.specs.AbstractMessages as words
 use Rattle.system_model.specs.Client as model
 use Rattle.client_refines.specs.ClientRefinement.{OutcomeRefines, ClientRefines}
 use Rattle.client_refines.specs.Calls.{NewClientsAreAlike, CancelsAreAlike, LossesAreAlike, ConnectionsAreUnseen}
@@ -42,7 +41,7 @@ cancelled_alike place job pages old new past m runs e text r =
         text = said.1;
         same = (asks_alike old.target job old.progress old.notes past m s.1 s.2 s.0.descriptors).farewells;
       },
-      ends_so place old.target job pages (protocol_of old past) new m statuses.Cancelled whys.Cancelled words.Cancelled refl running (ap (λ (v : ClientState). v.outcome) e) r,
+      ends_so place old.target job pages (protocol_of old past) new m statuses.Cancelled whys.Cancelled running (ap (λ (v : ClientState). v.outcome) e) r,
     )
 
 lost_runs : (link : Link) (o : Outcome) (p : Progress) → is_lost_by link o p ≡ true → o ≡ Running
@@ -53,7 +52,7 @@ lost_runs links.Image (Ended status why) p e = absurd (let clash : false ≡ tru
 
 pub lost_alike : LossesAreAlike
 lost_alike place job pages old link past m e r =
-    ends_so place old.target job pages (protocol_of old past) (after_client_end statuses.IoError whys.Lost old) m statuses.IoError whys.Lost words.Lost refl (lost_runs link old.outcome old.progress e) refl r
+    ends_so place old.target job pages (protocol_of old past) (after_client_end statuses.IoError whys.Lost old) m statuses.IoError whys.Lost (lost_runs link old.outcome old.progress e) refl r
 
 pub connected_unseen : ConnectionsAreUnseen
 connected_unseen place job pages old past m r = (pulls_unseen place old.target job pages (protocol_of old past) m [] r).1

@@ -44,7 +44,7 @@ CancelsAreAlike =
     → (sent : List ℕ) × (new.out ≡ old.out ++ sent)
     × SpellsSent old.target sent (asks_of old.notes.word m.known (model.abstract_farewell m.stage))
     × ClientRefines place old.target job pages (protocol_of new past)
-    (client_after_stop words.GivenUp words.Cancelled m)
+    (client_after_stop statuses.Cancelled whys.Cancelled m)
 
 -- a link that counts is lost
 abbrev pub LossesAreAlike : Type 0
@@ -54,7 +54,7 @@ LossesAreAlike =
     → is_lost_by link old.outcome old.progress ≡ true
     → ClientRefines place old.target job pages (protocol_of old past) m
     → ClientRefines place old.target job pages (protocol_of (after_client_end statuses.IoError whys.Lost old) past)
-    (client_after_stop words.IoError words.Lost m)
+    (client_after_stop statuses.IoError whys.Lost m)
 
 -- the data connection is made
 abbrev pub ConnectionsAreUnseen : Type 0

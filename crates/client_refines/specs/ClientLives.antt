@@ -10,11 +10,8 @@ use Rattle.scan_job.specs.declared.outcome.Why.{Why}
 use Rattle.client_replies.specs.declared.progress.JobTarget.{JobTarget}
 use Rattle.client_replies.specs.declared.progress.Progress.TheVariants as stages
 use Rattle.client_replies.specs.ProtocolStates.{ProtocolState, progress_connected}
-use Rattle.system_model.specs.AbstractMessages as words
 use Rattle.system_model.specs.Client as model
 use Rattle.system_model.specs.ClientReplies.{client_after_stop}
-use Rattle.system_model.specs.Devices.{abstract_status}
-use Rattle.client_refines.specs.DecodedReplies.{why_of}
 use Rattle.client_refines.specs.ClientRefinement.{requested_setting, ClientRefines, DoneAs, EndedAs}
 use Rattle.scan_job.specs.declared.job.Task.{Task}
 use Rattle.scan_job.specs.declared.report.Reports.{Reports}
@@ -49,10 +46,10 @@ stopped_by status why protocol (Ended earlier reason) = protocol
 abbrev pub JobsStopAlike : Type 0
 JobsStopAlike =
     (place : DeviceInfo → ℕ) (target : JobTarget) (job : model.AbstractJob) (pages : List (List Frame))
-    (protocol : ProtocolState) (m : model.ClientView) (status : Status) (why : Why) (w : words.Why)
-    → why_of why ≡ Some w → ClientRefines place target job pages protocol m
+    (protocol : ProtocolState) (m : model.ClientView) (status : Status) (why : Why)
+    → ClientRefines place target job pages protocol m
     → ClientRefines place target job pages (stopped_by status why protocol protocol.outcome)
-    (client_after_stop (abstract_status status) w m)
+    (client_after_stop status why m)
 
 -- ---- what no rule speaks of: bytes of the file that are taken, and the image connection at the client
 
@@ -74,8 +71,7 @@ pub record EndAlike (place : DeviceInfo → ℕ) (task : Task) (outcome : Outcom
   pub ended : (status : Status) (why : Why) → outcome ≡ Ended status why → EndedAs status why m
   pub runs_by : (progress : model.AbstractProgress) → m.stage ≡ model.Running progress → outcome ≡ Running
   pub done_by : m.stage ≡ model.Done → (reports : Reports) × (outcome ≡ Done reports)
-  pub ended_by : (status : words.Status) (why : words.Why) → m.stage ≡ model.Ended status why
-      → (s : Status) × (w : Why) × (outcome ≡ Ended s w) × (abstract_status s ≡ status) × (why_of w ≡ Some why)
+  pub ended_by : (status : Status) (why : Why) → m.stage ≡ model.Ended status why → outcome ≡ Ended status why
 
 abbrev pub OutcomesAreAlike : Type 0
 OutcomesAreAlike =

@@ -27,10 +27,9 @@ use Rattle.client_replies.specs.ReplyTurns.{wants_value}
 use Rattle.client_replies.specs.ProtocolStates.{ProtocolState, shows, is_batch}
 use Rattle.system_model.specs.AbstractMessages as words
 use Rattle.system_model.specs.Client as model
-use Rattle.system_model.specs.Devices.{abstract_status, abstract_info}
-use Rattle.client_refines.specs.DecodedReplies.{why_of}
+use Rattle.system_model.specs.Devices.{abstract_info}
 
-abbrev pub task_of : Task → model.Task
+abbrev pub task_of : Task → model.AbstractTask
 task_of tasks.List = model.List_
 task_of tasks.Show = model.Show
 task_of tasks.SetOnly = model.SetOnly
@@ -45,12 +44,12 @@ pub record CommonReport : Type 0 where
   pub name : List ℕ
   pub asked : Value
   pub given : Value
-  pub info : words.Info
+  pub info : words.AbstractInfo
 
 abbrev pub common_report : Report → CommonReport
 common_report r = record { name = r.name; asked = r.asked; given = r.given; info = abstract_info r.info }
 
-abbrev pub common_abstract_report : words.Report → CommonReport
+abbrev pub common_abstract_report : words.AbstractReport → CommonReport
 common_abstract_report r = record { name = r.setting.name; asked = r.asked; given = r.given; info = r.info }
 
 -- the descriptors of options, and their values as far as they were told
@@ -115,7 +114,8 @@ is_nil (f ∷ more) = false
 -- come.
 pub record Knows (task : Task) (pages : List (List Frame)) (puts : List Report)
     (options : List (Descriptor × Option Value)) (file : ℕ)
-    (reports : List words.Report) (devices : List ℕ) (known : List Descriptor) (values : List Value) : Type 0 where
+    (reports : List words.AbstractReport) (devices : List ℕ) (known : List Descriptor)
+    (values : List Value) : Type 0 where
   pub answers : map common_abstract_report reports ≡ map common_report puts
   pub none : devices ≡ []
   pub descriptors : known ≡ descs options
@@ -206,7 +206,7 @@ pub record DoneAs (place : DeviceInfo → ℕ) (task : Task) (reports : Reports)
   pub options : ShowRefines (shows task) reports.options m
 
 abbrev pub EndedAs : Status → Why → model.ClientView → Type 0
-EndedAs status why m = (w : words.Why) × ((why_of why ≡ Some w) × (m.stage ≡ model.Ended (abstract_status status) w))
+EndedAs status why m = m.stage ≡ model.Ended status why
 
 -- ---- the reading
 

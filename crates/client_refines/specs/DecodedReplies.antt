@@ -15,7 +15,7 @@ use Rattle.client_replies.specs.declared.progress.Progress.TheVariants as stages
 use Rattle.client_replies.specs.ReplyTurns.{of_kind}
 use Rattle.client_replies.specs.GivenValues.{given_like, wire_value_in}
 use Rattle.system_model.specs.AbstractMessages as words
-use Rattle.system_model.specs.Devices.{abstract_status, abstract_info}
+use Rattle.system_model.specs.Devices.{abstract_info}
 
 -- **decoded reply (`DecodedReply`, `decoded_reply_at`)**: what a reply of the wire is to the model, by what the client
 -- waits for: an answer; the word of AUTHORIZE, that goes before one; or that the password itself is asked for, for
@@ -32,7 +32,7 @@ mismatched_reply = Says words.Acked
 
 abbrev pub reply_if_good : Status → words.AbstractReply → DecodedReply
 reply_if_good statuses.Good answer = Says answer
-reply_if_good status answer = Says (words.Refused (abstract_status status))
+reply_if_good status answer = Says (words.Refused status)
 
 -- a resource with a challenge in it is what the model calls a challenge; one with none asks for the password
 abbrev pub challenge_reply : List ℕ → Option (List ℕ) → DecodedReply
@@ -94,16 +94,3 @@ HasShortArray reply = Unit {0}
 abbrev pub IsShortAt : Progress → Reply → Type 0
 IsShortAt stages.Describing reply = HasShortArray reply
 IsShortAt progress reply = Unit {0}
-
--- why a job ended; the model has no output
-abbrev pub why_of : Why → Option words.Why
-why_of whys.Answer = Some words.Answer
-why_of whys.Cancelled = Some words.Cancelled
-why_of whys.Lost = Some words.Lost
-why_of whys.Malformed = Some words.Malformed
-why_of whys.Short = Some words.Short
-why_of whys.Long = Some words.Long
-why_of whys.Setting = Some words.Setting
-why_of whys.Plain = Some words.Plain
-why_of whys.Memory = Some words.Memory
-why_of whys.Sink = None

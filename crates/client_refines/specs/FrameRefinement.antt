@@ -16,7 +16,6 @@ use Rattle.client_replies.specs.ProtocolStates.{ProtocolState, HistoryFits, prot
 use Rattle.scan_job.specs.JobSize.{HasCount}
 use Rattle.system_model.specs.Client as model
 use Rattle.system_model.specs.ClientReplies.{client_after_bytes, finish_in}
-use Rattle.system_model.specs.Devices.{abstract_status}
 use Rattle.client_refines.specs.ClientRefinement.{task_of, ClientRefines}
 
 -- ---- the data of a frame
@@ -59,7 +58,7 @@ FramesEndAlike =
     → protocol.outcome ≡ Running → HistoryFits target.task Running protocol.progress protocol.history
     → ClientRefines place target job pages protocol m
     → ClientRefines place target job pages (protocol_after_end target.task protocol n)
-    (finish_in m.stage job.task m (abstract_status status))
+    (finish_in m.stage job.task m status)
 
 -- ---- the next page of a batch: the model asked for it already
 

@@ -26,7 +26,6 @@ use Rattle.net_client.specs.FramePieces.{Receives}
 use Rattle.system_model.specs.AbstractMessages as words
 use Rattle.system_model.specs.Client as model
 use Rattle.system_model.specs.ClientReplies.{hear_in, client_after_bytes, finish_in, client_after_stop}
-use Rattle.system_model.specs.Devices.{abstract_status}
 use Rattle.client_refines.specs.DecodedReplies.{DecodedReply, Before, Says, Demands, decoded_reply_at}
 use Rattle.client_refines.specs.ClientRefinement.{task_of, ClientRefines}
 use Rattle.client_refines.specs.Replies.{client_refusing}
@@ -99,16 +98,16 @@ HeedsAs place job pages m old past piece new (Garbled was h runs g) =
     HearingAll place old.target job (protocol_of old past) h.told
     (λ n. ListeningRefines place old.target job pages (protocol_of was h.history_then) n.client h.sent n.asks
     × ClientRefines place old.target job pages (protocol_of new h.history_then)
-    (client_after_stop words.IoError words.Malformed n.client))
+    (client_after_stop statuses.IoError whys.Malformed n.client))
     (new_listening_client m)
 HeedsAs place job pages m old past piece new (OutOfMemoryBehind was h runs s) =
     HearingAll place old.target job (protocol_of old past) h.told
     (λ n. ListeningRefines place old.target job pages (protocol_of was h.history_then) n.client h.sent n.asks
     × ClientRefines place old.target job pages (protocol_of new h.history_then)
-    (client_after_stop words.NoMem words.Memory n.client))
+    (client_after_stop statuses.NoMem whys.Memory n.client))
     (new_listening_client m)
 HeedsAs place job pages m old past piece new (OutOfMemoryAtOnce s) =
-    ClientRefines place old.target job pages (protocol_of new past) (client_after_stop words.NoMem words.Memory m)
+    ClientRefines place old.target job pages (protocol_of new past) (client_after_stop statuses.NoMem whys.Memory m)
 
 abbrev pub PiecesAreHeardAlike : Type 0
 PiecesAreHeardAlike =
@@ -146,10 +145,10 @@ pub record EndRecordRefines (place : DeviceInfo → ℕ) (target : JobTarget) (j
 abbrev pub EndByteRefines : (DeviceInfo → ℕ) → JobTarget → model.AbstractJob → List (List Frame) → List ℕ → JoinHistory
     → ClientState → model.ClientView → List ℕ → Option Status → Type 0
 EndByteRefines place target job pages given past new m sent None =
-    RefinesWithGiven place target job pages given past new (client_after_stop words.IoError words.Malformed m)
+    RefinesWithGiven place target job pages given past new (client_after_stop statuses.IoError whys.Malformed m)
     × (sent ≡ [])
 EndByteRefines place target job pages given past new m sent (Some status) =
-    EndRecordRefines place target job pages given past new (finish_in m.stage job.task m (abstract_status status)) sent
+    EndRecordRefines place target job pages given past new (finish_in m.stage job.task m status) sent
 
 -- What comes of a piece: bytes of the frame, and of these more than it may have, behind which no more is read; an end
 -- behind them; or out of memory behind a front of them. Of the file nothing more is given.
@@ -171,7 +170,7 @@ pub data ReceivesPiece (place : DeviceInfo → ℕ) (job : model.AbstractJob) (p
       → RecordsBring old.phase phase piece (given ++ more) → new.out ≡ old.out
       → new.outcome ≡ Ended statuses.NoMem whys.Memory
       → RefinesWithGiven place old.target job pages was.given past new
-      (client_after_stop words.NoMem words.Memory (client_after_bytes m.stage m given))
+      (client_after_stop statuses.NoMem whys.Memory (client_after_bytes m.stage m given))
       → ReceivesPiece place job pages m old was piece new
 
 abbrev pub PiecesAreReceivedAlike : Type 0

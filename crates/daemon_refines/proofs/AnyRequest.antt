@@ -131,16 +131,7 @@ awaited_call_is i make users d table s aw sent place (requests.Authorize resourc
     let judged = judged_here (MayOpen users aw resource user password) (same_text is.0 sent) (x place).allows (now place).allows sent (sym (allowed_by x call.place place (eqb place call.place) refl)) is.2 in
     subst (λ (c : AddressedRequest). Agrees i make (manner d 0) (requests.Authorize resource user password) (answer_call i make table s now (Some (sent, place)) c) said new) (ap (λ (r : AbstractRequest). record { request = r; word = call.word; place = call.place }) (sym is.1))
     (authorize_agrees i make users d table s aw resource user password is.0 sent 0 place call.place said new now old e f judged g)
-awaited_call_is i make users d table s aw sent place (requests.Init version user) call x said new old e f is g = other_call i make d table s sent place (requests.Init version user) call x said new old is g
-awaited_call_is i make users d table s aw sent place requests.GetDevices call x said new old e f is g = other_call i make d table s sent place requests.GetDevices call x said new old is g
-awaited_call_is i make users d table s aw sent place (requests.Open name) call x said new old e f is g = other_call i make d table s sent place (requests.Open name) call x said new old is g
-awaited_call_is i make users d table s aw sent place (requests.Close w) call x said new old e f is g = other_call i make d table s sent place (requests.Close w) call x said new old is g
-awaited_call_is i make users d table s aw sent place (requests.GetOptionDescriptors w) call x said new old e f is g = other_call i make d table s sent place (requests.GetOptionDescriptors w) call x said new old is g
-awaited_call_is i make users d table s aw sent place (requests.ControlOption w n action kind value) call x said new old e f is g = other_call i make d table s sent place (requests.ControlOption w n action kind value) call x said new old is g
-awaited_call_is i make users d table s aw sent place (requests.GetParameters w) call x said new old e f is g = other_call i make d table s sent place (requests.GetParameters w) call x said new old is g
-awaited_call_is i make users d table s aw sent place (requests.Start w) call x said new old e f is g = other_call i make d table s sent place (requests.Start w) call x said new old is g
-awaited_call_is i make users d table s aw sent place (requests.Cancel w) call x said new old e f is g = other_call i make d table s sent place (requests.Cancel w) call x said new old is g
-awaited_call_is i make users d table s aw sent place requests.Exit call x said new old e f is g = other_call i make d table s sent place requests.Exit call x said new old is g
+awaited_call_is i make users d table s aw sent place q call x said new old e f is g = other_call i make d table s sent place q call x said new old is g
 
 -- by what is awaited
 by_awaited : (i : ℕ) (make : ℕ → Make) (users : List Entry) (d : RequestContext) (table : ℕ → AbstractDevice) (s : AbstractSession) (a : Option AwaitedAuthorization) (sent : Option (Challenge × ℕ)) (q : Asked) (call : AddressedRequest) (x : ℕ → Environment) (said : RequestAnswer) (new : RequestContext) → ContextRefines i make d table s → d.session.awaited ≡ a → s.awaited ≡ sent →

@@ -129,8 +129,7 @@ free_call_of i make users d table s (requests.ControlOption w n SetValue kind va
 free_call_of i make users d table s (requests.GetParameters w) said new old g on = inl (call_of Parameters w 0, around false false, (refl, refl))
 free_call_of i make users d table s (requests.Start w) said new old g on = inl (call_of Start w 0, around false false, (refl, refl))
 free_call_of i make users d table s (requests.Cancel w) said new old g on = inl (call_of Cancel w 0, around false false, (refl, refl))
-free_call_of i make users d table s (requests.Authorize resource user password) said new old g on = absurd (ended d new said g on)
-free_call_of i make users d table s requests.Exit said new old g on = absurd (ended d new said g on)
+free_call_of i make users d table s q said new old g on = absurd (ended d new said g on)
 
 -- ---- a session that awaits AUTHORIZE
 
@@ -145,16 +144,7 @@ is_judged may sent false yea nay = record { yes_where = λ m. absurd (nay refl m
 awaited_call_of : (users : List Entry) (d : RequestContext) (table : ℕ → AbstractDevice) (aw : AwaitedAuthorization) (sent : Challenge) (place : ℕ) (q : Asked) (said : RequestAnswer) (new : RequestContext) → AnswersAwaiting users d aw q said new → session_goes_on said ≡ true → CallFor users d table (Some aw) (Some (sent, place)) q
 awaited_call_of users d table aw sent place (requests.Authorize resource user password) said new g on =
     inl (call_of (Authorize sent) 0 0, around false g.allowed, (sent, refl, is_judged (MayOpen users aw resource user password) sent g.allowed g.yes_where g.no_where))
-awaited_call_of users d table aw sent place (requests.Init version user) said new g on = absurd (ended d new said g on)
-awaited_call_of users d table aw sent place requests.GetDevices said new g on = absurd (ended d new said g on)
-awaited_call_of users d table aw sent place (requests.Open name) said new g on = absurd (ended d new said g on)
-awaited_call_of users d table aw sent place (requests.Close w) said new g on = absurd (ended d new said g on)
-awaited_call_of users d table aw sent place (requests.GetOptionDescriptors w) said new g on = absurd (ended d new said g on)
-awaited_call_of users d table aw sent place (requests.ControlOption w n action kind value) said new g on = absurd (ended d new said g on)
-awaited_call_of users d table aw sent place (requests.GetParameters w) said new g on = absurd (ended d new said g on)
-awaited_call_of users d table aw sent place (requests.Start w) said new g on = absurd (ended d new said g on)
-awaited_call_of users d table aw sent place (requests.Cancel w) said new g on = absurd (ended d new said g on)
-awaited_call_of users d table aw sent place requests.Exit said new g on = absurd (ended d new said g on)
+awaited_call_of users d table aw sent place q said new g on = absurd (ended d new said g on)
 
 -- by what is awaited
 free_sent : (users : List Entry) (d : RequestContext) (table : ℕ → AbstractDevice) (sent : Option (Challenge × ℕ)) (q : Asked) → CallFor users d table None None q → CallFor users d table None sent q

@@ -2,7 +2,8 @@
 use Rattle.std.proofs.Common.{inl, inr, ◌⊎◌, ◌≡◌, ◌≢◌, ◌∙◌, ◌<◌, ◌≤◌, ◌+◌, ◌++◌, ℕ, zero, suc, List, [], ◌∷◌, Bool, true, false, Option, Some, None, option_map, refl, sym, ap, subst, take, drop, length, arith, ◌-◌}
 use Rattle.std.proofs.lemmas.List.{drop-drop, length-drop, length-take-le, take-append-drop}
 use Rattle.std.specs.Prelude.{Result, Ok, Err, ◌==◌, if◌then◌else◌}
-use Rattle.sane_fixed.specs.declared.status.Status.{Status as Code}
+use Rattle.sane_fixed.specs.declared.status.Status.TheVariants.{Good, Eof}
+use Rattle.sane_fixed.specs.declared.status.Status.{Status}
 use Rattle.sane_fixed.specs.declared.status.Status.TheVariants as code
 use Rattle.page_picture.specs.Shows.{Frame}
 use Rattle.scan_frames.specs.Frames.{frame_of, frames_of, pass_length, payload}
@@ -14,8 +15,7 @@ use Rattle.device_api.proofs.RunLaws.{length-payload}
 use Rattle.device_api.proofs.SameLaws.{read_same}
 use Rattle.scan_laws.specs.Passes as scan
 use Rattle.scan_laws.proofs.Places.{read_ends, read_in}
-use Rattle.system_model.specs.AbstractMessages.{Eof, Good}
-use Rattle.system_model.specs.Devices.{Make, read_status_of, abstract_status}
+use Rattle.system_model.specs.Devices.{Make, read_status_of}
 use Rattle.system_model.specs.AbstractDevices.{ScanPhase, Resting, Reading, phase_after_frame, ended_phase, read_on, without_prefix}
 use Rattle.system_model.specs.Daemon.{Streaming}
 use Rattle.system_model.specs.SystemStates.{JobState}
@@ -34,7 +34,7 @@ goes_setup (Rest c) s = refl
 goes_setup (Amid ended) s = refl
 goes_setup (Read pass given) s = refl
 
-on_setup : (s t : DeviceState) (pass given : ℕ) (r : Result ℕ Code) (buf : List ℕ) → ReadsOn s pass given r t buf → t.setup ≡ s.setup
+on_setup : (s t : DeviceState) (pass given : ℕ) (r : Result ℕ Status) (buf : List ℕ) → ReadsOn s pass given r t buf → t.setup ≡ s.setup
 on_setup s t pass given (Ok n) buf h = setup_of s t _ h.after refl
 on_setup s t pass given (Err code.Eof) buf h = setup_of s t _ h.1 (goes_setup (after_pass s.setup pass) s)
 on_setup s t pass given (Err code.IoError) buf h = failed_setup s t h.1
@@ -49,16 +49,16 @@ on_setup s t pass given (Err code.CoverOpen) buf h = absurd h
 on_setup s t pass given (Err code.NoMem) buf h = absurd h
 on_setup s t pass given (Err code.AccessDenied) buf h = absurd h
 
-frame_setup : (told : Option Code) (s t : DeviceState) (pass given : ℕ) (r : Result ℕ Code) (buf : List ℕ) → FrameReads told s pass given r t buf → t.setup ≡ s.setup
+frame_setup : (told : Option Status) (s t : DeviceState) (pass given : ℕ) (r : Result ℕ Status) (buf : List ℕ) → FrameReads told s pass given r t buf → t.setup ≡ s.setup
 frame_setup None s t pass given r buf h = on_setup s t pass given r buf h
 frame_setup (Some status) s t pass given r buf h = setup_of s t _ h.1 (goes_setup (after_read_status s.setup pass status) s)
 
-in_setup : (phase : AnyPhase) (s t : DeviceState) (r : Result ℕ Code) (buf : List ℕ) → ReadsIn phase s r t buf → t.setup ≡ s.setup
+in_setup : (phase : AnyPhase) (s t : DeviceState) (r : Result ℕ Status) (buf : List ℕ) → ReadsIn phase s r t buf → t.setup ≡ s.setup
 in_setup (Rest c) s t r buf h = setup_of s t s h.1 refl
 in_setup (Amid ended) s t r buf h = setup_of s t s h.1 refl
 in_setup (Read pass given) s t r buf h = frame_setup (read_status_at s.setup.told given) s t pass given r buf h
 
-pub made_read : (k : Make) (s t : DeviceState) (r : Result ℕ Code) (buf : List ℕ) → IsMade k s → Reads s r t buf → IsMade k t
+pub made_read : (k : Make) (s t : DeviceState) (r : Result ℕ Status) (buf : List ℕ) → IsMade k s → Reads s r t buf → IsMade k t
 made_read k s t r buf made h =
     let same = read_same s t r buf h in
     record {
@@ -95,18 +95,18 @@ waits_phase last (f ∷ more) = refl
 
 told_none : (k : Make) (s : Setup) → s.told ≡ None → read_status_of k s ≡ None
 unfolding read_status_of
-told_none k s e = ap (option_map abstract_status) e
+told_none k s e = e
 
-told_some : (k : Make) (s : Setup) (status : Code) → s.told ≡ Some status → read_status_of k s ≡ Some (abstract_status status)
+told_some : (k : Make) (s : Setup) (status : Status) → s.told ≡ Some status → read_status_of k s ≡ Some status
 unfolding read_status_of
-told_some k s status e = ap (option_map abstract_status) e
+told_some k s status e = e
 
 -- a status that is named comes at the first read
-none_told : (b : Bool) → ◌≡◌ {A = Option Code} (if b then None else None) None
+none_told : (b : Bool) → ◌≡◌ {A = Option Status} (if b then None else None) None
 none_told true = refl
 none_told false = refl
 
-at_first : (told : Option Code) (given : ℕ) → (told ≢ None → given ≡ 0) → read_status_at told given ≡ told
+at_first : (told : Option Status) (given : ℕ) → (told ≢ None → given ≡ 0) → read_status_at told given ≡ told
 at_first None given first = none_told (given == 0)
 at_first (Some status) given first = ap (λ (n : ℕ). read_status_at (Some status) n) (first (λ e. let clash : Some status ≡ None = e in cc))
 
@@ -223,11 +223,11 @@ short_turn i k listed p s after window pass given f rest more phase is told now 
       counted = tt;
     }
 
-named_turn : (i : ℕ) (k : Make) (listed : List ℕ) (p : JobState) (s after : DeviceState) (window : List ℕ) (pass given : ℕ) (status : Code) (f : Frame) (rest : List ℕ) (more : List Frame) → IsRead k p s pass given f rest more → s.setup.told ≡ Some status → after ≡ goes_to s (Rest false) → IsMade k after →
-    abstract_status status ≢ Eof → abstract_status status ≢ Good → TurnServed i k listed p s (Err status) after window
+named_turn : (i : ℕ) (k : Make) (listed : List ℕ) (p : JobState) (s after : DeviceState) (window : List ℕ) (pass given : ℕ) (status : Status) (f : Frame) (rest : List ℕ) (more : List Frame) → IsRead k p s pass given f rest more → s.setup.told ≡ Some status → after ≡ goes_to s (Rest false) → IsMade k after →
+    status ≢ Eof → status ≢ Good → TurnServed i k listed p s (Err status) after window
 named_turn i k listed p s after window pass given status f rest more is told now made n m =
     record {
-      action = TurnsNamed (abstract_status status);
+      action = TurnsNamed status;
       is = refl;
       may = (f, rest, more, streaming i k p s pass given f rest more is, told_some k s.setup status told, n, m);
       device = goes_is (Some i) s after pass given (Rest false) Resting is.at now (ap (λ (d : DeviceState). phase_at (scan.place_of d)) now);
@@ -241,7 +241,7 @@ ended_by : (k : Make) (p : JobState) (s after : DeviceState) (window : List ℕ)
 ended_by k p s after window pass given f rest more is r =
     subst (λ (q : scan.ScanPlace). scan.EndsWhole q (scan.place_of after) ⊎ ((s.setup.told ≡ Some code.Eof) × scan.EndsEmpty q (scan.place_of after))) is.place (read_ends s after window is.made.in_scan r)
 
-turn_on : (i : ℕ) (k : Make) (listed : List ℕ) (p : JobState) (s after : DeviceState) (pass given : ℕ) (answer : Result ℕ Code) (window : List ℕ) (f : Frame) (rest : List ℕ) (more : List Frame) → IsRead k p s pass given f rest more → s.setup.told ≡ None →
+turn_on : (i : ℕ) (k : Make) (listed : List ℕ) (p : JobState) (s after : DeviceState) (pass given : ℕ) (answer : Result ℕ Status) (window : List ℕ) (f : Frame) (rest : List ℕ) (more : List Frame) → IsRead k p s pass given f rest more → s.setup.told ≡ None →
     Reads s answer after window → ReadsOn s pass given answer after window → TurnServed i k listed p s answer after window
 turn_on i k listed p s after pass given (Ok n) window f rest more is told r h =
     gives_turn i k listed p s after pass given n window f rest more is told h (made_read k s after (Ok n) window is.made r)
@@ -259,7 +259,7 @@ turn_on i k listed p s after pass given (Err code.CoverOpen) window f rest more 
 turn_on i k listed p s after pass given (Err code.NoMem) window f rest more is told r h = absurd h
 turn_on i k listed p s after pass given (Err code.AccessDenied) window f rest more is told r h = absurd h
 
-turn_told : (i : ℕ) (k : Make) (listed : List ℕ) (p : JobState) (s after : DeviceState) (pass given : ℕ) (status : Code) (window : List ℕ) (f : Frame) (rest : List ℕ) (more : List Frame) → IsRead k p s pass given f rest more → s.setup.told ≡ Some status →
+turn_told : (i : ℕ) (k : Make) (listed : List ℕ) (p : JobState) (s after : DeviceState) (pass given : ℕ) (status : Status) (window : List ℕ) (f : Frame) (rest : List ℕ) (more : List Frame) → IsRead k p s pass given f rest more → s.setup.told ≡ Some status →
     Reads s (Err status) after window → after ≡ goes_to s (after_read_status s.setup pass status) → TurnServed i k listed p s (Err status) after window
 turn_told i k listed p s after pass given code.Eof window f rest more is told r now =
     short_turn i k listed p s after window pass given f rest more (after_pass s.setup pass) is told now (made_read k s after (Err code.Eof) window is.made r) (ended_by k p s after window pass given f rest more is r)
@@ -275,12 +275,12 @@ turn_told i k listed p s after pass given code.IoError window f rest more is tol
 turn_told i k listed p s after pass given code.NoMem window f rest more is told r now = named_turn i k listed p s after window pass given code.NoMem f rest more is told now (made_read k s after (Err code.NoMem) window is.made r) (λ e. cc) (λ e. cc)
 turn_told i k listed p s after pass given code.AccessDenied window f rest more is told r now = named_turn i k listed p s after window pass given code.AccessDenied f rest more is told now (made_read k s after (Err code.AccessDenied) window is.made r) (λ e. cc) (λ e. cc)
 
-by_told : (i : ℕ) (k : Make) (listed : List ℕ) (p : JobState) (s after : DeviceState) (pass given : ℕ) (answer : Result ℕ Code) (window : List ℕ) (f : Frame) (rest : List ℕ) (more : List Frame) (told : Option Code) → IsRead k p s pass given f rest more → s.setup.told ≡ told →
+by_told : (i : ℕ) (k : Make) (listed : List ℕ) (p : JobState) (s after : DeviceState) (pass given : ℕ) (answer : Result ℕ Status) (window : List ℕ) (f : Frame) (rest : List ℕ) (more : List Frame) (told : Option Status) → IsRead k p s pass given f rest more → s.setup.told ≡ told →
     Reads s answer after window → FrameReads told s pass given answer after window → TurnServed i k listed p s answer after window
 by_told i k listed p s after pass given answer window f rest more None is told r h = turn_on i k listed p s after pass given answer window f rest more is told r h
 by_told i k listed p s after pass given answer window f rest more (Some status) is told r h =
-    subst (λ (a : Result ℕ Code). TurnServed i k listed p s a after window) (sym h.0)
-    (turn_told i k listed p s after pass given status window f rest more is told (subst (λ (a : Result ℕ Code). Reads s a after window) h.0 r) h.1)
+    subst (λ (a : Result ℕ Status). TurnServed i k listed p s a after window) (sym h.0)
+    (turn_told i k listed p s after pass given status window f rest more is told (subst (λ (a : Result ℕ Status). Reads s a after window) h.0 r) h.1)
 
 pub turns_agree : TurnsAgree
 turns_agree i k listed p s after pass given answer window made at c r =
@@ -294,4 +294,4 @@ turns_agree i k listed p s after pass given answer window made at c r =
       left = refl;
       behind = λ m. reads_at s.setup (page_of s) pass m is.1;
     }) refl r
-    (subst (λ (t : Option Code). FrameReads t s pass given answer after window) (at_first s.setup.told given is.3) read)
+    (subst (λ (t : Option Status). FrameReads t s pass given answer after window) (at_first s.setup.told given is.3) read)

@@ -219,11 +219,9 @@ BackOrAnswered i make users mid table q new = Back i make mid table new ⊎ ((sa
 
 falters_free : (i : ℕ) (make : ℕ → Make) (users : List Entry) (mid : RequestContext) (table : ℕ → AbstractDevice) (s : AbstractSession) (q : Asked) (new : RequestContext) → ContextRefines i make mid table s → mid.session.greeted ≡ true → mid.session.awaited ≡ None → OutOfMemoryFree mid q new → BackOrAnswered i make users mid table q new
 falters_free i make users mid table s (requests.Init version user) new old greeted none g = absurd g
-falters_free i make users mid table s requests.GetDevices new old greeted none g = inl (back_same i make mid table s new old (same_words mid mid new g refl refl))
 falters_free i make users mid table s (requests.Open name) new old greeted none (inl g) = inl (back_same i make mid table s new old (same_words mid mid new g refl refl))
 falters_free i make users mid table s (requests.Open name) new old greeted none (inr g) = inl (back_same i make mid table s new old (same_words mid (record mid { stream = g.1 }) new g.3 refl refl))
 falters_free i make users mid table s (requests.Close w) new old greeted none g = absurd g
-falters_free i make users mid table s (requests.GetOptionDescriptors w) new old greeted none g = inl (back_same i make mid table s new old (same_words mid mid new g refl refl))
 falters_free i make users mid table s (requests.ControlOption w n action kind value) new old greeted none (inl g) = inl (back_same i make mid table s new old (same_words mid mid new g refl refl))
 falters_free i make users mid table s (requests.ControlOption w n action kind value) new old greeted none (inr g) =
     let q = requests.ControlOption w n action kind value in
@@ -234,6 +232,7 @@ falters_free i make users mid table s (requests.Start w) new old greeted none g 
 falters_free i make users mid table s (requests.Cancel w) new old greeted none g = absurd g
 falters_free i make users mid table s (requests.Authorize resource user password) new old greeted none g = absurd g
 falters_free i make users mid table s requests.Exit new old greeted none g = absurd g
+falters_free i make users mid table s q new old greeted none g = inl (back_same i make mid table s new old (same_words mid mid new g refl refl))
 
 falters_greeted : (i : ℕ) (make : ℕ → Make) (users : List Entry) (mid : RequestContext) (table : ℕ → AbstractDevice) (s : AbstractSession) (a : Option AwaitedAuthorization) (q : Asked) (new : RequestContext) → ContextRefines i make mid table s → mid.session.greeted ≡ true → mid.session.awaited ≡ a → OutOfMemoryGreeted mid a q new → BackOrAnswered i make users mid table q new
 falters_greeted i make users mid table s None q new old greeted e g = falters_free i make users mid table s q new old greeted e g

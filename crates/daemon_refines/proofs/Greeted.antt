@@ -50,29 +50,16 @@ cancel_greeted d w (Some l) = refl
 
 free_greeted : (users : List Entry) (d : RequestContext) (q : Asked) (said : RequestAnswer) (new : RequestContext) → AnswersFree users d q said new → is_greeted d ≡ true → is_greeted new ≡ true
 free_greeted users d (requests.Init version user) said new g h = ap is_greeted g.1
-free_greeted users d requests.GetDevices said new g h = as_before d d new g.1 refl h
 free_greeted users d (requests.Open name) said new g h = open_greeted users d name (free_word d.session.held) (find_name name d.registry) said new g h
 free_greeted users d (requests.Close w) said new g h = as_before d (close_lease d w (held_by d.session.held w)) new g.1 (close_greeted d w (held_by d.session.held w)) h
-free_greeted users d (requests.GetOptionDescriptors w) said new g h = as_before d d new g.1 refl h
 free_greeted users d (requests.ControlOption w n action kind value) said new g h = ap is_greeted g.1 ∙ h
-free_greeted users d (requests.GetParameters w) said new g h = as_before d d new g.1 refl h
 free_greeted users d (requests.Start w) said new g h = ap is_greeted g.gives.1 ∙ ap is_greeted g.starts.new_is ∙ h
 free_greeted users d (requests.Cancel w) said new g h = as_before d (cancel_held d w (held_by d.session.held w)) new g.1 (cancel_greeted d w (held_by d.session.held w)) h
-free_greeted users d (requests.Authorize resource user password) said new g h = as_before d d new g.1 refl h
-free_greeted users d requests.Exit said new g h = as_before d d new g.1 refl h
+free_greeted users d q said new g h = as_before d d new g.1 refl h
 
 awaiting_greeted : (users : List Entry) (d : RequestContext) (aw : AwaitedAuthorization) (q : Asked) (said : RequestAnswer) (new : RequestContext) → AnswersAwaiting users d aw q said new → is_greeted d ≡ true → is_greeted new ≡ true
 awaiting_greeted users d aw (requests.Authorize resource user password) said new g h = ap is_greeted g.gives.1 ∙ answered_greeted g.allowed (without_awaited d) aw.name ∙ h
-awaiting_greeted users d aw (requests.Init version user) said new g h = as_before d d new g.1 refl h
-awaiting_greeted users d aw requests.GetDevices said new g h = as_before d d new g.1 refl h
-awaiting_greeted users d aw (requests.Open name) said new g h = as_before d d new g.1 refl h
-awaiting_greeted users d aw (requests.Close w) said new g h = as_before d d new g.1 refl h
-awaiting_greeted users d aw (requests.GetOptionDescriptors w) said new g h = as_before d d new g.1 refl h
-awaiting_greeted users d aw (requests.ControlOption w n action kind value) said new g h = as_before d d new g.1 refl h
-awaiting_greeted users d aw (requests.GetParameters w) said new g h = as_before d d new g.1 refl h
-awaiting_greeted users d aw (requests.Start w) said new g h = as_before d d new g.1 refl h
-awaiting_greeted users d aw (requests.Cancel w) said new g h = as_before d d new g.1 refl h
-awaiting_greeted users d aw requests.Exit said new g h = as_before d d new g.1 refl h
+awaiting_greeted users d aw q said new g h = as_before d d new g.1 refl h
 
 pub stays_greeted : (users : List Entry) (d : RequestContext) (a : Option AwaitedAuthorization) (q : Asked) (said : RequestAnswer) (new : RequestContext) → AnswersGreeted users d a q said new → is_greeted d ≡ true → is_greeted new ≡ true
 stays_greeted users d None q said new g h = free_greeted users d q said new g h
@@ -99,29 +86,16 @@ open_ends users d name (Some w) (Some k) said new (inr now) off = goes said _ no
 
 free_ends : (users : List Entry) (d : RequestContext) (q : Asked) (said : RequestAnswer) (new : RequestContext) → AnswersFree users d q said new → session_goes_on said ≡ false → SameWords d new
 free_ends users d (requests.Init version user) said new g off = same_words d (greet d version).1 new g.1 refl refl
-free_ends users d requests.GetDevices said new g off = same_words d d new g.1 refl refl
 free_ends users d (requests.Open name) said new g off = absurd (open_ends users d name (free_word d.session.held) (find_name name d.registry) said new g off)
 free_ends users d (requests.Close w) said new g off = absurd (goes said _ g.0 refl off)
-free_ends users d (requests.GetOptionDescriptors w) said new g off = same_words d d new g.1 refl refl
 free_ends users d (requests.ControlOption w n action kind value) said new g off = absurd (goes said _ g.0 refl off)
-free_ends users d (requests.GetParameters w) said new g off = same_words d d new g.1 refl refl
 free_ends users d (requests.Start w) said new g off = absurd (goes said _ g.gives.0 refl off)
 free_ends users d (requests.Cancel w) said new g off = absurd (goes said _ g.0 refl off)
-free_ends users d (requests.Authorize resource user password) said new g off = same_words d d new g.1 refl refl
-free_ends users d requests.Exit said new g off = same_words d d new g.1 refl refl
+free_ends users d q said new g off = same_words d d new g.1 refl refl
 
 awaiting_ends : (users : List Entry) (d : RequestContext) (aw : AwaitedAuthorization) (q : Asked) (said : RequestAnswer) (new : RequestContext) → AnswersAwaiting users d aw q said new → session_goes_on said ≡ false → SameWords d new
 awaiting_ends users d aw (requests.Authorize resource user password) said new g off = absurd (goes said _ g.gives.0 refl off)
-awaiting_ends users d aw (requests.Init version user) said new g off = same_words d d new g.1 refl refl
-awaiting_ends users d aw requests.GetDevices said new g off = same_words d d new g.1 refl refl
-awaiting_ends users d aw (requests.Open name) said new g off = same_words d d new g.1 refl refl
-awaiting_ends users d aw (requests.Close w) said new g off = same_words d d new g.1 refl refl
-awaiting_ends users d aw (requests.GetOptionDescriptors w) said new g off = same_words d d new g.1 refl refl
-awaiting_ends users d aw (requests.ControlOption w n action kind value) said new g off = same_words d d new g.1 refl refl
-awaiting_ends users d aw (requests.GetParameters w) said new g off = same_words d d new g.1 refl refl
-awaiting_ends users d aw (requests.Start w) said new g off = same_words d d new g.1 refl refl
-awaiting_ends users d aw (requests.Cancel w) said new g off = same_words d d new g.1 refl refl
-awaiting_ends users d aw requests.Exit said new g off = same_words d d new g.1 refl refl
+awaiting_ends users d aw q said new g off = same_words d d new g.1 refl refl
 
 greeted_ends : (users : List Entry) (d : RequestContext) (a : Option AwaitedAuthorization) (q : Asked) (said : RequestAnswer) (new : RequestContext) → AnswersGreeted users d a q said new → session_goes_on said ≡ false → SameWords d new
 greeted_ends users d None q said new g off = free_ends users d q said new g off
@@ -129,16 +103,7 @@ greeted_ends users d (Some aw) q said new g off = awaiting_ends users d aw q sai
 
 first_ends : (d : RequestContext) (q : Asked) (said : RequestAnswer) (new : RequestContext) → IsContextOutcome (first_answer d q) said new → SameWords d new
 first_ends d (requests.Init version user) said new g = same_words d (greet d version).1 new g.1 refl refl
-first_ends d requests.GetDevices said new g = same_words d d new g.1 refl refl
-first_ends d (requests.Open name) said new g = same_words d d new g.1 refl refl
-first_ends d (requests.Close w) said new g = same_words d d new g.1 refl refl
-first_ends d (requests.GetOptionDescriptors w) said new g = same_words d d new g.1 refl refl
-first_ends d (requests.ControlOption w n action kind value) said new g = same_words d d new g.1 refl refl
-first_ends d (requests.GetParameters w) said new g = same_words d d new g.1 refl refl
-first_ends d (requests.Start w) said new g = same_words d d new g.1 refl refl
-first_ends d (requests.Cancel w) said new g = same_words d d new g.1 refl refl
-first_ends d requests.Exit said new g = same_words d d new g.1 refl refl
-first_ends d (requests.Authorize resource user password) said new g = same_words d d new g.1 refl refl
+first_ends d q said new g = same_words d d new g.1 refl refl
 
 by_ends : (users : List Entry) (d : RequestContext) (b : Bool) (q : Asked) (said : RequestAnswer) (new : RequestContext) → AnswersBy b users d q said new → session_goes_on said ≡ false → SameWords d new
 by_ends users d true q said new g off = greeted_ends users d d.session.awaited q said new g off

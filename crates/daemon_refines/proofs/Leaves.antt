@@ -15,7 +15,7 @@ use Rattle.saned_requests.specs.Holding.{given_back, held_by, on_word}
 use Rattle.saned_requests.proofs.Keeping.{Moves}
 use Rattle.saned_requests.proofs.Keeping.Moves.{Still, Moved, Closed, Opened}
 use Rattle.saned_requests.proofs.Moving.{answers_moves}
-use Rattle.system_model.specs.AbstractMessages.{Authorize, Cancel, Challenge, Close, Describe, Exit, Get, GetDevices, Init, Open, Parameters, AbstractRequest, Set, Start, same_text}
+use Rattle.system_model.specs.AbstractMessages.{Authorize, Cancel, Challenge, Close, Describe, Exit, Get, Open, Parameters, AbstractRequest, Set, Start, same_text}
 use Rattle.device_api.specs.Kinds.{Page}
 use Rattle.system_model.specs.Devices.{Make, AbstractAcceptedSet, picture_frames, accept_value, has_readable_value}
 use Rattle.system_model.specs.AbstractDevices.{AbstractDevice, ScanPhase, Resting, Between, Reading, is_held_by, is_resting, device_let_go, put_back}
@@ -108,32 +108,20 @@ start_kept i k dev x Streaming own = kept i dev
 start_kept i k dev x Ending own = kept i dev
 
 serve_kept : (i : ℕ) (k : Make) (dev : AbstractDevice) (c : TransferState) (x : Environment) (q : AbstractRequest) → IsHeldByNoOther i dev.holder → IsKept i dev (serve i k dev c x q).device
-serve_kept i k dev c x Init own = kept i dev
-serve_kept i k dev c x GetDevices own = kept i dev
 serve_kept i k dev c x Open own = open_kept i k dev c x.challenge dev.listed x.guarded
 serve_kept i k dev c x (Authorize challenge) own = returned i dev own
-serve_kept i k dev c x Describe own = kept i dev
 serve_kept i k dev c x (Get n) own = get_kept i k dev c n (has_readable_value k dev.options n)
 serve_kept i k dev c x (Set n v) own = set_kept i k dev c n v (is_resting dev.phase) own
-serve_kept i k dev c x Parameters own = kept i dev
 serve_kept i k dev c x Start own = start_kept i k dev x c own
 serve_kept i k dev c x Cancel own = changed i dev _ own refl refl
 serve_kept i k dev c x Close own = returned i dev own
 serve_kept i k dev c x Exit own = returned i dev own
+serve_kept i k dev c x q own = kept i dev
 
 away_kept : (i : ℕ) (k : Make) (dev : AbstractDevice) (c : TransferState) (x : Environment) (q : AbstractRequest) → IsHeldByNoOther i dev.holder → IsKept i dev (serve_away i k dev c x q).device
 away_kept i k dev c x Cancel own = changed i dev _ own refl refl
 away_kept i k dev c x Close own = returned i dev own
-away_kept i k dev c x Init own = serve_kept i k dev c x Init own
-away_kept i k dev c x GetDevices own = serve_kept i k dev c x GetDevices own
-away_kept i k dev c x Open own = serve_kept i k dev c x Open own
-away_kept i k dev c x (Authorize challenge) own = serve_kept i k dev c x (Authorize challenge) own
-away_kept i k dev c x Describe own = serve_kept i k dev c x Describe own
-away_kept i k dev c x (Get n) own = serve_kept i k dev c x (Get n) own
-away_kept i k dev c x (Set n v) own = serve_kept i k dev c x (Set n v) own
-away_kept i k dev c x Parameters own = serve_kept i k dev c x Parameters own
-away_kept i k dev c x Start own = serve_kept i k dev c x Start own
-away_kept i k dev c x Exit own = serve_kept i k dev c x Exit own
+away_kept i k dev c x q own = serve_kept i k dev c x q own
 
 word_kept : (b : Bool) (i : ℕ) (k : Make) (dev : AbstractDevice) (c : TransferState) (x : Environment) (q : AbstractRequest) → IsHeldByNoOther i dev.holder → IsKept i dev (serve_word b i k dev c x q).device
 word_kept true i k dev c x q own = serve_kept i k dev c x q own
@@ -178,8 +166,6 @@ pub all_let_go : (i : ℕ) (table : ℕ → AbstractDevice) → AreKept i table 
 all_let_go i table k = by_holder i (table k) (is_held_by i (table k).holder) (λ e. held_own i (table k).holder e)
 
 plain_kept : (i : ℕ) (make : ℕ → Make) (table : ℕ → AbstractDevice) (s : AbstractSession) (x : ℕ → Environment) (call : AddressedRequest) (q : AbstractRequest) → HasOwn i table s → AreKept i table (plain_call i make table s x call q).table
-plain_kept i make table s x call Init own k = kept i (table k)
-plain_kept i make table s x call GetDevices own k = kept i (table k)
 plain_kept i make table s x call Open own k = open_call_kept i make table s (x call.place) call.place (free_of s.words) k
 plain_kept i make table s x call (Authorize c) own k = all_let_go i table k
 plain_kept i make table s x call Exit own k = all_let_go i table k
@@ -190,20 +176,11 @@ plain_kept i make table s x call Parameters own k = word_call_kept i make table 
 plain_kept i make table s x call Start own k = word_call_kept i make table s (x call.place) Start call.word (s.words call.word) refl own k
 plain_kept i make table s x call Cancel own k = word_call_kept i make table s (x call.place) Cancel call.word (s.words call.word) refl own k
 plain_kept i make table s x call Close own k = word_call_kept i make table s (x call.place) Close call.word (s.words call.word) refl own k
+plain_kept i make table s x call q own k = kept i (table k)
 
 awaited_kept : (i : ℕ) (make : ℕ → Make) (table : ℕ → AbstractDevice) (s : AbstractSession) (x : ℕ → Environment) (sent : Challenge) (p : ℕ) (q : AbstractRequest) → AreKept i table (awaited_call i make table s x sent p q).table
 awaited_kept i make table s x sent p (Authorize c) k = allow_call_kept i make table s (x p) sent p c (free_of s.words) k
-awaited_kept i make table s x sent p Init k = all_let_go i table k
-awaited_kept i make table s x sent p GetDevices k = all_let_go i table k
-awaited_kept i make table s x sent p Open k = all_let_go i table k
-awaited_kept i make table s x sent p Exit k = all_let_go i table k
-awaited_kept i make table s x sent p Describe k = all_let_go i table k
-awaited_kept i make table s x sent p (Get n) k = all_let_go i table k
-awaited_kept i make table s x sent p (Set n v) k = all_let_go i table k
-awaited_kept i make table s x sent p Parameters k = all_let_go i table k
-awaited_kept i make table s x sent p Start k = all_let_go i table k
-awaited_kept i make table s x sent p Cancel k = all_let_go i table k
-awaited_kept i make table s x sent p Close k = all_let_go i table k
+awaited_kept i make table s x sent p q k = all_let_go i table k
 
 pub call_kept : (i : ℕ) (make : ℕ → Make) (table : ℕ → AbstractDevice) (s : AbstractSession) (x : ℕ → Environment) (awaited : Option (Challenge × ℕ)) (call : AddressedRequest) → HasOwn i table s → AreKept i table (answer_call i make table s x awaited call).table
 call_kept i make table s x None call own k = plain_kept i make table s x call call.request own k

@@ -1,6 +1,7 @@
 -- OPEN and AUTHORIZE, by all their refusals.
 use Rattle.std.proofs.Common.{inl, inr, ◌⊎◌, ◌≡◌, ◌≢◌, ◌∙◌, ℕ, List, [], ◌∷◌, Bool, true, false, Option, Some, None, refl, sym, ap, subst, eqb, cond, slice_get}
-use Rattle.sane_fixed.specs.declared.status.Status.{Status as Code}
+use Rattle.sane_fixed.specs.declared.status.Status.TheVariants.{Unsupported, DeviceBusy, Inval}
+use Rattle.sane_fixed.specs.declared.status.Status.{Status}
 use Rattle.sane_fixed.specs.declared.status.Status.TheVariants as code
 use Rattle.md5_auth.specs.declared.users.Entry.{Entry}
 use Rattle.md5_auth.specs.Allowed.{NamesBackend}
@@ -18,8 +19,8 @@ use Rattle.saned_requests.specs.declared.request_answer.RequestAnswer.TheVariant
 use Rattle.saned_requests.specs.Holding.{free_word}
 use Rattle.saned_requests.specs.RequestAnswers.{AsksAuthorization, RequestContext, OpensAt, reply_if_allowed, without_awaited, refusal, resource_of, take_into, reply_of_take}
 use Rattle.saned_requests.specs.RequestAnswers as daemon
-use Rattle.system_model.specs.AbstractMessages.{Busy, Challenge, Challenged, Inval, Opened, Refused, AbstractReply, Unsupported, same_text}
-use Rattle.system_model.specs.Devices.{Make, default_options, abstract_status}
+use Rattle.system_model.specs.AbstractMessages.{Challenge, Challenged, Opened, Refused, AbstractReply, same_text}
+use Rattle.system_model.specs.Devices.{Make, default_options}
 use Rattle.system_model.specs.Causes.{WasUnlisted}
 use Rattle.system_model.specs.AbstractDevices.{AbstractDevice, Resting, is_held_by}
 use Rattle.system_model.specs.Daemon.{Environment, AnswerEffect, allow, held_cause, open_listed, reply_effect, hand_out_device, take_listed}
@@ -38,7 +39,7 @@ use Rattle.daemon_refines.proofs.WordRequests.{says_one}
 
 -- a device is handed out, or not
 abbrev IsTake : ℕ → AbstractReply → Wire → Type 0
-IsTake w a r = ((a ≡ Opened) × (r ≡ replies.Open code.Good w [])) ⊎ ((name : Code) × (a ≡ Refused (abstract_status name)) × (r ≡ refusal name))
+IsTake w a r = ((a ≡ Opened) × (r ≡ replies.Open code.Good w [])) ⊎ ((name : Status) × (a ≡ Refused name) × (r ≡ refusal name))
 
 record Bound (i : ℕ) (make : ℕ → Make) (table : ℕ → AbstractDevice) (s : AbstractSession) (w p : ℕ) (v : AnswerEffect) (outcome : Wire × RequestContext) : Type 0 where
   answer : AbstractReply
@@ -48,10 +49,10 @@ record Bound (i : ℕ) (make : ℕ → Make) (table : ℕ → AbstractDevice) (s
   shows : ContextRefines i make outcome.1 (open_effect i table s w p (is_held_by i (table p).holder) v).table (open_effect i table s w p (is_held_by i (table p).holder) v).session
 
 -- a refusal leaves all as it was
-refused_with : (i : ℕ) (make : ℕ → Make) (d : RequestContext) (table : ℕ → AbstractDevice) (s : AbstractSession) (w p : ℕ) (name : Code) (v : AnswerEffect) → ContextRefines i make d table (record s { awaited = None }) → d.session.awaited ≡ None →
-    v.told ≡ Refused (abstract_status name) ∷ [] → v.goes_on ≡ true → v.device ≡ table p → v.transfer ≡ s.transfer → v.awaited ≡ None → Bound i make table s w p v (refusal name, d)
+refused_with : (i : ℕ) (make : ℕ → Make) (d : RequestContext) (table : ℕ → AbstractDevice) (s : AbstractSession) (w p : ℕ) (name : Status) (v : AnswerEffect) → ContextRefines i make d table (record s { awaited = None }) → d.session.awaited ≡ None →
+    v.told ≡ Refused name ∷ [] → v.goes_on ≡ true → v.device ≡ table p → v.transfer ≡ s.transfer → v.awaited ≡ None → Bound i make table s w p v (refusal name, d)
 refused_with i make d table s w p name v old none told on device transfer sent =
-    record { answer = Refused (abstract_status name); told = told; on = on; spells = inr (name, refl, refl); shows = opened_unchanged i make d table s w p v old none device transfer sent }
+    record { answer = Refused name; told = told; on = on; spells = inr (name, refl, refl); shows = opened_unchanged i make d table s w p v old none device transfer sent }
 
 taken_in : (i : ℕ) (make : ℕ → Make) (d : RequestContext) (table : ℕ → AbstractDevice) (s : AbstractSession) (w p : ℕ) (at : Place DeviceState) (st : DeviceState) → ContextRefines i make d table (record s { awaited = None }) → d.session.awaited ≡ None → free_word d.session.held ≡ Some w →
     slice_get d.registry p ≡ Some at → at.slot ≡ In st → Bound i make table s w p (take_listed i (make p) (table p) s.transfer (table p).listed) (reply_of_take d w (take_of p (Some st)))
@@ -73,7 +74,7 @@ taken_in i make d table s w p at st old none free there in_it =
 busy_with : (i j : ℕ) (make : ℕ → Make) (d : RequestContext) (table : ℕ → AbstractDevice) (s : AbstractSession) (w p : ℕ) → ContextRefines i make d table (record s { awaited = None }) → d.session.awaited ≡ None → (table p).listed ≡ true → (table p).holder ≡ Some j →
     Bound i make table s w p (take_listed i (make p) (table p) s.transfer (table p).listed) (refusal code.DeviceBusy, d)
 busy_with i j make d table s w p old none listed holder =
-    let v : AnswerEffect = record (reply_effect (Refused Busy) (table p) s.transfer) { causes = held_cause (eqb j i) } in
+    let v : AnswerEffect = record (reply_effect (Refused DeviceBusy) (table p) s.transfer) { causes = held_cause (eqb j i) } in
     let v_is : take_listed i (make p) (table p) s.transfer (table p).listed ≡ v = ap (λ (b : Bool). take_listed i (make p) (table p) s.transfer b) listed ∙ ap (λ (h : Option ℕ). hand_out_device i (make p) (table p) s.transfer h) holder in
     subst (λ (t : AnswerEffect). Bound i make table s w p t (refusal code.DeviceBusy, d)) (sym v_is) (refused_with i make d table s w p code.DeviceBusy v old none refl refl refl refl refl)
 

@@ -1,7 +1,7 @@
 -- A start of a scanner, as the model sees it.
 use Rattle.std.proofs.Common.{inl, inr, ◌≡◌, ◌≢◌, ◌∙◌, ◌≤◌, ◌+◌, ℕ, List, [], ◌∷◌, Bool, true, false, Option, Some, None, refl, sym, ap, subst, drop, arith}
 use Rattle.std.specs.Prelude.{Result, Ok, Err, if◌then◌else◌}
-use Rattle.sane_fixed.specs.declared.status.Status.{Status as Code}
+use Rattle.sane_fixed.specs.declared.status.Status.{Status}
 use Rattle.sane_fixed.specs.declared.status.Status.TheVariants as code
 use Rattle.page_picture.specs.Page.{PageView}
 use Rattle.page_picture.specs.Shows.{Frame}
@@ -19,7 +19,7 @@ use Rattle.scan_laws.specs.Passes as scan
 use Rattle.scan_laws.specs.SetAndJoin as rules
 use Rattle.scan_laws.proofs.Places.{frames_from, start_in}
 use Rattle.system_model.specs.AbstractMessages.{Begun, Refused, AbstractReply}
-use Rattle.system_model.specs.Devices.{Make, picture_frames as frames_given, order_of, abstract_status}
+use Rattle.system_model.specs.Devices.{Make, picture_frames as frames_given, order_of}
 use Rattle.system_model.specs.AbstractDevices.{Resting, Reading, put_down}
 use Rattle.system_model.specs.Transitions.{IsFault, MayFail}
 use Rattle.system_model.specs.Daemon.{TransferState, Quiet, Waiting, FailureCounts, AnswerEffect, begin_page, begin_pass, start_at, start_or_fail, start_page}
@@ -29,23 +29,23 @@ use Rattle.daemon_refines.proofs.Sources.{failing_is_fallible, start_sources}
 use Rattle.daemon_refines.proofs.Scanning.{reads_at, waits_at}
 
 -- the frame behind a start
-abbrev pub carriage_by : Result Unit Code → TransferState
+abbrev pub carriage_by : Result Unit Status → TransferState
 carriage_by (Ok _) = Waiting
 carriage_by (Err _) = Quiet
 
-abbrev pub answer_by : Setup → Result Unit Code → AbstractReply
+abbrev pub answer_by : Setup → Result Unit Status → AbstractReply
 answer_by setup (Ok _) = Begun setup.order
-answer_by setup (Err y) = Refused (abstract_status y)
+answer_by setup (Err y) = Refused y
 
 -- the model serves a start as the device does
-pub record Served_as (s : DeviceState) (answer : Result Unit Code) (after : DeviceState) (holder : Option ℕ) (v : AnswerEffect) : Type 0 where
+pub record Served_as (s : DeviceState) (answer : Result Unit Status) (after : DeviceState) (holder : Option ℕ) (v : AnswerEffect) : Type 0 where
   pub told : v.told ≡ answer_by s.setup answer ∷ []
   pub on : v.goes_on ≡ true
   pub device : v.device ≡ abstract_device holder after
   pub transfer : v.transfer ≡ carriage_by answer
 
 -- with the failure that the page's source counted, or none
-pub record StartServed (k : Make) (s : DeviceState) (answer : Result Unit Code) (after : DeviceState) (holder : Option ℕ) : Type 0 where
+pub record StartServed (k : Make) (s : DeviceState) (answer : Result Unit Status) (after : DeviceState) (holder : Option ℕ) : Type 0 where
   pub fault : Option FailureCounts
   pub may : MayFail k fault
   pub counted : IsFailureIn s after fault
@@ -167,14 +167,14 @@ pass_begun k s after holder pass at few is =
 -- ---- the answer, by the phase
 
 -- the model goes by what they see of the phase
-by_phase : (k : Make) (s after : DeviceState) (holder : Option ℕ) (answer : Result Unit Code) (again : Bool) (phase : AnyPhase) (place : scan.ScanPlace) → s.phase ≡ phase → scan.scan_place_in phase (frames_of s.setup (page_of s)) ≡ place →
+by_phase : (k : Make) (s after : DeviceState) (holder : Option ℕ) (answer : Result Unit Status) (again : Bool) (phase : AnyPhase) (place : scan.ScanPlace) → s.phase ≡ phase → scan.scan_place_in phase (frames_of s.setup (page_of s)) ≡ place →
     Served_as s answer after holder (start_at k (abstract_device holder s) Quiet again (phase_at place)) → Served_as s answer after holder (start_or_fail k (abstract_device holder s) Quiet again None)
 by_phase k s after holder answer again phase place at is h =
     subst (λ (p : AnyPhase). Served_as s answer after holder (start_at k (abstract_device holder s) Quiet again (phase_at (scan.scan_place_in p (frames_of s.setup (page_of s)))))) (sym at)
     (subst (λ (p : scan.ScanPlace). Served_as s answer after holder (start_at k (abstract_device holder s) Quiet again (phase_at p))) (sym is) h)
 
 -- at rest by the pages in the tray
-at_rest : (k : Make) (s after : DeviceState) (holder : Option ℕ) (c : Bool) (answer : Result Unit Code) (again : Bool) (tray : List PageView) → s.phase ≡ Rest c → page_views s.pages ≡ tray → Served_as s answer after holder (start_page k (abstract_device holder s) Quiet again tray) →
+at_rest : (k : Make) (s after : DeviceState) (holder : Option ℕ) (c : Bool) (answer : Result Unit Status) (again : Bool) (tray : List PageView) → s.phase ≡ Rest c → page_views s.pages ≡ tray → Served_as s answer after holder (start_page k (abstract_device holder s) Quiet again tray) →
     Served_as s answer after holder (start_or_fail k (abstract_device holder s) Quiet again None)
 at_rest k s after holder c answer again tray at is h =
     by_phase k s after holder answer again (Rest c) scan.Resting at refl
@@ -184,7 +184,7 @@ at_rest k s after holder c answer again tray at is h =
 first_sheet : (s : DeviceState) (held : HeldPage) (pages : List HeldPage) → s.pages ≡ held ∷ pages → page_views s.pages ≡ page_of s ∷ page_views pages
 first_sheet s held pages e = ap page_views e ∙ ap (λ (p : PageView). p ∷ page_views pages) (sym (ap (λ (ps : List HeldPage). (first_page ps).page) e))
 
-page_starts : (k : Make) (s after : DeviceState) (holder : Option ℕ) (c : Bool) (answer : Result Unit Code) (held : HeldPage) (pages : List HeldPage) → IsMade k s → s.phase ≡ Rest c → s.pages ≡ held ∷ pages → StartsFrame s answer after → answer ≢ Err code.NoMem → StartServed k s answer after holder
+page_starts : (k : Make) (s after : DeviceState) (holder : Option ℕ) (c : Bool) (answer : Result Unit Status) (held : HeldPage) (pages : List HeldPage) → IsMade k s → s.phase ≡ Rest c → s.pages ≡ held ∷ pages → StartsFrame s answer after → answer ≢ Err code.NoMem → StartServed k s answer after holder
 page_starts k s after holder c (Ok u) held pages made at e h n =
     record {
       fault = None;
@@ -207,18 +207,18 @@ page_starts k s after holder c (Err code.NoDocs) held pages made at e h n = absu
 page_starts k s after holder c (Err code.CoverOpen) held pages made at e h n = absurd h
 page_starts k s after holder c (Err code.AccessDenied) held pages made at e h n = absurd h
 
-rest_starts : (k : Make) (s after : DeviceState) (holder : Option ℕ) (c : Bool) (answer : Result Unit Code) (pages : List HeldPage) → IsMade k s → s.phase ≡ Rest c → s.pages ≡ pages → StartsOn pages s answer after → answer ≢ Err code.NoMem → StartServed k s answer after holder
+rest_starts : (k : Make) (s after : DeviceState) (holder : Option ℕ) (c : Bool) (answer : Result Unit Status) (pages : List HeldPage) → IsMade k s → s.phase ≡ Rest c → s.pages ≡ pages → StartsOn pages s answer after → answer ≢ Err code.NoMem → StartServed k s answer after holder
 rest_starts k s after holder c answer [] made at e h n =
-    subst (λ (r : Result Unit Code). StartServed k s r after holder) (sym h.0)
+    subst (λ (r : Result Unit Status). StartServed k s r after holder) (sym h.0)
     (record { fault = None; may = tt; counted = tt; serves = λ again. at_rest k s after holder c (Err code.NoDocs) again [] at (ap page_views e) (record { told = refl; on = refl; device = stopped_is holder s after c at h.1; transfer = refl }) })
 rest_starts k s after holder c answer (held ∷ pages) made at e h n = page_starts k s after holder c answer held pages made at e h n
 
 -- between passes there is a page, and a picture
-of_page : (pages : List HeldPage) (s after : DeviceState) (answer : Result Unit Code) → pages ≢ [] → StartsOn pages s answer after → StartsFrame s answer after
+of_page : (pages : List HeldPage) (s after : DeviceState) (answer : Result Unit Status) → pages ≢ [] → StartsOn pages s answer after → StartsFrame s answer after
 of_page [] s after answer some h = absurd (some refl)
 of_page (held ∷ pages) s after answer some h = h
 
-amid_starts : (k : Make) (s after : DeviceState) (holder : Option ℕ) (ended : ℕ) (answer : Result Unit Code) → IsMade k s → s.pages ≢ [] → s.phase ≡ Amid ended → scan.IsPhaseOf (Amid ended) s.setup (page_of s) → StartsFrame s answer after → answer ≢ Err code.NoMem → StartServed k s answer after holder
+amid_starts : (k : Make) (s after : DeviceState) (holder : Option ℕ) (ended : ℕ) (answer : Result Unit Status) → IsMade k s → s.pages ≢ [] → s.phase ≡ Amid ended → scan.IsPhaseOf (Amid ended) s.setup (page_of s) → StartsFrame s answer after → answer ≢ Err code.NoMem → StartServed k s answer after holder
 amid_starts k s after holder ended (Ok u) made some at in_scan h n =
     record {
       fault = None;
@@ -241,9 +241,9 @@ amid_starts k s after holder ended (Err code.NoDocs) made some at in_scan h n = 
 amid_starts k s after holder ended (Err code.CoverOpen) made some at in_scan h n = absurd h
 amid_starts k s after holder ended (Err code.AccessDenied) made some at in_scan h n = absurd h
 
-busy_start : (k : Make) (s after : DeviceState) (holder : Option ℕ) (pass given : ℕ) (answer : Result Unit Code) → s.phase ≡ Read pass given → pass ≤ last_pass s.setup → answer ≡ Err code.DeviceBusy → after ≡ s → StartServed k s answer after holder
+busy_start : (k : Make) (s after : DeviceState) (holder : Option ℕ) (pass given : ℕ) (answer : Result Unit Status) → s.phase ≡ Read pass given → pass ≤ last_pass s.setup → answer ≡ Err code.DeviceBusy → after ≡ s → StartServed k s answer after holder
 busy_start k s after holder pass given answer at few busy same =
-    subst (λ (r : Result Unit Code). StartServed k s r after holder) (sym busy)
+    subst (λ (r : Result Unit Status). StartServed k s r after holder) (sym busy)
     (record {
       fault = None;
       may = tt;
@@ -253,12 +253,12 @@ busy_start k s after holder pass given answer at few busy same =
           (record { told = refl; on = refl; device = sym (ap (λ (d : DeviceState). abstract_device holder d) same); transfer = refl });
     })
 
-starts_in : (k : Make) (s after : DeviceState) (holder : Option ℕ) (phase : AnyPhase) (answer : Result Unit Code) → IsMade k s → s.phase ≡ phase → scan.IsPhaseOf phase s.setup (page_of s) → (is_at_rest phase ≡ false → s.pages ≢ []) → StartsIn phase s answer after → answer ≢ Err code.NoMem → StartServed k s answer after holder
+starts_in : (k : Make) (s after : DeviceState) (holder : Option ℕ) (phase : AnyPhase) (answer : Result Unit Status) → IsMade k s → s.phase ≡ phase → scan.IsPhaseOf phase s.setup (page_of s) → (is_at_rest phase ≡ false → s.pages ≢ []) → StartsIn phase s answer after → answer ≢ Err code.NoMem → StartServed k s answer after holder
 starts_in k s after holder (Rest c) answer made at in_scan some h n = rest_starts k s after holder c answer s.pages made at refl h n
 starts_in k s after holder (Amid ended) answer made at in_scan some h n = amid_starts k s after holder ended answer made (some refl) at in_scan (of_page s.pages s after answer (some refl) h) n
 starts_in k s after holder (Read pass given) answer made at in_scan some h n = busy_start k s after holder pass given answer at in_scan.1 h.0 h.1
 
-pub start_served : (k : Make) (s after : DeviceState) (holder : Option ℕ) (answer : Result Unit Code) → IsMade k s → Starts s answer after → answer ≢ Err code.NoMem → StartServed k s answer after holder
+pub start_served : (k : Make) (s after : DeviceState) (holder : Option ℕ) (answer : Result Unit Status) → IsMade k s → Starts s answer after → answer ≢ Err code.NoMem → StartServed k s answer after holder
 start_served k s after holder answer made h n = starts_in k s after holder s.phase answer made refl made.in_scan.phase made.in_scan.page h n
 
 -- ---- a start for which memory runs out leaves the device at rest
@@ -288,7 +288,7 @@ setup_of s t u e h = ap (λ (d : DeviceState). d.setup) e ∙ h
 pub failed_setup : (s t : DeviceState) → HasStopped s t → t.setup ≡ s.setup
 failed_setup s t h = setup_of s t _ h.after (stopped_setup s.phase (with_failures s h.failures))
 
-frame_setup : (s t : DeviceState) (r : Result Unit Code) → StartsFrame s r t → t.setup ≡ s.setup
+frame_setup : (s t : DeviceState) (r : Result Unit Status) → StartsFrame s r t → t.setup ≡ s.setup
 frame_setup s t (Ok _) h = setup_of s t _ h.1 refl
 frame_setup s t (Err code.Inval) h = setup_of s t _ h.1 (stopped_setup s.phase s)
 frame_setup s t (Err code.IoError) h = failed_setup s t h.1
@@ -303,16 +303,16 @@ frame_setup s t (Err code.NoDocs) h = absurd h
 frame_setup s t (Err code.CoverOpen) h = absurd h
 frame_setup s t (Err code.AccessDenied) h = absurd h
 
-on_setup : (pages : List HeldPage) (s t : DeviceState) (r : Result Unit Code) → StartsOn pages s r t → t.setup ≡ s.setup
+on_setup : (pages : List HeldPage) (s t : DeviceState) (r : Result Unit Status) → StartsOn pages s r t → t.setup ≡ s.setup
 on_setup [] s t r h = setup_of s t _ h.1 (stopped_setup s.phase s)
 on_setup (held ∷ pages) s t r h = frame_setup s t r h
 
-in_setup : (phase : AnyPhase) (s t : DeviceState) (r : Result Unit Code) → StartsIn phase s r t → t.setup ≡ s.setup
+in_setup : (phase : AnyPhase) (s t : DeviceState) (r : Result Unit Status) → StartsIn phase s r t → t.setup ≡ s.setup
 in_setup (Rest c) s t r h = on_setup s.pages s t r h
 in_setup (Amid ended) s t r h = on_setup s.pages s t r h
 in_setup (Read pass given) s t r h = setup_of s t s h.1 refl
 
-pub made_started : (k : Make) (s t : DeviceState) (r : Result Unit Code) → IsMade k s → Starts s r t → IsMade k t
+pub made_started : (k : Make) (s t : DeviceState) (r : Result Unit Status) → IsMade k s → Starts s r t → IsMade k t
 made_started k s t r made h =
     let same = start_same s t r h in
     record {

@@ -115,16 +115,7 @@ init_first i make users d table s version user said new old none g on gives =
 
 served_first : (i : ℕ) (make : ℕ → Make) (users : List Entry) (d : RequestContext) (table : ℕ → AbstractDevice) (s : AbstractSession) (q : Asked) (said : RequestAnswer) (new : RequestContext) → ContextRefines i make d table s → d.session.awaited ≡ None → Answers users d q said new → session_goes_on said ≡ true → IsContextOutcome (first_answer d q) said new → Served i make users d table s q said new
 served_first i make users d table s (requests.Init version user) said new old none g on gives = init_first i make users d table s version user said new old none g on gives
-served_first i make users d table s requests.GetDevices said new old none g on gives = absurd (not_first said new d gives on)
-served_first i make users d table s (requests.Open name) said new old none g on gives = absurd (not_first said new d gives on)
-served_first i make users d table s (requests.Close w) said new old none g on gives = absurd (not_first said new d gives on)
-served_first i make users d table s (requests.GetOptionDescriptors w) said new old none g on gives = absurd (not_first said new d gives on)
-served_first i make users d table s (requests.ControlOption w n action kind value) said new old none g on gives = absurd (not_first said new d gives on)
-served_first i make users d table s (requests.GetParameters w) said new old none g on gives = absurd (not_first said new d gives on)
-served_first i make users d table s (requests.Start w) said new old none g on gives = absurd (not_first said new d gives on)
-served_first i make users d table s (requests.Cancel w) said new old none g on gives = absurd (not_first said new d gives on)
-served_first i make users d table s (requests.Authorize resource user password) said new old none g on gives = absurd (not_first said new d gives on)
-served_first i make users d table s requests.Exit said new old none g on gives = absurd (not_first said new d gives on)
+served_first i make users d table s q said new old none g on gives = absurd (not_first said new d gives on)
 
 ungreeted : (i : ℕ) (make : ℕ → Make) (users : List Entry) (d : RequestContext) (table : ℕ → AbstractDevice) (s : AbstractSession) (q : Asked) (said : RequestAnswer) (new : RequestContext) (b : Bool) → d.session.greeted ≡ b → ContextRefines i make d table s → IsSessionBegun d → Answers users d q said new → session_goes_on said ≡ true → Served i make users d table s q said new
 ungreeted i make users d table s q said new true e old begun g on = served_greeted i make users d table s q said new old e g on

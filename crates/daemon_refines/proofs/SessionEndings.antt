@@ -17,7 +17,7 @@ use Rattle.saned_requests.specs.declared.request_answer.RequestAnswer.{RequestAn
 use Rattle.saned_requests.specs.declared.request_answer.RequestAnswer.TheVariants.{One, Last}
 use Rattle.saned_requests.specs.Holding.{given_back, held_by}
 use Rattle.saned_requests.specs.RequestAnswers.{RequestContext, greeting, session_ended, own_version}
-use Rattle.system_model.specs.AbstractMessages.{Authorize, Cancel, Close, Describe, Exit, Get, GetDevices, Greeted, Init, Listed, Open, Parameters, AbstractRequest, Set, Start}
+use Rattle.system_model.specs.AbstractMessages.{Authorize, Exit, Greeted, Listed, AbstractRequest}
 use Rattle.system_model.specs.Devices.{Make}
 use Rattle.system_model.specs.AbstractDevices.{AbstractDevice, is_held_by, device_let_go, put_back}
 use Rattle.system_model.specs.Daemon.{Environment}
@@ -115,33 +115,14 @@ session_over i make d table s q word old = record { says = refl; same_end = refl
 last_of : (i : ℕ) (make : ℕ → Make) (d : RequestContext) (table : ℕ → AbstractDevice) (s : AbstractSession) (x : ℕ → Environment) (call : AddressedRequest) (q : Asked) (word : ℕ) (r : AbstractRequest) → call.request ≡ r → ContextRefines i make d table s → IsLast r → AgreesOn i make d word q (answer_call i make table s x None call) (session_ended d)
 last_of i make d table s x call q word Exit e old h = subst (λ (r : AbstractRequest). AgreesOn i make d word q (plain_call i make table s x call r) (session_ended d)) (sym e) (session_over i make d table s q word old)
 last_of i make d table s x call q word (Authorize c) e old h = subst (λ (r : AbstractRequest). AgreesOn i make d word q (plain_call i make table s x call r) (session_ended d)) (sym e) (session_over i make d table s q word old)
-last_of i make d table s x call q word Init e old h = absurd h
-last_of i make d table s x call q word GetDevices e old h = absurd h
-last_of i make d table s x call q word Open e old h = absurd h
-last_of i make d table s x call q word Describe e old h = absurd h
-last_of i make d table s x call q word (Get n) e old h = absurd h
-last_of i make d table s x call q word (Set n v) e old h = absurd h
-last_of i make d table s x call q word Parameters e old h = absurd h
-last_of i make d table s x call q word Start e old h = absurd h
-last_of i make d table s x call q word Cancel e old h = absurd h
-last_of i make d table s x call q word Close e old h = absurd h
+last_of i make d table s x call q word other e old h = absurd h
 
 pub ends_agree : EndsAgree
 ends_agree i make d table s x call q word old h = last_of i make d table s x call q word call.request refl old h
 
 other_of : (i : ℕ) (make : ℕ → Make) (d : RequestContext) (table : ℕ → AbstractDevice) (s : AbstractSession) (x : ℕ → Environment) (sent : List ℕ) (p : ℕ) (q : Asked) (word : ℕ) (r : AbstractRequest) → ContextRefines i make d table s → IsOtherRequest r → AgreesOn i make d word q (awaited_call i make table s x sent p r) (session_ended d)
 other_of i make d table s x sent p q word (Authorize c) old h = absurd h
-other_of i make d table s x sent p q word Exit old h = session_over i make d table s q word old
-other_of i make d table s x sent p q word Init old h = session_over i make d table s q word old
-other_of i make d table s x sent p q word GetDevices old h = session_over i make d table s q word old
-other_of i make d table s x sent p q word Open old h = session_over i make d table s q word old
-other_of i make d table s x sent p q word Describe old h = session_over i make d table s q word old
-other_of i make d table s x sent p q word (Get n) old h = session_over i make d table s q word old
-other_of i make d table s x sent p q word (Set n v) old h = session_over i make d table s q word old
-other_of i make d table s x sent p q word Parameters old h = session_over i make d table s q word old
-other_of i make d table s x sent p q word Start old h = session_over i make d table s q word old
-other_of i make d table s x sent p q word Cancel old h = session_over i make d table s q word old
-other_of i make d table s x sent p q word Close old h = session_over i make d table s q word old
+other_of i make d table s x sent p q word call old h = session_over i make d table s q word old
 
 pub others_end : OthersEnd
 others_end i make d table s x call q word sent p old h = other_of i make d table s x sent p q word call.request old h

@@ -1,6 +1,7 @@
 -- CONTROL_OPTION: SET.
 use Rattle.std.proofs.Common.{◌≡◌, ◌∙◌, ℕ, Bool, true, false, [], Option, Some, None, refl, sym, ap, subst, eqb, slice_get}
 use Rattle.std.specs.Prelude.{Result, Ok, Err, if◌then◌else◌}
+use Rattle.sane_fixed.specs.declared.status.Status.TheVariants.{DeviceBusy, Inval}
 use Rattle.sane_fixed.specs.declared.info.Info.{Info}
 use Rattle.sane_fixed.specs.declared.kind.Kind.{Kind}
 use Rattle.sane_fixed.specs.declared.status.Status.{Status as Code}
@@ -22,7 +23,7 @@ use Rattle.saned_requests.specs.Holding.{held_by, on_word, with_device}
 use Rattle.saned_requests.specs.RequestAnswers.{RequestContext, ContextOutcome, asked_at, control, did_set, options_of_lease, refused_control, set_asked, with_held}
 use Rattle.saned_requests.specs.OptionValues.{sent_as, size_of}
 use Rattle.saned_requests.proofs.LeaseWords.{on_word-same}
-use Rattle.system_model.specs.AbstractMessages.{Busy, Gave, Inval, Refused, Set}
+use Rattle.system_model.specs.AbstractMessages.{Gave, Refused, Set}
 use Rattle.system_model.specs.Devices.{Make, AbstractAcceptedSet, abstract_info, accept_value}
 use Rattle.system_model.specs.AbstractDevices.{AbstractDevice, is_resting}
 use Rattle.system_model.specs.Daemon.{Environment, TransferState, put_reply, reply_effect, serve, set_reply}
@@ -94,7 +95,7 @@ set_by i make d table s x w n kind value v l false old none e is =
     let k = make l.place in
     let dev = table l.place in
     let at_work : is_resting dev.phase ≡ false = ap (λ (t : AbstractDevice). is_resting t.phase) shown.device ∙ rests l.device shown.made.in_scan ∙ is in
-    tells i make d _ table s x (Set n v) w l (Refused Busy) _ _ old none e (rewritten d w l e)
+    tells i make d _ table s x (Set n v) w l (Refused DeviceBusy) _ _ old none e (rewritten d w l e)
     (sets (eqb w s.framed) i k dev s.transfer x n v ∙ ap (λ (b : Bool). set_reply k dev s.transfer n v b) at_work) refl (code.DeviceBusy, refl, refl)
 
 -- what the daemon hands to the device is what was asked for

@@ -1,6 +1,7 @@
 -- START of a device word.
 use Rattle.std.proofs.Common.{inl, inr, ◌⊎◌, ◌≡◌, ◌≢◌, ◌∙◌, ℕ, Bool, true, false, Option, Some, None, refl, sym, ap, subst, eqb}
 use Rattle.std.specs.Prelude.{Result, Ok, Err}
+use Rattle.sane_fixed.specs.declared.status.Status.TheVariants.{DeviceBusy, Inval}
 use Rattle.sane_fixed.specs.declared.byte_order.ByteOrder.{ByteOrder}
 use Rattle.sane_fixed.specs.declared.byte_order.ByteOrder.TheVariants.{Little}
 use Rattle.sane_fixed.specs.declared.no_mem.NoMem.{NoMem as Starved}
@@ -17,7 +18,7 @@ use Rattle.saned_requests.specs.declared.request_answer.RequestAnswer.{RequestAn
 use Rattle.saned_requests.specs.declared.request_answer.RequestAnswer.TheVariants.{One}
 use Rattle.saned_requests.specs.Holding.{held_by, on_word, with_device}
 use Rattle.saned_requests.specs.RequestAnswers.{RequestContext, StartsLease, start_reply as reply_of_start, start_answer, with_data_phase, with_held}
-use Rattle.system_model.specs.AbstractMessages.{Busy, Inval, Refused, Start}
+use Rattle.system_model.specs.AbstractMessages.{Refused, Start}
 use Rattle.system_model.specs.Devices.{Make}
 use Rattle.system_model.specs.AbstractDevices.{AbstractDevice}
 use Rattle.system_model.specs.Daemon.{Environment, TransferState, Quiet, Waiting, Streaming, Ending, FailureCounts, reply_effect, start_or_fail, start_effect}
@@ -58,7 +59,7 @@ starts : (b : Bool) (i : ℕ) (k : Make) (dev : AbstractDevice) (c : TransferSta
 starts true i k dev c x = refl
 starts false i k dev c x = refl
 
-busy_is : (k : Make) (dev : AbstractDevice) (x : Environment) (c : TransferState) → c ≢ Quiet → start_effect k dev x c ≡ reply_effect (Refused Busy) dev c
+busy_is : (k : Make) (dev : AbstractDevice) (x : Environment) (c : TransferState) → c ≢ Quiet → start_effect k dev x c ≡ reply_effect (Refused DeviceBusy) dev c
 busy_is k dev x Quiet n = absurd (n refl)
 busy_is k dev x Waiting n = refl
 busy_is k dev x Streaming n = refl
@@ -73,7 +74,7 @@ busy_at i make d table s w l wc old none e is busy =
       tt,
       tt,
       λ x f.
-          answered i make (manner d w) _ table s x Start w l.place (Refused Busy) _ (context_with d (Some l) w wc) (reply_effect (Refused Busy) (table l.place) s.transfer)
+          answered i make (manner d w) _ table s x Start w l.place (Refused DeviceBusy) _ (context_with d (Some l) w wc) (reply_effect (Refused DeviceBusy) (table l.place) s.transfer)
           (starts (eqb w s.framed) i (make l.place) (table l.place) s.transfer x ∙ busy_is (make l.place) (table l.place) x s.transfer busy) refl refl refl
           (code.DeviceBusy, refl, ap (λ (h : Option (Lease DeviceState)). reply_of_start code.DeviceBusy 0 (order_by h)) (sym e))
           (moved i make d table s w l old e (context_with d (Some l) w wc) (table l.place) _

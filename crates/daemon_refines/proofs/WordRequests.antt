@@ -1,6 +1,7 @@
 -- Requests to a device word that leave its device.
 use Rattle.std.proofs.Common.{◌≡◌, ◌≢◌, ◌∙◌, ℕ, [], ◌∷◌, Bool, true, false, Option, Some, None, refl, sym, ap, subst, eqb, length, slice_get}
 use Rattle.std.specs.Prelude.{Result, Ok, Err}
+use Rattle.sane_fixed.specs.declared.status.Status.TheVariants.{Inval}
 use Rattle.sane_fixed.specs.declared.kind.Kind.{Kind}
 use Rattle.sane_fixed.specs.declared.params.Params.{Params}
 use Rattle.sane_fixed.specs.declared.status.Status.{Status as Code}
@@ -23,7 +24,7 @@ use Rattle.saned_requests.specs.declared.request_answer.RequestAnswer.TheVariant
 use Rattle.saned_requests.specs.Holding.{held_by, on_word}
 use Rattle.saned_requests.specs.RequestAnswers.{RequestContext, ContextOutcome, control, control_lease, got_reply, kind_of, options_of_lease, options_reply, params_reply, params_reply_of, refused_control, with_held}
 use Rattle.saned_requests.specs.OptionValues.{sent_as, size_of}
-use Rattle.system_model.specs.AbstractMessages.{Described, Describe, Get, Got, Inval, Parameters, Refused, AbstractReply, AbstractRequest, Shaped}
+use Rattle.system_model.specs.AbstractMessages.{Described, Describe, Get, Got, Parameters, Refused, AbstractReply, AbstractRequest, Shaped}
 use Rattle.system_model.specs.Devices.{Make, descriptors_in_force, is_answered_value, has_readable_value as told_there, readable_value, value_or_false}
 use Rattle.system_model.specs.AbstractDevices.{AbstractDevice}
 use Rattle.system_model.specs.Daemon.{Environment, TransferState, Quiet, Waiting, Streaming, Ending, AnswerEffect, get_reply, abstract_params, reply_effect, serve}

@@ -1,12 +1,12 @@
 -- The data connection of a session, as the model's actions.
 use Rattle.std.specs.Prelude.{ℕ, ◌≡◌, Option, Some, None, Result, Ok, Err, List, [], take}
-use Rattle.sane_fixed.specs.declared.status.Status.{Status as Code}
+use Rattle.sane_fixed.specs.declared.status.Status.{Status}
 use Rattle.sane_fixed.specs.declared.status.Status.TheVariants as code
 use Rattle.device_api.specs.State.{DeviceState, Reads}
 use Rattle.device_api.specs.State.Phase.{Reading}
 use Rattle.saned_requests.specs.RequestAnswers.{RequestContext}
 use Rattle.saned_core.specs.DaemonStates.{after_connected, after_lost, session_let_go}
-use Rattle.system_model.specs.Devices.{Make, abstract_status}
+use Rattle.system_model.specs.Devices.{Make}
 use Rattle.system_model.specs.AbstractDevices.{AbstractDevice, device_let_go}
 use Rattle.system_model.specs.Daemon.{TransferState, Quiet, Waiting, Streaming, Ending}
 use Rattle.system_model.specs.SystemStates.{JobState, with_entry}
@@ -18,21 +18,21 @@ use Rattle.daemon_refines.specs.ContextRefinement.{abstract_device, IsMade, Cont
 use Rattle.daemon_refines.specs.Failures.{IsTurnCounted}
 
 -- the end record of a turn has this status
-abbrev pub EndRecordIs : Code → Action → Type 0
+abbrev pub EndRecordIs : Status → Action → Type 0
 EndRecordIs status TurnsLast = status ≡ code.Eof
 EndRecordIs status TurnsShort = status ≡ code.Eof
-EndRecordIs status (TurnsNamed name) = name ≡ abstract_status status
+EndRecordIs status (TurnsNamed name) = name ≡ status
 EndRecordIs status (TurnsFault fault) = status ≡ code.IoError
 EndRecordIs status _ = ⊥
 
 -- **what a read is (`IsTurnOf`, `SendsAs`, `StreamServed`)**: the action that a read of the device is: bytes, the end,
 -- a status named or a failure; the record that it sends; and that the request context behind it is shown again.
-abbrev pub IsTurnOf : Result ℕ Code → List ℕ → Action → Type 0
+abbrev pub IsTurnOf : Result ℕ Status → List ℕ → Action → Type 0
 IsTurnOf (Ok n) window action = action ≡ Turns (take n window)
 IsTurnOf (Err status) window action = EndRecordIs status action
 
 -- one read is one turn of the model, which may come, and leaves the device as it leaves it by the model
-pub record TurnServed (i : ℕ) (k : Make) (listed : List ℕ) (p : JobState) (s : DeviceState) (answer : Result ℕ Code)
+pub record TurnServed (i : ℕ) (k : Make) (listed : List ℕ) (p : JobState) (s : DeviceState) (answer : Result ℕ Status)
     (after : DeviceState) (window : List ℕ) : Type 0 where
   pub action : Action
   pub is : IsTurnOf answer window action
@@ -45,7 +45,7 @@ pub record TurnServed (i : ℕ) (k : Make) (listed : List ℕ) (p : JobState) (s
 abbrev pub TurnsAgree : Type 0
 TurnsAgree =
     (i : ℕ) (k : Make) (listed : List ℕ) (p : JobState) (s after : DeviceState) (pass given : ℕ)
-    (answer : Result ℕ Code) (window : List ℕ) →
+    (answer : Result ℕ Status) (window : List ℕ) →
     IsMade k s → s.phase ≡ Reading pass given → p.session.transfer ≡ Streaming → Reads s answer after window →
     TurnServed i k listed p s answer after window
 

@@ -4,7 +4,7 @@ use Rattle.sane_fixed.specs.declared.byte_order.ByteOrder.{ByteOrder}
 use Rattle.sane_fixed.specs.declared.byte_order.ByteOrder.TheVariants.{Little}
 use Rattle.sane_fixed.specs.declared.info.Info.{Info as Bits}
 use Rattle.sane_fixed.specs.declared.kind.Kind.{Kind}
-use Rattle.sane_fixed.specs.declared.status.Status.{Status as Code}
+use Rattle.sane_fixed.specs.declared.status.Status.{Status}
 use Rattle.sane_fixed.specs.declared.status.Status.TheVariants as code
 use Rattle.option_desc.specs.declared.descriptor.Descriptor.{Descriptor}
 use Rattle.option_desc.specs.declared.value.Value.{Value}
@@ -25,7 +25,7 @@ use Rattle.saned_requests.specs.declared.session.StringSize.{StringSize}
 use Rattle.saned_requests.specs.OptionValues.{sent_as, size_of}
 use Rattle.system_model.specs.AbstractMessages.{AbstractReply, Greeted, Listed, Opened, Challenged, Described, Got}
 use Rattle.system_model.specs.AbstractMessages.{Gave, Shaped, Begun, Acked, Refused}
-use Rattle.system_model.specs.Devices.{abstract_status, abstract_info}
+use Rattle.system_model.specs.Devices.{abstract_info}
 
 -- what a reply has beside the answer: the port for data, how string values are sent, the least free word, the byte
 -- order and the descriptors of the device that the request's word stands for, and the devices that are listed
@@ -38,7 +38,7 @@ pub record Manner : Type 0 where
   pub infos : List DeviceInfo
 
 -- a request that is refused, and one that is done
-abbrev pub refused_to : Asked → ByteOrder → Code → Wire
+abbrev pub refused_to : Asked → ByteOrder → Status → Wire
 refused_to (requests.Start word) order status = start_reply status 0 order
 refused_to (requests.GetParameters word) order status = replies.GetParameters status no_params
 refused_to (requests.ControlOption word option action kind value) order status = refused_control status kind value
@@ -90,7 +90,7 @@ Spells m q (Gave value info) r =
 Spells m q (Shaped params) r = r ≡ replies.GetParameters code.Good params
 Spells m q (Begun order) r = r ≡ start_reply code.Good m.port order
 Spells m q Acked r = r ≡ done_to q
-Spells m q (Refused status) r = (name : Code) × (status ≡ abstract_status name) × (r ≡ refused_to q m.order name)
+Spells m q (Refused status) r = (name : Status) × (status ≡ name) × (r ≡ refused_to q m.order name)
 
 -- AUTHORIZE is answered in one by the model, and by two replies on the wire; an ending is answered by none
 abbrev pub SpellsSaid : Manner → Asked → List AbstractReply → RequestAnswer → Type 0

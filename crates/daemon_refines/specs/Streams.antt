@@ -1,7 +1,7 @@
 -- One turn of a session's data connection, as an action of the model.
 use Rattle.std.specs.Prelude.{ℕ, ◌≡◌, ◌+◌, Some, List, ◌++◌, take, length}
 use Rattle.std.specs.Int.{w32, to_be_bytes}
-use Rattle.sane_fixed.specs.declared.status.Status.{Status as Code}
+use Rattle.sane_fixed.specs.declared.status.Status.{Status}
 use Rattle.sane_fixed.specs.declared.status.Status.TheVariants as code
 use Rattle.device_api.specs.State.{DeviceState}
 use Rattle.saned_requests.specs.declared.session.DataPhase.TheVariants as word
@@ -10,7 +10,7 @@ use Rattle.saned_requests.specs.RequestAnswers.{RequestContext}
 use Rattle.saned_core.specs.declared.session_slot.DataStep.{DataStep}
 use Rattle.saned_core.specs.declared.session_slot.DataStep.TheVariants.{Bytes}
 use Rattle.saned_core.specs.Turns as daemon
-use Rattle.system_model.specs.Devices.{Make, abstract_status}
+use Rattle.system_model.specs.Devices.{Make}
 use Rattle.system_model.specs.AbstractDevices.{AbstractDevice}
 use Rattle.system_model.specs.SystemStates.{JobState, with_entry}
 use Rattle.system_model.specs.AbstractSessions.{AbstractSession}
@@ -26,7 +26,7 @@ SendsAs step buf (Turns bytes) = (step ≡ Bytes (4 + length bytes))
     × (take (4 + length bytes) buf ≡ to_be_bytes w32 (length bytes) ++ bytes)
 SendsAs step buf TurnsLast = daemon.WritesEndRecord code.Eof step buf
 SendsAs step buf TurnsShort = daemon.WritesEndRecord code.Eof step buf
-SendsAs step buf (TurnsNamed name) = (status : Code) × (name ≡ abstract_status status)
+SendsAs step buf (TurnsNamed name) = (status : Status) × (name ≡ status)
     × daemon.WritesEndRecord status step buf
 SendsAs step buf (TurnsFault fault) = daemon.WritesEndRecord code.IoError step buf
 SendsAs step buf TurnsOff = daemon.WritesEndRecord code.Cancelled step buf

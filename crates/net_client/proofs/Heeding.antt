@@ -40,17 +40,12 @@ descriptors_some text r s = in_front _ _ text r (λ t a w. word_some _ t a w) s
 
 reply_some : (p : Procedure) (text : List ℕ) (r : Reply) → (reply p).spells text r → 0 < length text
 unfolding reply
-reply_some procedures.Init text r s = in_front _ _ text r (λ t a w. in_front _ _ t a (λ u b v. word_some _ u b v) w) s
-reply_some procedures.GetDevices text r s = in_front _ _ text r (λ t a w. in_front _ _ t a (λ u b v. word_some _ u b v) w) s
-reply_some procedures.Open text r s = in_front _ _ text r (λ t a w. in_front _ _ t a (λ u b v. word_some _ u b v) w) s
 reply_some procedures.Close text r s = in_front _ _ text r (λ t a w. word_some _ t a w) s
 reply_some procedures.GetOptionDescriptors text r s = in_front _ _ text r (λ t a w. descriptors_some t a w) s
-reply_some procedures.ControlOption text r s = in_front _ _ text r (λ t a w. in_front _ _ t a (λ u b v. word_some _ u b v) w) s
-reply_some procedures.GetParameters text r s = in_front _ _ text r (λ t a w. in_front _ _ t a (λ u b v. word_some _ u b v) w) s
-reply_some procedures.Start text r s = in_front _ _ text r (λ t a w. in_front _ _ t a (λ u b v. word_some _ u b v) w) s
 reply_some procedures.Cancel text r s = in_front _ _ text r (λ t a w. word_some _ t a w) s
 reply_some procedures.Authorize text r s = in_front _ _ text r (λ t a w. word_some _ t a w) s
 reply_some procedures.Exit text r s = absurd s
+reply_some q text r s = in_front _ _ text r (λ t a w. in_front _ _ t a (λ u b v. word_some _ u b v) w) s
 
 limited_some : (p : Procedure) (text : List ℕ) (r : Reply) → (limited_format message_limit (reply p)).spells text r → 0 < length text
 unfolding limited_format

@@ -25,7 +25,7 @@ use Rattle.programs_refine.proofs.Lists.{there}
 use Rattle.programs_refine.proofs.Passed.{Passed, Traffics}
 use Rattle.programs_refine.proofs.Replied.{ends_as, stops_as}
 use Rattle.programs_refine.proofs.Serving.{comes}
-use Rattle.programs_refine.proofs.Tracks.{FilesTrack, Follows, IsUnlinked, JobTracks, Moved, Tracks, files_kept, moved, new_files_track, not_moved, done_behind_loss, lost_outcome}
+use Rattle.programs_refine.proofs.Tracks.{Course, FilesTrack, Follows, IsUnlinked, JobTracks, Moved, Tracks, files_kept, moved, new_files_track, not_moved, done_behind_loss, lost_outcome}
 use Rattle.programs_refine.proofs.Tracks.JobTracks.{Unlinked, Linked, Left}
 
 -- an event behind another of the same job
@@ -133,20 +133,20 @@ less_than a b low off = by (decide a b)
     by (inl same) = absurd (off same)
     by (inr other) = grind (arith, nat_tests)
 
-one_more : (source : Source → SourceState) (first : WorldCore) (owner : Owner) (jobs : List Job) (passed : ℕ → Passed) (done : ℕ → Traffics) (d : Core) (c : ℕ → ClientState) (t : Tracks source first owner jobs passed done d c) (n : ℕ) → n < length jobs → FinishedTo source t.w t.w jobs done c n → FinishedTo source t.w t.w jobs done c (n + 1)
-one_more source first owner jobs passed done d c t n low f =
-    let j = there jobs n low in
+one_more : (course : Course) (passed : ℕ → Passed) (done : ℕ → Traffics) (d : Core) (c : ℕ → ClientState) (t : Tracks course passed done d c) (n : ℕ) → n < length course.jobs → FinishedTo course.source t.w t.w course.jobs done c n → FinishedTo course.source t.w t.w course.jobs done c (n + 1)
+one_more course passed done d c t n low f =
+    let j = there course.jobs n low in
     let e = t.each n j.0 j.1 in
-    let x = finish_one source f.events t.w f.v owner d.opened t.flying passed n (done n) j.0 (c n) e.0 f.leads f.losses (f.kept n (omega arith) ∙ e.1) e.2 in
+    let x = finish_one course.source f.events t.w f.v course.owner d.opened t.flying passed n (done n) j.0 (c n) e.0 f.leads f.losses (f.kept n (omega arith) ∙ e.1) e.2 in
     record { events = x.m.events; v = x.m.v; leads = x.m.leads; losses = x.losses; ended = λ i less within. by x i within (decide i n) less; kept = λ i high. x.m.others i (λ same. absurd (omega (arith, same, high))) ∙ f.kept i (omega (arith, high)) }
   where
-    by : (x : Ends source t.w f.v n (done n) (c n)) → (i : ℕ) → i < length jobs → (i ≡ n) ⊎ (i ≢ n) → i < n + 1 → IsAsEnded x.m.v i (done i) (c i)
+    by : (x : Ends course.source t.w f.v n (done n) (c n)) → (i : ℕ) → i < length course.jobs → (i ≡ n) ⊎ (i ≢ n) → i < n + 1 → IsAsEnded x.m.v i (done i) (c i)
     by x i within (inl same) less = subst (λ (k : ℕ). IsAsEnded x.m.v k (done k) (c k)) (sym same) (record { q = x.q; at = x.m.own; ended = x.ended; stopped = x.stopped; files = x.files })
     by x i within (inr off) less =
         let was = f.ended i (less_than i n less off) within in
         record { q = was.q; at = x.m.others i off ∙ was.at; ended = was.ended; stopped = was.stopped; files = was.files }
 
-pub finish_all : (source : Source → SourceState) (first : WorldCore) (owner : Owner) (jobs : List Job) (passed : ℕ → Passed) (done : ℕ → Traffics) (d : Core) (c : ℕ → ClientState) (t : Tracks source first owner jobs passed done d c) (n : ℕ) → n ≤ length jobs → FinishedTo source t.w t.w jobs done c n
-finish_all source first owner jobs passed done d c t zero low = record { events = []; v = t.w; leads = record { are = tt; runs = refl }; losses = tt; ended = λ i less within. absurd (omega (arith, less)); kept = λ i high. refl }
-finish_all source first owner jobs passed done d c t (suc n) low =
-    subst (λ (k : ℕ). FinishedTo source t.w t.w jobs done c k) (let e : n + 1 ≡ suc n = omega arith in e) (one_more source first owner jobs passed done d c t n (omega (arith, low)) (finish_all source first owner jobs passed done d c t n (omega (arith, low))))
+pub finish_all : (course : Course) (passed : ℕ → Passed) (done : ℕ → Traffics) (d : Core) (c : ℕ → ClientState) (t : Tracks course passed done d c) (n : ℕ) → n ≤ length course.jobs → FinishedTo course.source t.w t.w course.jobs done c n
+finish_all course passed done d c t zero low = record { events = []; v = t.w; leads = record { are = tt; runs = refl }; losses = tt; ended = λ i less within. absurd (omega (arith, less)); kept = λ i high. refl }
+finish_all course passed done d c t (suc n) low =
+    subst (λ (k : ℕ). FinishedTo course.source t.w t.w course.jobs done c k) (let e : n + 1 ≡ suc n = omega arith in e) (one_more course passed done d c t n (omega (arith, low)) (finish_all course passed done d c t n (omega (arith, low))))

@@ -130,17 +130,11 @@ then_same : (d new done : RequestContext) → new ≡ done → FlowsNoMore d.ses
 then_same d new done e more f = more (subst (λ (x : RequestContext). Flows x.session.transfer) e f)
 
 free_flow : (users : List Entry) (d : RequestContext) (request : Request) (said : RequestAnswer) (new : RequestContext) → AnswersFree users d request said new → FlowsNoMore d.session.transfer new.session.transfer
-free_flow users d (requests.Init version user) said new a = then_same d new _ a.1 (λ f. f)
-free_flow users d requests.GetDevices said new a = then_same d new _ a.1 (λ f. f)
 free_flow users d (requests.Open name) said new a = same_phase d.session.transfer new.session.transfer (opens_same users d name (free_word d.session.held) (find_name name d.registry) said new a)
 free_flow users d (requests.Close word) said new a = then_same d new _ a.1 (closes_flow d word (held_by d.session.held word))
-free_flow users d (requests.GetOptionDescriptors word) said new a = then_same d new _ a.1 (λ f. f)
-free_flow users d (requests.ControlOption word option action kind value) said new a = then_same d new _ a.1 (λ f. f)
-free_flow users d (requests.GetParameters word) said new a = then_same d new _ a.1 (λ f. f)
 free_flow users d (requests.Start word) said new a = start_flows d word said new a
 free_flow users d (requests.Cancel word) said new a = then_same d new _ a.1 (cancels_flow d word (held_by d.session.held word))
-free_flow users d (requests.Authorize resource user password) said new a = then_same d new _ a.1 (λ f. f)
-free_flow users d requests.Exit said new a = then_same d new _ a.1 (λ f. f)
+free_flow users d q said new a = then_same d new _ a.1 (λ f. f)
 
 allowed_same : (d : RequestContext) (name : List ℕ) (b : Bool) → (reply_if_allowed b (without_awaited d) name).1.session.transfer ≡ d.session.transfer
 allowed_same d name true = take_same (without_awaited d) name (free_word d.session.held)
@@ -148,29 +142,11 @@ allowed_same d name false = refl
 
 awaiting_flow : (users : List Entry) (d : RequestContext) (awaited : AwaitedAuthorization) (request : Request) (said : RequestAnswer) (new : RequestContext) → AnswersAwaiting users d awaited request said new → FlowsNoMore d.session.transfer new.session.transfer
 awaiting_flow users d awaited (requests.Authorize resource user password) said new a = same_phase d.session.transfer new.session.transfer (ap (λ (x : RequestContext). x.session.transfer) a.gives.1 ∙ allowed_same d awaited.name a.allowed)
-awaiting_flow users d awaited (requests.Init version user) said new a = then_same d new _ a.1 (λ f. f)
-awaiting_flow users d awaited requests.GetDevices said new a = then_same d new _ a.1 (λ f. f)
-awaiting_flow users d awaited (requests.Open name) said new a = then_same d new _ a.1 (λ f. f)
-awaiting_flow users d awaited (requests.Close word) said new a = then_same d new _ a.1 (λ f. f)
-awaiting_flow users d awaited (requests.GetOptionDescriptors word) said new a = then_same d new _ a.1 (λ f. f)
-awaiting_flow users d awaited (requests.ControlOption word option action kind value) said new a = then_same d new _ a.1 (λ f. f)
-awaiting_flow users d awaited (requests.GetParameters word) said new a = then_same d new _ a.1 (λ f. f)
-awaiting_flow users d awaited (requests.Start word) said new a = then_same d new _ a.1 (λ f. f)
-awaiting_flow users d awaited (requests.Cancel word) said new a = then_same d new _ a.1 (λ f. f)
-awaiting_flow users d awaited requests.Exit said new a = then_same d new _ a.1 (λ f. f)
+awaiting_flow users d awaited q said new a = then_same d new _ a.1 (λ f. f)
 
 first_flow : (users : List Entry) (d : RequestContext) (request : Request) (said : RequestAnswer) (new : RequestContext) → AnswersBy false users d request said new → FlowsNoMore d.session.transfer new.session.transfer
 first_flow users d (requests.Init version user) said new a = then_same d new _ a.1 (λ f. f)
-first_flow users d requests.GetDevices said new a = then_same d new _ a.1 (λ f. f)
-first_flow users d (requests.Open name) said new a = then_same d new _ a.1 (λ f. f)
-first_flow users d (requests.Close word) said new a = then_same d new _ a.1 (λ f. f)
-first_flow users d (requests.GetOptionDescriptors word) said new a = then_same d new _ a.1 (λ f. f)
-first_flow users d (requests.ControlOption word option action kind value) said new a = then_same d new _ a.1 (λ f. f)
-first_flow users d (requests.GetParameters word) said new a = then_same d new _ a.1 (λ f. f)
-first_flow users d (requests.Start word) said new a = then_same d new _ a.1 (λ f. f)
-first_flow users d (requests.Cancel word) said new a = then_same d new _ a.1 (λ f. f)
-first_flow users d (requests.Authorize resource user password) said new a = then_same d new _ a.1 (λ f. f)
-first_flow users d requests.Exit said new a = then_same d new _ a.1 (λ f. f)
+first_flow users d q said new a = then_same d new _ a.1 (λ f. f)
 
 greeted_flow : (users : List Entry) (d : RequestContext) (awaited : Option AwaitedAuthorization) (request : Request) (said : RequestAnswer) (new : RequestContext) → AnswersGreeted users d awaited request said new → FlowsNoMore d.session.transfer new.session.transfer
 greeted_flow users d None request said new a = free_flow users d request said new a

@@ -18,7 +18,7 @@ use Rattle.programs_refine.proofs.Serving.{Setting}
 use Rattle.programs_refine.proofs.Simulated.{ActsLead, stand_behind}
 use Rattle.programs_refine.proofs.Simulation.{are_new, endpoints_of, new_files, new_limits}
 use Rattle.programs_refine.proofs.Timely.{arrange}
-use Rattle.programs_refine.proofs.Tracks.{FilesTrack, lost_outcome}
+use Rattle.programs_refine.proofs.Tracks.{course_of, FilesTrack, lost_outcome}
 use Rattle.programs_refine.proofs.Tracks.FilesTrack.{UnderWay, AllFinished}
 
 ends_alike : (v : WorldCore) (i : ℕ) (acts : Acts) (last : ClientState) (p : Endpoint) → slice_get v.endpoints i ≡ Some p → p.client.outcome ≡ last.outcome → FilesTrack (files_by_steps (job_journal i acts)) (given_by_steps (job_journal i acts)) p → EndsAlike v i acts last
@@ -36,7 +36,7 @@ programs_are source jobs owner d acts last r wants =
     let first = r.loops.first in
     let w : WorldCore = record { daemon = d; endpoints = endpoints_of jobs first } in
     let new = are_new jobs first r.loops.fresh in
-    let setting : Setting source w owner jobs = record { one = r.owns.one; within = r.owns.within; wants = (wants w (record { daemon = refl; endpoints = new })).0; hears = (wants w (record { daemon = refl; endpoints = new })).1 } in
+    let setting : Setting (course_of source w owner jobs) = record { one = r.owns.one; within = r.owns.within; wants = (wants w (record { daemon = refl; endpoints = new })).0; hears = (wants w (record { daemon = refl; endpoints = new })).1 } in
     let a = arrange owner (length jobs) acts d r.end (new_limits d r.new) r.new.opened r.owns.one r.owns.within r.serves.is_journal r.serves.run r.hands_on r.lost in
     let same = a.arranged.same in
     let led : ActsLead owner jobs first d a.new r.end last = record {
@@ -48,7 +48,7 @@ programs_are source jobs owner d acts last r wants =
       loops = λ i job at. subst (λ (l : List JobStep). StepsLead (first i) l (last i)) (sym (same.jobs i)) (r.loops.loops i job at);
     } in
     let t = stand_behind source owner jobs first d a.new r.end last r.new r.loops.fresh setting (new_files jobs first counts_at new) led in
-    let f = finish_all source w owner jobs _ (λ i. traffics_of (job_journal i a.new)) r.end last t (length jobs) (omega arith) in
+    let f = finish_all (course_of source w owner jobs) _ (λ i. traffics_of (job_journal i a.new)) r.end last t (length jobs) (omega arith) in
     record {
       w = w;
       is_of = record { daemon = refl; endpoints = new };

@@ -25,7 +25,7 @@ use Rattle.programs_refine.proofs.Passed.{Traffics, own_journal, passed_of, pass
 use Rattle.programs_refine.proofs.Serving.{Setting, acts_on, same_done}
 use Rattle.programs_refine.proofs.Simulation.{AreTimely, begun, endpoints_of, few_open, handed_as, may_step, not_left, not_starved, stands, stands_step}
 use Rattle.programs_refine.proofs.Stepping.{OneSteps, steps_on}
-use Rattle.programs_refine.proofs.Tracks.{JobTracks, Tracks}
+use Rattle.programs_refine.proofs.Tracks.{course_of, JobTracks, Tracks}
 
 -- ---- what leads to acts
 
@@ -41,14 +41,14 @@ abbrev start_world : List Job → Core → (ℕ → ClientState) → WorldCore
 start_world jobs d first = record { daemon = d; endpoints = endpoints_of jobs first }
 
 abbrev pub Stands : (source : Source → SourceState) (owner : Owner) (jobs : List Job) (first : ℕ → ClientState) (new : Core) (acts : Acts) (d : Core) (c : ℕ → ClientState) → Type 0
-Stands source owner jobs first new acts d c = Tracks source (start_world jobs new first) owner jobs (passed_of (server_journal acts)) (λ i. traffics_of (job_journal i acts)) d c
+Stands source owner jobs first new acts d c = Tracks (course_of source (start_world jobs new first) owner jobs) (passed_of (server_journal acts)) (λ i. traffics_of (job_journal i acts)) d c
 
 -- ---- nothing was done
 
 stands_first : (source : Source → SourceState) (owner : Owner) (jobs : List Job) (first : ℕ → ClientState) (new d : Core) (c : ℕ → ClientState) → HasOpenedNone new → ((i : ℕ) (job : Job) → slice_get jobs i ≡ Some job → IsNewClient job (first i)) → ActsLead owner jobs first new [] d c → Stands source owner jobs first new [] d c
 unfolding server_journal job_journal
 stands_first source owner jobs first new d c is fresh l =
-    subst (λ (x : Core). Tracks source (start_world jobs new first) owner jobs (passed_of []) (λ i. traffics_of []) x c) (sym l.runs) (begun source owner jobs new first c is fresh (λ i job at. l.loops i job at))
+    subst (λ (x : Core). Tracks (course_of source (start_world jobs new first) owner jobs) (passed_of []) (λ i. traffics_of []) x c) (sym l.runs) (begun source owner jobs new first c is fresh (λ i job at. l.loops i job at))
 
 -- ---- an action of the server
 
@@ -60,18 +60,18 @@ runs_before : (new : Core) (action : LoopAction) (past : Acts) (d : Core) → Da
 unfolding server_journal
 runs_before new action past d runs = runs
 
-by_server : (source : Source → SourceState) (owner : Owner) (jobs : List Job) (first : ℕ → ClientState) (new : Core) (action : LoopAction) (past : Acts) (d mid : Core) (c : ℕ → ClientState) → Setting source (start_world jobs new first) owner jobs → ActsLead owner jobs first new (OfServer action ∷ past) d c → ActsLead owner jobs first new past mid c → Steps mid action d
+by_server : (source : Source → SourceState) (owner : Owner) (jobs : List Job) (first : ℕ → ClientState) (new : Core) (action : LoopAction) (past : Acts) (d mid : Core) (c : ℕ → ClientState) → Setting (course_of source (start_world jobs new first) owner jobs) → ActsLead owner jobs first new (OfServer action ∷ past) d c → ActsLead owner jobs first new past mid c → Steps mid action d
     → Stands source owner jobs first new past mid c → Stands source owner jobs first new (OfServer action ∷ past) d c
 unfolding server_journal job_journal HandsOn
 by_server source owner jobs first new (Of n act) past d mid c s l before steps t =
-    acts_on source (start_world jobs new first) owner jobs (server_journal past) (λ i. traffics_of (job_journal i past)) mid d c s n act l.legal.1.0 (few_open (server_journal past) n act l.legal.0 l.legal.1)
+    acts_on (course_of source (start_world jobs new first) owner jobs) (server_journal past) (λ i. traffics_of (job_journal i past)) mid d c s n act l.legal.1.0 (few_open (server_journal past) n act l.legal.0 l.legal.1)
     (handed_as owner past n act s.one l.legal.0 l.hands.0 l.hands.1) steps t
-by_server source owner jobs first new Full past d mid c s l before steps t = same_done source (start_world jobs new first) owner jobs (passed_of (server_journal past)) (passed_of (Full ∷ server_journal past)) (λ i. traffics_of (job_journal i past)) mid d c (λ k. passes_full k (server_journal past)) steps t
-by_server source owner jobs first new Waits past d mid c s l before steps t = same_done source (start_world jobs new first) owner jobs (passed_of (server_journal past)) (passed_of (Waits ∷ server_journal past)) (λ i. traffics_of (job_journal i past)) mid d c (λ k. passes_waits k (server_journal past)) steps t
+by_server source owner jobs first new Full past d mid c s l before steps t = same_done (course_of source (start_world jobs new first) owner jobs) (passed_of (server_journal past)) (passed_of (Full ∷ server_journal past)) (λ i. traffics_of (job_journal i past)) mid d c (λ k. passes_full k (server_journal past)) steps t
+by_server source owner jobs first new Waits past d mid c s l before steps t = same_done (course_of source (start_world jobs new first) owner jobs) (passed_of (server_journal past)) (passed_of (Waits ∷ server_journal past)) (λ i. traffics_of (job_journal i past)) mid d c (λ k. passes_waits k (server_journal past)) steps t
 by_server source owner jobs first new (Refuses port trace) past d mid c s l before steps t =
-    same_done source (start_world jobs new first) owner jobs (passed_of (server_journal past)) (passed_of (Refuses port trace ∷ server_journal past)) (λ i. traffics_of (job_journal i past)) mid d c (λ k. passes_refuses k port trace (server_journal past)) steps.1 t
-by_server source owner jobs first new Turned past d mid c s l before steps t = same_done source (start_world jobs new first) owner jobs (passed_of (server_journal past)) (passed_of (Turned ∷ server_journal past)) (λ i. traffics_of (job_journal i past)) mid d c (λ k. passes_turned k (server_journal past)) steps t
-by_server source owner jobs first new Stops past d mid c s l before steps t = same_done source (start_world jobs new first) owner jobs (passed_of (server_journal past)) (passed_of (Stops ∷ server_journal past)) (λ i. traffics_of (job_journal i past)) mid d c (λ k. passes_stops k (server_journal past)) steps t
+    same_done (course_of source (start_world jobs new first) owner jobs) (passed_of (server_journal past)) (passed_of (Refuses port trace ∷ server_journal past)) (λ i. traffics_of (job_journal i past)) mid d c (λ k. passes_refuses k port trace (server_journal past)) steps.1 t
+by_server source owner jobs first new Turned past d mid c s l before steps t = same_done (course_of source (start_world jobs new first) owner jobs) (passed_of (server_journal past)) (passed_of (Turned ∷ server_journal past)) (λ i. traffics_of (job_journal i past)) mid d c (λ k. passes_turned k (server_journal past)) steps t
+by_server source owner jobs first new Stops past d mid c s l before steps t = same_done (course_of source (start_world jobs new first) owner jobs) (passed_of (server_journal past)) (passed_of (Stops ∷ server_journal past)) (λ i. traffics_of (job_journal i past)) mid d c (λ k. passes_stops k (server_journal past)) steps t
 
 -- ---- a step of a job
 
@@ -112,12 +112,12 @@ one_steps i step past mid c = record {
   others = λ j off. (ap traffics_of (of_other j i step past (λ same. off (sym same))), before_other i mid c j off);
 }
 
-by_job : (source : Source → SourceState) (owner : Owner) (jobs : List Job) (first : ℕ → ClientState) (new : Core) (i : ℕ) (job : Job) (step : JobStep) (past : Acts) (d : Core) (c : ℕ → ClientState) → Setting source (start_world jobs new first) owner jobs → AllFilesRepresent (endpoints_of jobs first) → new.opened ≡ 0 → slice_get jobs i ≡ Some job
+by_job : (source : Source → SourceState) (owner : Owner) (jobs : List Job) (first : ℕ → ClientState) (new : Core) (i : ℕ) (job : Job) (step : JobStep) (past : Acts) (d : Core) (c : ℕ → ClientState) → Setting (course_of source (start_world jobs new first) owner jobs) → AllFilesRepresent (endpoints_of jobs first) → new.opened ≡ 0 → slice_get jobs i ≡ Some job
     → (l : ActsLead owner jobs first new (OfJob i step ∷ past) d c) → (s : StepIs (first i) (job_journal i past) step (c i)) → Stands source owner jobs first new past d (client_before i s.mid c) → Stands source owner jobs first new (OfJob i step ∷ past) d c
 unfolding server_journal HandsOn
 by_job source owner jobs first new i job step past d c setting files none at l s t =
     let was = client_before i s.mid c in
-    steps_on source (start_world jobs new first) owner jobs (passed_of (server_journal past)) (λ j. traffics_of (job_journal j past)) (λ j. traffics_of (job_journal j (OfJob i step ∷ past))) d was c t i job step.move step.gives step.turned setting.one setting.hears (λ k own. not_starved owner i k (server_journal past) own l.timely.1)
+    steps_on (course_of source (start_world jobs new first) owner jobs) (passed_of (server_journal past)) (λ j. traffics_of (job_journal j past)) (λ j. traffics_of (job_journal j (OfJob i step ∷ past))) d was c t i job step.move step.gives step.turned setting.one setting.hears (λ k own. not_starved owner i k (server_journal past) own l.timely.1)
     (stands_run source t.events (start_world jobs new first) t.w t.leads.runs files) at (one_steps i step past s.mid c)
     (λ k own low. stands (server_journal past) new d k none l.runs low (not_left owner i k (server_journal past) own l.timely.1)) s.whole (may_step owner i past (traffic_of step) l.hands.1) (stands_step owner i (server_journal past) (traffic_of step) l.lost.1)
     (subst (λ (z : ClientState). StepLeads z step (c i)) (sym (before_own i s.mid c)) s.leads)
@@ -155,7 +155,7 @@ nobody_before owner jobs first new i step past d c none l = record {
 
 -- ---- all acts
 
-pub stand_behind : (source : Source → SourceState) (owner : Owner) (jobs : List Job) (first : ℕ → ClientState) (new : Core) (acts : Acts) (d : Core) (c : ℕ → ClientState) → HasOpenedNone new → ((i : ℕ) (job : Job) → slice_get jobs i ≡ Some job → IsNewClient job (first i)) → Setting source (start_world jobs new first) owner jobs
+pub stand_behind : (source : Source → SourceState) (owner : Owner) (jobs : List Job) (first : ℕ → ClientState) (new : Core) (acts : Acts) (d : Core) (c : ℕ → ClientState) → HasOpenedNone new → ((i : ℕ) (job : Job) → slice_get jobs i ≡ Some job → IsNewClient job (first i)) → Setting (course_of source (start_world jobs new first) owner jobs)
     → AllFilesRepresent (endpoints_of jobs first) → ActsLead owner jobs first new acts d c → Stands source owner jobs first new acts d c
 stand_behind source owner jobs first new [] d c is fresh s files l = stands_first source owner jobs first new d c is fresh l
 stand_behind source owner jobs first new (OfServer action ∷ past) d c is fresh s files l =

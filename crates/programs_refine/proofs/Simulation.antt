@@ -39,7 +39,7 @@ use Rattle.programs_refine.proofs.Passed.{Passed, Traffics, has_starved, is_star
 use Rattle.programs_refine.proofs.Outgoing.{never_both}
 use Rattle.programs_refine.proofs.Serving.{AreFew, Handed}
 use Rattle.programs_refine.proofs.Stepping.{MayStep, Standing}
-use Rattle.programs_refine.proofs.Tracks.{IsUnlinked, Tracks}
+use Rattle.programs_refine.proofs.Tracks.{course_of, IsUnlinked, Tracks}
 use Rattle.programs_refine.proofs.Tracks.Follows.{Alike}
 use Rattle.programs_refine.proofs.Tracks.JobTracks.{Unlinked}
 
@@ -90,7 +90,7 @@ pub new_files : (jobs : List Job) (first : ℕ → ClientState) → ((i : ℕ) (
 new_files jobs first counts new = λ k p at. new_posts jobs (endpoints_of jobs first) k p counts new at
 
 pub begun : (source : Source → SourceState) (owner : Owner) (jobs : List Job) (d : Core) (first c : ℕ → ClientState) → HasOpenedNone d → ((i : ℕ) (job : Job) → slice_get jobs i ≡ Some job → IsNewClient job (first i)) → ((i : ℕ) (job : Job) → slice_get jobs i ≡ Some job → c i ≡ first i)
-    → Tracks source (record { daemon = d; endpoints = endpoints_of jobs first }) owner jobs (passed_of []) (λ i. traffics_of []) d c
+    → Tracks (course_of source (record { daemon = d; endpoints = endpoints_of jobs first }) owner jobs) (passed_of []) (λ i. traffics_of []) d c
 begun source owner jobs d first c new fresh same = record {
   events = [];
   w = record { daemon = d; endpoints = endpoints_of jobs first };

@@ -31,7 +31,7 @@ use Rattle.programs_refine.proofs.Outgoing.{dialled_receives, never_both, not_ov
 use Rattle.programs_refine.proofs.Passed.{Passed, Traffics, traffics_after}
 use Rattle.programs_refine.proofs.Quiet.{IsQuiet, IsTimely, gave_none, quiet_move}
 use Rattle.programs_refine.proofs.Serving.{comes}
-use Rattle.programs_refine.proofs.Tracks.{Follows, IsLinked, IsUnlinked, JobTracks, OutTracks, Tracks, goes_on, not_moved, with_out}
+use Rattle.programs_refine.proofs.Tracks.{Course, Follows, IsLinked, IsUnlinked, JobTracks, OutTracks, Tracks, goes_on, not_moved, with_out}
 use Rattle.programs_refine.proofs.Tracks.Follows.{Alike, Dialled, Lost, Cut}
 use Rattle.programs_refine.proofs.Tracks.JobTracks.{Unlinked, Linked, Left}
 
@@ -55,25 +55,25 @@ pub record OneSteps (done done_new : ℕ → Traffics) (c c_new : ℕ → Client
   pub own : done_new i ≡ traffics_after step (done i)
   pub others : (j : ℕ) → j ≢ i → (done_new j ≡ done j) × (c_new j ≡ c j)
 
-abbrev Behind : (source : Source → SourceState) (first : WorldCore) (owner : Owner) (jobs : List Job) (passed : ℕ → Passed) (done : ℕ → Traffics) (d : Core) (c : ℕ → ClientState) → Type 0
-Behind source first owner jobs passed done d c = Tracks source first owner jobs passed done d c
+abbrev Behind : (course : Course) (passed : ℕ → Passed) (done : ℕ → Traffics) (d : Core) (c : ℕ → ClientState) → Type 0
+Behind course passed done d c = Tracks course passed done d c
 
 -- nothing happens in the world
-quietly : (source : Source → SourceState) (first : WorldCore) (owner : Owner) (jobs : List Job) (passed : ℕ → Passed) (done done_new : ℕ → Traffics) (d : Core) (c c_new : ℕ → ClientState) (t : Behind source first owner jobs passed done d c) (i : ℕ) (job : Job) (step : JobStep) → slice_get jobs i ≡ Some job → OneSteps done done_new c c_new i step
-    → ((p : Endpoint) → JobTracks owner d.opened t.flying passed (done i) i job (c i) p → JobTracks owner d.opened t.flying passed (traffics_after step (done i)) i job (c_new i) p) → Behind source first owner jobs passed done_new d c_new
-quietly source first owner jobs passed done done_new d c c_new t i job step at one leads =
+quietly : (course : Course) (passed : ℕ → Passed) (done done_new : ℕ → Traffics) (d : Core) (c c_new : ℕ → ClientState) (t : Behind course passed done d c) (i : ℕ) (job : Job) (step : JobStep) → slice_get course.jobs i ≡ Some job → OneSteps done done_new c c_new i step
+    → ((p : Endpoint) → JobTracks course.owner d.opened t.flying passed (done i) i job (c i) p → JobTracks course.owner d.opened t.flying passed (traffics_after step (done i)) i job (c_new i) p) → Behind course passed done_new d c_new
+quietly course passed done done_new d c c_new t i job step at one leads =
     let e = t.each i job at in
-    goes_on source first owner jobs passed passed done done_new d d c c_new t i e.0 t.w.daemon (not_moved source t.events first t.w i e.0 t.leads e.1) t.flying t.differs t.slots t.owned t.calm (omega arith)
+    goes_on course passed passed done done_new d d c c_new t i e.0 t.w.daemon (not_moved course.source t.events course.first t.w i e.0 t.leads e.1) t.flying t.differs t.slots t.owned t.calm (omega arith)
     (λ j off k own. (λ high. high, refl, refl)) one.others
-    (λ other there. subst (λ (x : Job). JobTracks owner d.opened t.flying passed (done_new i) i x (c_new i) e.0) (let same : Some job ≡ Some other = sym at ∙ there in cc)
-    (subst (λ (x : Traffics). JobTracks owner d.opened t.flying passed x i job (c_new i) e.0) (sym one.own) (leads e.0 e.2)))
+    (λ other there. subst (λ (x : Job). JobTracks course.owner d.opened t.flying passed (done_new i) i x (c_new i) e.0) (let same : Some job ≡ Some other = sym at ∙ there in cc)
+    (subst (λ (x : Traffics). JobTracks course.owner d.opened t.flying passed x i job (c_new i) e.0) (sym one.own) (leads e.0 e.2)))
 
-by_quiet_move : (source : Source → SourceState) (first : WorldCore) (owner : Owner) (jobs : List Job) (passed : ℕ → Passed) (done done_new : ℕ → Traffics) (d : Core) (c c_new : ℕ → ClientState) (t : Behind source first owner jobs passed done d c) (i : ℕ) (job : Job) (move : JobMove) (gives : List JobMove) (turned : Bool) → slice_get jobs i ≡ Some job
-    → OneSteps done done_new c c_new i (record { move = move; gives = gives; turned = turned }) → IsQuiet move → IsTimely owner d.opened passed i → (done i).failed ≡ false → gives ≡ [] → turned ≡ false → MoveLeads (c i) move (c_new i) → Behind source first owner jobs passed done_new d c_new
-by_quiet_move source first owner jobs passed done done_new d c c_new t i job move gives turned at one is timely ok none still m =
-    quietly source first owner jobs passed done done_new d c c_new t i job (record { move = move; gives = gives; turned = turned }) at one
-    (λ p tracks. subst (λ (x : Traffics). JobTracks owner d.opened t.flying passed x i job (c_new i) p) (sym (gave_none move gives turned (done i) none still))
-    (quiet_move owner d.opened t.flying passed i job (done i) (c i) (c_new i) p move is timely ok m tracks))
+by_quiet_move : (course : Course) (passed : ℕ → Passed) (done done_new : ℕ → Traffics) (d : Core) (c c_new : ℕ → ClientState) (t : Behind course passed done d c) (i : ℕ) (job : Job) (move : JobMove) (gives : List JobMove) (turned : Bool) → slice_get course.jobs i ≡ Some job
+    → OneSteps done done_new c c_new i (record { move = move; gives = gives; turned = turned }) → IsQuiet move → IsTimely course.owner d.opened passed i → (done i).failed ≡ false → gives ≡ [] → turned ≡ false → MoveLeads (c i) move (c_new i) → Behind course passed done_new d c_new
+by_quiet_move course passed done done_new d c c_new t i job move gives turned at one is timely ok none still m =
+    quietly course passed done done_new d c c_new t i job (record { move = move; gives = gives; turned = turned }) at one
+    (λ p tracks. subst (λ (x : Traffics). JobTracks course.owner d.opened t.flying passed x i job (c_new i) p) (sym (gave_none move gives turned (done i) none still))
+    (quiet_move course.owner d.opened t.flying passed i job (done i) (c i) (c_new i) p move is timely ok m tracks))
 
 -- a job that no session was opened for hears nothing
 nothing_heard : (owner : Owner) (opened : ℕ) (passed : ℕ → Passed) (x : Traffics) (i : ℕ) (job : Job) (c : ClientState) (p : Endpoint) (piece : List ℕ) → IsUnlinked owner opened passed x i job c p → (k : ℕ) → owner k ≡ Some i → IsFront (x.heard ++ piece) (passed k).said → piece ≡ []
@@ -92,53 +92,53 @@ nothing_taken owner opened passed x i job c p piece u k own front =
 
 -- ---- a piece of the control connection
 
-hears_step : (source : Source → SourceState) (first : WorldCore) (owner : Owner) (jobs : List Job) (passed : ℕ → Passed) (done done_new : ℕ → Traffics) (d : Core) (c c_new : ℕ → ClientState) (t : Behind source first owner jobs passed done d c) (i : ℕ) (job : Job) (piece : List ℕ) (gives : List JobMove) (turned : Bool) → HaveOneSession owner → HasMemoryFor owner passed i → AllFilesRepresent t.w.endpoints
-    → slice_get jobs i ≡ Some job → OneSteps done done_new c c_new i (record { move = Hears piece; gives = gives; turned = turned }) → IsTimely owner d.opened passed i → (done i).failed ≡ false → MayStep owner passed (done i) i (ReadsBytes piece) → HearsAndGives (c i) piece (record { move = Hears piece; gives = gives; turned = turned }) (c_new i) → Behind source first owner jobs passed done_new d c_new
-hears_step source first owner jobs passed done done_new d c c_new t i job piece gives turned only memory files at one timely ok may h =
+hears_step : (course : Course) (passed : ℕ → Passed) (done done_new : ℕ → Traffics) (d : Core) (c c_new : ℕ → ClientState) (t : Behind course passed done d c) (i : ℕ) (job : Job) (piece : List ℕ) (gives : List JobMove) (turned : Bool) → HaveOneSession course.owner → HasMemoryFor course.owner passed i → AllFilesRepresent t.w.endpoints
+    → slice_get course.jobs i ≡ Some job → OneSteps done done_new c c_new i (record { move = Hears piece; gives = gives; turned = turned }) → IsTimely course.owner d.opened passed i → (done i).failed ≡ false → MayStep course.owner passed (done i) i (ReadsBytes piece) → HearsAndGives (c i) piece (record { move = Hears piece; gives = gives; turned = turned }) (c_new i) → Behind course passed done_new d c_new
+hears_step course passed done done_new d c c_new t i job piece gives turned only memory files at one timely ok may h =
     let e = t.each i job at in by e.0 e.1 e.2
   where
-    same_job : (other : Job) → slice_get jobs i ≡ Some other → job ≡ other
+    same_job : (other : Job) → slice_get course.jobs i ≡ Some other → job ≡ other
     same_job other there = let same : Some job ≡ Some other = sym at ∙ there in cc
 
-    linked : (p : Endpoint) → slice_get t.w.endpoints i ≡ Some p → (k : ℕ) → owner k ≡ Some i → k < d.opened → IsFront ((done i).heard ++ piece) (passed k).said → IsLinked (passed k) (t.flying k) (done i) k (c i) p → Behind source first owner jobs passed done_new d c_new
+    linked : (p : Endpoint) → slice_get t.w.endpoints i ≡ Some p → (k : ℕ) → course.owner k ≡ Some i → k < d.opened → IsFront ((done i).heard ++ piece) (passed k).said → IsLinked (passed k) (t.flying k) (done i) k (c i) p → Behind course passed done_new d c_new
     linked p there k own low front l =
         let x = hears t.w.daemon t.flying d k (passed k) (done i) (c i) (c_new i) p piece (record { move = Hears piece; gives = gives; turned = turned }) t.differs (files i p there) l ok (memory k own) front h in
-        let m = comes source t.events first t.w i p x.q (events.ToClient (length piece)) x.e t.leads there tt x.can x.does in
+        let m = comes course.source t.events course.first t.w i p x.q (events.ToClient (length piece)) x.e t.leads there tt x.can x.does in
         let flying = undelivered_with k x.left t.flying in
-        goes_on source first owner jobs passed passed done done_new d d c c_new t i x.q x.e m flying x.differs (λ n some. t.slots n (x.is_slot n some)) t.owned
+        goes_on course passed passed done done_new d d c c_new t i x.q x.e m flying x.differs (λ n some. t.slots n (x.is_slot n some)) t.owned
         (λ n told flows. t.calm n told (subst IsFlowing (frames_alike flying d x.e n x.differs ∙ sym (frames_alike t.flying d t.w.daemon n t.differs)) flows)) (omega arith)
-        (λ j off n theirs. (λ high. high, refl, other_flying k n x.left t.flying (λ same. off (let both : Some j ≡ Some i = sym theirs ∙ ap owner same ∙ own in cc)))) one.others
-        (λ other here. subst (λ (y : Job). JobTracks owner d.opened flying passed (done_new i) i y (c_new i) x.q) (same_job other here)
-        (subst (λ (y : Traffics). JobTracks owner d.opened flying passed y i job (c_new i) x.q) (sym one.own)
+        (λ j off n theirs. (λ high. high, refl, other_flying k n x.left t.flying (λ same. off (let both : Some j ≡ Some i = sym theirs ∙ ap course.owner same ∙ own in cc)))) one.others
+        (λ other here. subst (λ (y : Job). JobTracks course.owner d.opened flying passed (done_new i) i y (c_new i) x.q) (same_job other here)
+        (subst (λ (y : Traffics). JobTracks course.owner d.opened flying passed y i job (c_new i) x.q) (sym one.own)
         (Linked k own low (subst (λ (z : List ℕ). IsLinked (passed k) z (traffics_after (record { move = Hears piece; gives = gives; turned = turned }) (done i)) k (c_new i) x.q) (sym (own_flying k k x.left t.flying refl)) x.tracks))))
 
-    by : (p : Endpoint) → slice_get t.w.endpoints i ≡ Some p → JobTracks owner d.opened t.flying passed (done i) i job (c i) p → Behind source first owner jobs passed done_new d c_new
-    by p there (Unlinked u) = absurd (h.is_piece.0 (nothing_heard owner d.opened passed (done i) i job (c i) p piece u may.0 may.1 may.2))
+    by : (p : Endpoint) → slice_get t.w.endpoints i ≡ Some p → JobTracks course.owner d.opened t.flying passed (done i) i job (c i) p → Behind course passed done_new d c_new
+    by p there (Unlinked u) = absurd (h.is_piece.0 (nothing_heard course.owner d.opened passed (done i) i job (c i) p piece u may.0 may.1 may.2))
     by p there (Linked k own low l) = linked p there k own low (subst (λ (n : ℕ). IsFront ((done i).heard ++ piece) (passed n).said) (only may.0 k i may.1 own) may.2) l
     by p there (Left k own low shut l) = never_both (passed k).is_open (timely k own low) shut
 
 -- ---- a piece of the data connection
 
-takes_step : (source : Source → SourceState) (first : WorldCore) (owner : Owner) (jobs : List Job) (passed : ℕ → Passed) (done done_new : ℕ → Traffics) (d : Core) (c c_new : ℕ → ClientState) (t : Behind source first owner jobs passed done d c) (i : ℕ) (job : Job) (piece : List ℕ) (gives : List JobMove) (turned : Bool) → HaveOneSession owner → AllFilesRepresent t.w.endpoints
-    → slice_get jobs i ≡ Some job → OneSteps done done_new c c_new i (record { move = Takes piece; gives = gives; turned = turned }) → IsTimely owner d.opened passed i → (done i).failed ≡ false → MayStep owner passed (done i) i (TakesBytes piece) → Standing owner passed i (TakesBytes piece) → TakesAndGives (c i) piece (record { move = Takes piece; gives = gives; turned = turned }) (c_new i)
-    → Behind source first owner jobs passed done_new d c_new
-takes_step source first owner jobs passed done done_new d c c_new t i job piece gives turned only files at one timely ok may stands h =
+takes_step : (course : Course) (passed : ℕ → Passed) (done done_new : ℕ → Traffics) (d : Core) (c c_new : ℕ → ClientState) (t : Behind course passed done d c) (i : ℕ) (job : Job) (piece : List ℕ) (gives : List JobMove) (turned : Bool) → HaveOneSession course.owner → AllFilesRepresent t.w.endpoints
+    → slice_get course.jobs i ≡ Some job → OneSteps done done_new c c_new i (record { move = Takes piece; gives = gives; turned = turned }) → IsTimely course.owner d.opened passed i → (done i).failed ≡ false → MayStep course.owner passed (done i) i (TakesBytes piece) → Standing course.owner passed i (TakesBytes piece) → TakesAndGives (c i) piece (record { move = Takes piece; gives = gives; turned = turned }) (c_new i)
+    → Behind course passed done_new d c_new
+takes_step course passed done done_new d c c_new t i job piece gives turned only files at one timely ok may stands h =
     let e = t.each i job at in by e.0 e.1 e.2
   where
-    same_job : (other : Job) → slice_get jobs i ≡ Some other → job ≡ other
+    same_job : (other : Job) → slice_get course.jobs i ≡ Some other → job ≡ other
     same_job other there = let same : Some job ≡ Some other = sym at ∙ there in cc
 
-    linked : (p : Endpoint) → slice_get t.w.endpoints i ≡ Some p → (k : ℕ) → owner k ≡ Some i → k < d.opened → (passed k).accepted ≡ (done i).made → IsFront ((done i).taken ++ piece) (passed k).shown → IsLinked (passed k) (t.flying k) (done i) k (c i) p → Behind source first owner jobs passed done_new d c_new
+    linked : (p : Endpoint) → slice_get t.w.endpoints i ≡ Some p → (k : ℕ) → course.owner k ≡ Some i → k < d.opened → (passed k).accepted ≡ (done i).made → IsFront ((done i).taken ++ piece) (passed k).shown → IsLinked (passed k) (t.flying k) (done i) k (c i) p → Behind course passed done_new d c_new
     linked p there k own low count front l =
         let x = takes t.w.daemon (t.flying k) k (passed k) (done i) (c i) (c_new i) p piece (record { move = Takes piece; gives = gives; turned = turned }) (files i p there) l ok (stands k own) count front h in
-        let m = comes source t.events first t.w i p x.q (events.DataToClient (length piece)) t.w.daemon t.leads there tt x.can x.does in
-        goes_on source first owner jobs passed passed done done_new d d c c_new t i x.q t.w.daemon m t.flying t.differs t.slots t.owned t.calm (omega arith)
+        let m = comes course.source t.events course.first t.w i p x.q (events.DataToClient (length piece)) t.w.daemon t.leads there tt x.can x.does in
+        goes_on course passed passed done done_new d d c c_new t i x.q t.w.daemon m t.flying t.differs t.slots t.owned t.calm (omega arith)
         (λ j off n theirs. (λ high. high, refl, refl)) one.others
-        (λ other here. subst (λ (y : Job). JobTracks owner d.opened t.flying passed (done_new i) i y (c_new i) x.q) (same_job other here)
-        (subst (λ (y : Traffics). JobTracks owner d.opened t.flying passed y i job (c_new i) x.q) (sym one.own) (Linked k own low x.tracks)))
+        (λ other here. subst (λ (y : Job). JobTracks course.owner d.opened t.flying passed (done_new i) i y (c_new i) x.q) (same_job other here)
+        (subst (λ (y : Traffics). JobTracks course.owner d.opened t.flying passed y i job (c_new i) x.q) (sym one.own) (Linked k own low x.tracks)))
 
-    by : (p : Endpoint) → slice_get t.w.endpoints i ≡ Some p → JobTracks owner d.opened t.flying passed (done i) i job (c i) p → Behind source first owner jobs passed done_new d c_new
-    by p there (Unlinked u) = absurd (h.is_piece.0 (nothing_taken owner d.opened passed (done i) i job (c i) p piece u may.0 may.1 may.3))
+    by : (p : Endpoint) → slice_get t.w.endpoints i ≡ Some p → JobTracks course.owner d.opened t.flying passed (done i) i job (c i) p → Behind course passed done_new d c_new
+    by p there (Unlinked u) = absurd (h.is_piece.0 (nothing_taken course.owner d.opened passed (done i) i job (c i) p piece u may.0 may.1 may.3))
     by p there (Linked k own low l) =
         let same = only may.0 k i may.1 own in
         linked p there k own low (subst (λ (n : ℕ). (passed n).accepted ≡ (done i).made) same may.2) (subst (λ (n : ℕ). IsFront ((done i).taken ++ piece) (passed n).shown) same may.3) l
@@ -163,9 +163,9 @@ new_hears job c p n (Dialled on wants runs same) early = never_both false on ref
 new_hears job c p n (Lost runs over wants) early = not_over c.outcome over early.1
 new_hears job c p n (Cut off told over either) early = never_both false told refl
 
-never_early : (source : Source → SourceState) (first : WorldCore) (owner : Owner) (jobs : List Job) (passed : ℕ → Passed) (done : ℕ → Traffics) (d : Core) (c : ℕ → ClientState) (t : Behind source first owner jobs passed done d c) (i : ℕ) (job : Job) → AlwaysHearsInTurn source first → slice_get jobs i ≡ Some job → IsTimely owner d.opened passed i
+never_early : (course : Course) (passed : ℕ → Passed) (done : ℕ → Traffics) (d : Core) (c : ℕ → ClientState) (t : Behind course passed done d c) (i : ℕ) (job : Job) → AlwaysHearsInTurn course.source course.first → slice_get course.jobs i ≡ Some job → IsTimely course.owner d.opened passed i
     → (done i).failed ≡ false → IsEarly (c i) → ⊥
-never_early source first owner jobs passed done d c t i job hears at timely ok early = let e = t.each i job at in by e.0 e.1 e.2
+never_early course passed done d c t i job hears at timely ok early = let e = t.each i job at in by e.0 e.1 e.2
   where
     linked : (k : ℕ) (p : Endpoint) → slice_get t.w.endpoints i ≡ Some p → (l : IsLinked (passed k) (t.flying k) (done i) k (c i) p) → Follows l.pending (passed k).dropped (c i) p.client → ⊥
     linked k p there l (Alike off same) =
@@ -175,23 +175,23 @@ never_early source first owner jobs passed done d c t i job hears at timely ok e
     linked k p there l (Cut off told over (inl receives)) = never_both (is_receiving (c i).outcome (c i).progress) receives early.2
     linked k p there l (Cut off told over (inr lost)) = not_over (c i).outcome lost early.1
 
-    by : (p : Endpoint) → slice_get t.w.endpoints i ≡ Some p → JobTracks owner d.opened t.flying passed (done i) i job (c i) p → ⊥
+    by : (p : Endpoint) → slice_get t.w.endpoints i ≡ Some p → JobTracks course.owner d.opened t.flying passed (done i) i job (c i) p → ⊥
     by p there (Unlinked u) = new_hears job (c i) p u.new u.follows early
     by p there (Linked k own low l) = linked k p there l l.follows
     by p there (Left k own low shut l) = never_both (passed k).is_open (timely k own low) shut
 
 -- ---- every step
 
-pub steps_on : (source : Source → SourceState) (first : WorldCore) (owner : Owner) (jobs : List Job) (passed : ℕ → Passed) (done done_new : ℕ → Traffics) (d : Core) (c c_new : ℕ → ClientState) (t : Behind source first owner jobs passed done d c) (i : ℕ) (job : Job) (move : JobMove) (gives : List JobMove) (turned : Bool) → HaveOneSession owner → AlwaysHearsInTurn source first → HasMemoryFor owner passed i → AllFilesRepresent t.w.endpoints
-    → slice_get jobs i ≡ Some job → OneSteps done done_new c c_new i (record { move = move; gives = gives; turned = turned }) → IsTimely owner d.opened passed i → (done i).failed ≡ false → MayStep owner passed (done i) i (traffic_of (record { move = move; gives = gives; turned = turned })) → Standing owner passed i (traffic_of (record { move = move; gives = gives; turned = turned }))
-    → StepLeads (c i) (record { move = move; gives = gives; turned = turned }) (c_new i) → Behind source first owner jobs passed done_new d c_new
-steps_on source first owner jobs passed done done_new d c c_new t i job (Writes bytes) gives turned only hears memory files at one timely ok may stands s = by_quiet_move source first owner jobs passed done done_new d c c_new t i job (Writes bytes) gives turned at one tt timely ok s.0 s.1 s.2
-steps_on source first owner jobs passed done done_new d c c_new t i job (Fails bytes) gives turned only hears memory files at one timely ok may stands s = by_quiet_move source first owner jobs passed done done_new d c c_new t i job (Fails bytes) gives turned at one tt timely ok s.0 s.1 s.2
-steps_on source first owner jobs passed done done_new d c c_new t i job (Prepares port) gives turned only hears memory files at one timely ok may stands s = by_quiet_move source first owner jobs passed done done_new d c c_new t i job (Prepares port) gives turned at one tt timely ok s.0 s.1 s.2
-steps_on source first owner jobs passed done done_new d c c_new t i job (Dials port true) gives turned only hears memory files at one timely ok may stands s = by_quiet_move source first owner jobs passed done done_new d c c_new t i job (Dials port true) gives turned at one tt timely ok s.0 s.1 s.2
-steps_on source first owner jobs passed done done_new d c c_new t i job (Dials port false) gives turned only hears memory files at one timely ok may stands s = by_quiet_move source first owner jobs passed done done_new d c c_new t i job (Dials port false) gives turned at one tt timely ok s.0 s.1 s.2
-steps_on source first owner jobs passed done done_new d c c_new t i job (Loses link reason) gives turned only hears memory files at one timely ok may stands s = by_quiet_move source first owner jobs passed done done_new d c c_new t i job (Loses link reason) gives turned at one tt timely ok s.0 s.1 s.2
-steps_on source first owner jobs passed done done_new d c c_new t i job (Hears piece) gives turned only hears memory files at one timely ok may stands s = hears_step source first owner jobs passed done done_new d c c_new t i job piece gives turned only memory files at one timely ok may s
-steps_on source first owner jobs passed done done_new d c c_new t i job (Takes piece) gives turned only hears memory files at one timely ok may stands s = takes_step source first owner jobs passed done done_new d c c_new t i job piece gives turned only files at one timely ok may stands s
-steps_on source first owner jobs passed done done_new d c c_new t i job (Gives bytes) gives turned only hears memory files at one timely ok may stands s = absurd s
-steps_on source first owner jobs passed done done_new d c c_new t i job Resumes gives turned only hears memory files at one timely ok may stands s = absurd (never_early source first owner jobs passed done d c t i job hears at timely ok (s.early, s.hears.running, s.hears.quiet))
+pub steps_on : (course : Course) (passed : ℕ → Passed) (done done_new : ℕ → Traffics) (d : Core) (c c_new : ℕ → ClientState) (t : Behind course passed done d c) (i : ℕ) (job : Job) (move : JobMove) (gives : List JobMove) (turned : Bool) → HaveOneSession course.owner → AlwaysHearsInTurn course.source course.first → HasMemoryFor course.owner passed i → AllFilesRepresent t.w.endpoints
+    → slice_get course.jobs i ≡ Some job → OneSteps done done_new c c_new i (record { move = move; gives = gives; turned = turned }) → IsTimely course.owner d.opened passed i → (done i).failed ≡ false → MayStep course.owner passed (done i) i (traffic_of (record { move = move; gives = gives; turned = turned })) → Standing course.owner passed i (traffic_of (record { move = move; gives = gives; turned = turned }))
+    → StepLeads (c i) (record { move = move; gives = gives; turned = turned }) (c_new i) → Behind course passed done_new d c_new
+steps_on course passed done done_new d c c_new t i job (Writes bytes) gives turned only hears memory files at one timely ok may stands s = by_quiet_move course passed done done_new d c c_new t i job (Writes bytes) gives turned at one tt timely ok s.0 s.1 s.2
+steps_on course passed done done_new d c c_new t i job (Fails bytes) gives turned only hears memory files at one timely ok may stands s = by_quiet_move course passed done done_new d c c_new t i job (Fails bytes) gives turned at one tt timely ok s.0 s.1 s.2
+steps_on course passed done done_new d c c_new t i job (Prepares port) gives turned only hears memory files at one timely ok may stands s = by_quiet_move course passed done done_new d c c_new t i job (Prepares port) gives turned at one tt timely ok s.0 s.1 s.2
+steps_on course passed done done_new d c c_new t i job (Dials port true) gives turned only hears memory files at one timely ok may stands s = by_quiet_move course passed done done_new d c c_new t i job (Dials port true) gives turned at one tt timely ok s.0 s.1 s.2
+steps_on course passed done done_new d c c_new t i job (Dials port false) gives turned only hears memory files at one timely ok may stands s = by_quiet_move course passed done done_new d c c_new t i job (Dials port false) gives turned at one tt timely ok s.0 s.1 s.2
+steps_on course passed done done_new d c c_new t i job (Loses link reason) gives turned only hears memory files at one timely ok may stands s = by_quiet_move course passed done done_new d c c_new t i job (Loses link reason) gives turned at one tt timely ok s.0 s.1 s.2
+steps_on course passed done done_new d c c_new t i job (Hears piece) gives turned only hears memory files at one timely ok may stands s = hears_step course passed done done_new d c c_new t i job piece gives turned only memory files at one timely ok may s
+steps_on course passed done done_new d c c_new t i job (Takes piece) gives turned only hears memory files at one timely ok may stands s = takes_step course passed done done_new d c c_new t i job piece gives turned only files at one timely ok may stands s
+steps_on course passed done done_new d c c_new t i job (Gives bytes) gives turned only hears memory files at one timely ok may stands s = absurd s
+steps_on course passed done done_new d c c_new t i job Resumes gives turned only hears memory files at one timely ok may stands s = absurd (never_early course passed done d c t i job hears at timely ok (s.early, s.hears.running, s.hears.quiet))

@@ -167,17 +167,27 @@ pub data JobTracks (owner : Owner) (opened : ℕ) (flying : ℕ → List ℕ) (p
 
 -- ---- all of them
 
-pub record Tracks (source : Source → SourceState) (first : WorldCore) (owner : Owner) (jobs : List Job) (passed : ℕ → Passed) (done : ℕ → Traffics) (d : Core) (c : ℕ → ClientState) : Type 0 where
+-- what stays as it is from the first act to the last: what sources are, the world at first, whose sessions are, the jobs
+pub record Course : Type 0 where
+  pub source : Source → SourceState
+  pub first : WorldCore
+  pub owner : Owner
+  pub jobs : List Job
+
+abbrev pub course_of : (Source → SourceState) → WorldCore → Owner → List Job → Course
+course_of source first owner jobs = record { source = source; first = first; owner = owner; jobs = jobs }
+
+pub record Tracks (course : Course) (passed : ℕ → Passed) (done : ℕ → Traffics) (d : Core) (c : ℕ → ClientState) : Type 0 where
   pub events : List Event
   pub w : WorldCore
-  pub leads : LeadsBy source first events w
+  pub leads : LeadsBy course.source course.first events w
   pub flying : ℕ → List ℕ
   pub differs : DiffersInFlight flying d w.daemon
   pub slots : (n : ℕ) → session_slot_of w.daemon.slots n ≢ None → (passed n).is_open ≡ true
-  pub owned : (n : ℕ) → (passed n).is_open ≡ true → (i : ℕ) × (owner n ≡ Some i)
+  pub owned : (n : ℕ) → (passed n).is_open ≡ true → (i : ℕ) × (course.owner n ≡ Some i)
   -- no frame flows behind its end, or behind the loss of its connection
   pub calm : (n : ℕ) → ((passed n).dropped || (passed n).last) ≡ true → IsFlowing (frame_state_at w.daemon n) → ⊥
-  pub each : (i : ℕ) (job : Job) → slice_get jobs i ≡ Some job → (p : Endpoint) × (slice_get w.endpoints i ≡ Some p) × JobTracks owner d.opened flying passed (done i) i job (c i) p
+  pub each : (i : ℕ) (job : Job) → slice_get course.jobs i ≡ Some job → (p : Endpoint) × (slice_get w.endpoints i ≡ Some p) × JobTracks course.owner d.opened flying passed (done i) i job (c i) p
 
 abbrev pub IsCalm : (ℕ → Passed) → Core → Type 0
 IsCalm passed e = (n : ℕ) → ((passed n).dropped || (passed n).last) ≡ true → IsFlowing (frame_state_at e n) → ⊥
@@ -247,11 +257,11 @@ moved source events event first w i p q e l at is leads = record {
 
 -- ---- one job goes on, and the others stay
 
-pub goes_on : (source : Source → SourceState) (first : WorldCore) (owner : Owner) (jobs : List Job) (passed passed_new : ℕ → Passed) (done done_new : ℕ → Traffics) (d d_new : Core) (c c_new : ℕ → ClientState) (t : Tracks source first owner jobs passed done d c)
-    → (i : ℕ) (q : Endpoint) (e : Core) (m : Moved source first t.w i q e) (flying : ℕ → List ℕ) → DiffersInFlight flying d_new e → ((n : ℕ) → session_slot_of e.slots n ≢ None → (passed_new n).is_open ≡ true) → ((n : ℕ) → (passed_new n).is_open ≡ true → (j : ℕ) × (owner n ≡ Some j)) → IsCalm passed_new e → d.opened ≤ d_new.opened
-    → ((j : ℕ) → j ≢ i → (k : ℕ) → owner k ≡ Some j → (d.opened ≤ k → d_new.opened ≤ k) × (passed_new k ≡ passed k) × (flying k ≡ t.flying k)) → ((j : ℕ) → j ≢ i → (done_new j ≡ done j) × (c_new j ≡ c j))
-    → ((job : Job) → slice_get jobs i ≡ Some job → JobTracks owner d_new.opened flying passed_new (done_new i) i job (c_new i) q) → Tracks source first owner jobs passed_new done_new d_new c_new
-goes_on source first owner jobs passed passed_new done done_new d d_new c c_new t i q e m flying differs slots owned calm more others still mine = record {
+pub goes_on : (course : Course) (passed passed_new : ℕ → Passed) (done done_new : ℕ → Traffics) (d d_new : Core) (c c_new : ℕ → ClientState) (t : Tracks course passed done d c)
+    → (i : ℕ) (q : Endpoint) (e : Core) (m : Moved course.source course.first t.w i q e) (flying : ℕ → List ℕ) → DiffersInFlight flying d_new e → ((n : ℕ) → session_slot_of e.slots n ≢ None → (passed_new n).is_open ≡ true) → ((n : ℕ) → (passed_new n).is_open ≡ true → (j : ℕ) × (course.owner n ≡ Some j)) → IsCalm passed_new e → d.opened ≤ d_new.opened
+    → ((j : ℕ) → j ≢ i → (k : ℕ) → course.owner k ≡ Some j → (d.opened ≤ k → d_new.opened ≤ k) × (passed_new k ≡ passed k) × (flying k ≡ t.flying k)) → ((j : ℕ) → j ≢ i → (done_new j ≡ done j) × (c_new j ≡ c j))
+    → ((job : Job) → slice_get course.jobs i ≡ Some job → JobTracks course.owner d_new.opened flying passed_new (done_new i) i job (c_new i) q) → Tracks course passed_new done_new d_new c_new
+goes_on course passed passed_new done done_new d d_new c c_new t i q e m flying differs slots owned calm more others still mine = record {
   events = m.events;
   w = m.v;
   leads = m.leads;
@@ -263,10 +273,10 @@ goes_on source first owner jobs passed passed_new done done_new d d_new c c_new 
   each = λ j job at. by j job at (decide j i);
 }
   where
-    by : (j : ℕ) (job : Job) → slice_get jobs j ≡ Some job → (j ≡ i) ⊎ (j ≢ i) → (p : Endpoint) × (slice_get m.v.endpoints j ≡ Some p) × JobTracks owner d_new.opened flying passed_new (done_new j) j job (c_new j) p
+    by : (j : ℕ) (job : Job) → slice_get course.jobs j ≡ Some job → (j ≡ i) ⊎ (j ≢ i) → (p : Endpoint) × (slice_get m.v.endpoints j ≡ Some p) × JobTracks course.owner d_new.opened flying passed_new (done_new j) j job (c_new j) p
     by j job at (inl same) =
-        subst (λ (x : ℕ). slice_get jobs x ≡ Some job → (p : Endpoint) × (slice_get m.v.endpoints x ≡ Some p) × JobTracks owner d_new.opened flying passed_new (done_new x) x job (c_new x) p) (sym same) (λ here. (q, m.own, mine job here)) at
+        subst (λ (x : ℕ). slice_get course.jobs x ≡ Some job → (p : Endpoint) × (slice_get m.v.endpoints x ≡ Some p) × JobTracks course.owner d_new.opened flying passed_new (done_new x) x job (c_new x) p) (sym same) (λ here. (q, m.own, mine job here)) at
     by j job at (inr off) =
         let was = t.each j job at in
-        let kept = stays owner d.opened d_new.opened t.flying flying passed passed_new (done j) j job (c j) was.0 more (λ k own. (others j off k own).0) (λ k own. (others j off k own).1) (λ k own. (others j off k own).2) was.2 in
+        let kept = stays course.owner d.opened d_new.opened t.flying flying passed passed_new (done j) j job (c j) was.0 more (λ k own. (others j off k own).0) (λ k own. (others j off k own).1) (λ k own. (others j off k own).2) was.2 in
         (was.0, m.others j off ∙ was.1, rw ((still j off).0, (still j off).1) kept)

@@ -109,44 +109,22 @@ starts_moves d new Ending port w told (Some l) lease e s h r = same_moves d new 
 
 free_moves : (users : List Entry) (d new : RequestContext) (q : Request) (said : RequestAnswer) → AnswersFree users d q said new → MovesContext d new
 free_moves users d new (requests.Init version user) said g = Still (ap (λ (x : RequestContext). x.session.held) g.1) (ap (λ (x : RequestContext). x.registry) g.1)
-free_moves users d new requests.GetDevices said g = still d d new g.1 refl refl
 free_moves users d new (requests.Open name) said g = opens_moves users d new name said (free_word d.session.held) (find_name name d.registry) g
 free_moves users d new (requests.Close w) said g = close_moves d new w (held_by d.session.held w) refl g.1
-free_moves users d new (requests.GetOptionDescriptors w) said g = still d d new g.1 refl refl
 free_moves users d new (requests.ControlOption w n action kind value) said g = control_moves d new w n action kind value (held_by d.session.held w) refl g.1
-free_moves users d new (requests.GetParameters w) said g = still d d new g.1 refl refl
 free_moves users d new (requests.Start w) said g =
     starts_moves d new d.session.transfer d.session.port w (Ok (g.reply, g.transfer)) (held_by d.session.held w) g.starts.lease refl g.starts.starts
     (ap (λ (x : RequestContext). x.session.held) (g.gives.1) ∙ ap (λ (x : RequestContext). x.session.held) g.starts.new_is) (ap (λ (x : RequestContext). x.registry) g.gives.1 ∙ ap (λ (x : RequestContext). x.registry) g.starts.new_is)
 free_moves users d new (requests.Cancel w) said g = cancel_moves d new w (held_by d.session.held w) refl g.1
-free_moves users d new (requests.Authorize resource user password) said g = still d d new g.1 refl refl
-free_moves users d new requests.Exit said g = still d d new g.1 refl refl
+free_moves users d new q said g = still d d new g.1 refl refl
 
 awaiting_moves : (users : List Entry) (d new : RequestContext) (awaited : AwaitedAuthorization) (q : Request) (said : RequestAnswer) → AnswersAwaiting users d awaited q said new → MovesContext d new
 awaiting_moves users d new awaited (requests.Authorize resource user password) said g = answered_moves d new awaited.name g.allowed g.gives.1
-awaiting_moves users d new awaited (requests.Init version user) said g = still d d new g.1 refl refl
-awaiting_moves users d new awaited requests.GetDevices said g = still d d new g.1 refl refl
-awaiting_moves users d new awaited (requests.Open name) said g = still d d new g.1 refl refl
-awaiting_moves users d new awaited (requests.Close w) said g = still d d new g.1 refl refl
-awaiting_moves users d new awaited (requests.GetOptionDescriptors w) said g = still d d new g.1 refl refl
-awaiting_moves users d new awaited (requests.ControlOption w n action kind value) said g = still d d new g.1 refl refl
-awaiting_moves users d new awaited (requests.GetParameters w) said g = still d d new g.1 refl refl
-awaiting_moves users d new awaited (requests.Start w) said g = still d d new g.1 refl refl
-awaiting_moves users d new awaited (requests.Cancel w) said g = still d d new g.1 refl refl
-awaiting_moves users d new awaited requests.Exit said g = still d d new g.1 refl refl
+awaiting_moves users d new awaited q said g = still d d new g.1 refl refl
 
 first_moves : (d new : RequestContext) (q : Request) → new ≡ (first_answer d q).1 → MovesContext d new
 first_moves d new (requests.Init version user) n = Still (ap (λ (x : RequestContext). x.session.held) n) (ap (λ (x : RequestContext). x.registry) n)
-first_moves d new requests.GetDevices n = still d d new n refl refl
-first_moves d new (requests.Open name) n = still d d new n refl refl
-first_moves d new (requests.Close w) n = still d d new n refl refl
-first_moves d new (requests.GetOptionDescriptors w) n = still d d new n refl refl
-first_moves d new (requests.ControlOption w k action kind value) n = still d d new n refl refl
-first_moves d new (requests.GetParameters w) n = still d d new n refl refl
-first_moves d new (requests.Start w) n = still d d new n refl refl
-first_moves d new (requests.Cancel w) n = still d d new n refl refl
-first_moves d new (requests.Authorize resource user password) n = still d d new n refl refl
-first_moves d new requests.Exit n = still d d new n refl refl
+first_moves d new q n = still d d new n refl refl
 
 greeted_moves : (users : List Entry) (d new : RequestContext) (o : Option AwaitedAuthorization) (q : Request) (said : RequestAnswer) → AnswersGreeted users d o q said new → MovesContext d new
 greeted_moves users d new None q said g = free_moves users d new q said g
@@ -163,11 +141,9 @@ answers_moves users d new q said g = by_moves users d new d.session.greeted q sa
 
 falters_free : (d new : RequestContext) (q : Request) → OutOfMemoryFree d q new → MovesContext d new
 falters_free d new (requests.Init version user) g = absurd g
-falters_free d new requests.GetDevices g = still d d new g refl refl
 falters_free d new (requests.Open name) (inl g) = still d d new g refl refl
 falters_free d new (requests.Open name) (inr g) = Still (ap (λ (x : RequestContext). x.session.held) g.3) (ap (λ (x : RequestContext). x.registry) g.3)
 falters_free d new (requests.Close w) g = absurd g
-falters_free d new (requests.GetOptionDescriptors w) g = still d d new g refl refl
 falters_free d new (requests.ControlOption w n action kind value) (inl g) = still d d new g refl refl
 falters_free d new (requests.ControlOption w n action kind value) (inr g) = control_moves d new w n action kind value (held_by d.session.held w) refl g
 falters_free d new (requests.GetParameters w) g = absurd g
@@ -176,6 +152,7 @@ falters_free d new (requests.Start w) g =
 falters_free d new (requests.Cancel w) g = absurd g
 falters_free d new (requests.Authorize resource user password) g = absurd g
 falters_free d new requests.Exit g = absurd g
+falters_free d new q g = still d d new g refl refl
 
 falters_greeted : (d new : RequestContext) (o : Option AwaitedAuthorization) (q : Request) → OutOfMemoryGreeted d o q new → MovesContext d new
 falters_greeted d new None q g = falters_free d new q g

@@ -47,42 +47,20 @@ cancel_same d w (Some l) = refl
 
 free_same : (users : List Entry) (d new : RequestContext) (q : Request) (said : RequestAnswer) → AnswersFree users d q said new → Same d new
 free_same users d new (requests.Init version user) said g = ap (λ (x : RequestContext). x.session.strings) g.1
-free_same users d new requests.GetDevices said g = is_same d d new g.1 refl
 free_same users d new (requests.Open name) said g = opens_same users d new name said (free_word d.session.held) (find_name name d.registry) g
 free_same users d new (requests.Close w) said g = is_same d (close_lease d w (held_by d.session.held w)) new g.1 (close_same d w (held_by d.session.held w))
-free_same users d new (requests.GetOptionDescriptors w) said g = is_same d d new g.1 refl
 free_same users d new (requests.ControlOption w n action kind value) said g = ap (λ (x : RequestContext). x.session.strings) g.1
-free_same users d new (requests.GetParameters w) said g = is_same d d new g.1 refl
 free_same users d new (requests.Start w) said g = ap (λ (x : RequestContext). x.session.strings) g.gives.1 ∙ ap (λ (x : RequestContext). x.session.strings) g.starts.new_is
 free_same users d new (requests.Cancel w) said g = is_same d (cancel_held d w (held_by d.session.held w)) new g.1 (cancel_same d w (held_by d.session.held w))
-free_same users d new (requests.Authorize resource user password) said g = is_same d d new g.1 refl
-free_same users d new requests.Exit said g = is_same d d new g.1 refl
+free_same users d new q said g = is_same d d new g.1 refl
 
 awaiting_same : (users : List Entry) (d new : RequestContext) (awaited : AwaitedAuthorization) (q : Request) (said : RequestAnswer) → AnswersAwaiting users d awaited q said new → Same d new
 awaiting_same users d new awaited (requests.Authorize resource user password) said g = is_same d (reply_if_allowed g.allowed (without_awaited d) awaited.name).1 new g.gives.1 (allowed_same d awaited.name g.allowed)
-awaiting_same users d new awaited (requests.Init version user) said g = is_same d d new g.1 refl
-awaiting_same users d new awaited requests.GetDevices said g = is_same d d new g.1 refl
-awaiting_same users d new awaited (requests.Open name) said g = is_same d d new g.1 refl
-awaiting_same users d new awaited (requests.Close w) said g = is_same d d new g.1 refl
-awaiting_same users d new awaited (requests.GetOptionDescriptors w) said g = is_same d d new g.1 refl
-awaiting_same users d new awaited (requests.ControlOption w n action kind value) said g = is_same d d new g.1 refl
-awaiting_same users d new awaited (requests.GetParameters w) said g = is_same d d new g.1 refl
-awaiting_same users d new awaited (requests.Start w) said g = is_same d d new g.1 refl
-awaiting_same users d new awaited (requests.Cancel w) said g = is_same d d new g.1 refl
-awaiting_same users d new awaited requests.Exit said g = is_same d d new g.1 refl
+awaiting_same users d new awaited q said g = is_same d d new g.1 refl
 
 first_same : (d new : RequestContext) (q : Request) → new ≡ (first_answer d q).1 → Same d new
 first_same d new (requests.Init version user) n = ap (λ (x : RequestContext). x.session.strings) n
-first_same d new requests.GetDevices n = is_same d d new n refl
-first_same d new (requests.Open name) n = is_same d d new n refl
-first_same d new (requests.Close w) n = is_same d d new n refl
-first_same d new (requests.GetOptionDescriptors w) n = is_same d d new n refl
-first_same d new (requests.ControlOption w k action kind value) n = is_same d d new n refl
-first_same d new (requests.GetParameters w) n = is_same d d new n refl
-first_same d new (requests.Start w) n = is_same d d new n refl
-first_same d new (requests.Cancel w) n = is_same d d new n refl
-first_same d new (requests.Authorize resource user password) n = is_same d d new n refl
-first_same d new requests.Exit n = is_same d d new n refl
+first_same d new q n = is_same d d new n refl
 
 greeted_same : (users : List Entry) (d new : RequestContext) (o : Option AwaitedAuthorization) (q : Request) (said : RequestAnswer) → AnswersGreeted users d o q said new → Same d new
 greeted_same users d new None q said g = free_same users d new q said g
@@ -99,11 +77,9 @@ answers_same users d new q said g = by_same users d new d.session.greeted q said
 
 memory_free : (d new : RequestContext) (q : Request) → OutOfMemoryFree d q new → Same d new
 memory_free d new (requests.Init version user) g = absurd g
-memory_free d new requests.GetDevices g = is_same d d new g refl
 memory_free d new (requests.Open name) (inl g) = is_same d d new g refl
 memory_free d new (requests.Open name) (inr g) = ap (λ (x : RequestContext). x.session.strings) g.3
 memory_free d new (requests.Close w) g = absurd g
-memory_free d new (requests.GetOptionDescriptors w) g = is_same d d new g refl
 memory_free d new (requests.ControlOption w n action kind value) (inl g) = is_same d d new g refl
 memory_free d new (requests.ControlOption w n action kind value) (inr g) = ap (λ (x : RequestContext). x.session.strings) g
 memory_free d new (requests.GetParameters w) g = absurd g
@@ -111,6 +87,7 @@ memory_free d new (requests.Start w) g = ap (λ (x : RequestContext). x.session.
 memory_free d new (requests.Cancel w) g = absurd g
 memory_free d new (requests.Authorize resource user password) g = absurd g
 memory_free d new requests.Exit g = absurd g
+memory_free d new q g = is_same d d new g refl
 
 memory_greeted : (d new : RequestContext) (o : Option AwaitedAuthorization) (q : Request) → OutOfMemoryGreeted d o q new → Same d new
 memory_greeted d new None q g = memory_free d new q g

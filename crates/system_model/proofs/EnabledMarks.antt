@@ -2,7 +2,7 @@
 use Rattle.std.proofs.Common.{◌≡◌, ◌∙◌, ℕ, List, [], ◌∷◌, Bool, true, false, Option, Some, None, refl, sym, subst, ap, cond}
 use Rattle.page_picture.specs.Shows.{Frame}
 use Rattle.option_desc.specs.declared.value.Value.{Value}
-use Rattle.system_model.specs.AbstractMessages.{same_text, Challenge, AbstractRequest, Init, GetDevices, Open, Authorize, Describe, Get, Set, Parameters, Start, Cancel, Close, Exit}
+use Rattle.system_model.specs.AbstractMessages.{same_text, Challenge, AbstractRequest, Open, Authorize, Get, Set, Start, Cancel, Close, Exit}
 use Rattle.device_api.specs.Kinds.{Model, Page, after_start, is_feeder}
 use Rattle.system_model.specs.Devices.{Make, AbstractAcceptedSet, has_readable_value, picture_frames, accept_value}
 use Rattle.system_model.specs.AbstractDevices.{without_first, AbstractDevice, ScanPhase, Resting, Between, Reading, is_held_by, is_resting, put_back, device_let_go, phase_after_frame, ended_phase, read_on}
@@ -111,18 +111,15 @@ starts_goes i d k dev x Streaming h = refl
 starts_goes i d k dev x Ending h = refl
 
 answer_goes : (b : Bool) (i d : ℕ) (k : Make) (dev : AbstractDevice) (c : TransferState) (x : Environment) (q : AbstractRequest) → (b ≡ true → dev.holder ≡ Some i) → IsDown dev → Leads k dev (answer_marks b i d k dev c x q) (answer_if b i k dev c x q).device
-answer_goes true i d k dev c x Init h z = refl
-answer_goes true i d k dev c x GetDevices h z = refl
 answer_goes true i d k dev c x Open h z = open_goes i d k dev c x.challenge dev.listed x.guarded z refl
 answer_goes true i d k dev c x (Authorize challenge) h z = leave_goes (device_view k dev) i d (is_busy dev.phase) (h refl) refl
-answer_goes true i d k dev c x Describe h z = refl
 answer_goes true i d k dev c x (Get n) h z = get_slot k dev c n (has_readable_value k dev.options n)
 answer_goes true i d k dev c x (Set n v) h z = set_slot k dev c n v (is_resting dev.phase)
-answer_goes true i d k dev c x Parameters h z = refl
 answer_goes true i d k dev c x Start h z = starts_goes i d k dev x c (h refl)
 answer_goes true i d k dev c x Cancel h z = rest_goes (device_view k dev) i d (is_busy dev.phase) (h refl) refl
 answer_goes true i d k dev c x Close h z = leave_goes (device_view k dev) i d (is_busy dev.phase) (h refl) refl
 answer_goes true i d k dev c x Exit h z = leave_goes (device_view k dev) i d (is_busy dev.phase) (h refl) refl
+answer_goes true i d k dev c x q h z = refl
 answer_goes false i d k dev c x Open h z = open_goes i d k dev c x.challenge dev.listed x.guarded z refl
 answer_goes false i d k dev c x q h z = refl
 

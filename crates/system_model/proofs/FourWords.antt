@@ -1,7 +1,7 @@
 -- A SESSION HAS FOUR WORDS AT MOST.
 use Rattle.std.proofs.Common.{◌≡◌, ◌∙◌, ◌≤◌, ◌<◌, ℕ, Bool, true, false, Option, Some, None, refl, sym, ap, subst, cond, eqb, arith}
 use Rattle.std.proofs.lemmas.Bool.{ne_eqb}
-use Rattle.system_model.specs.AbstractMessages.{Challenge, AbstractRequest, Init, GetDevices, Open, Authorize, Describe, Get, Set, Parameters, Start, Cancel, Close, Exit}
+use Rattle.system_model.specs.AbstractMessages.{Challenge, AbstractRequest, Open, Authorize, Describe, Get, Set, Parameters, Start, Cancel, Close}
 use Rattle.system_model.specs.Devices.{Make}
 use Rattle.system_model.specs.AbstractDevices.{AbstractDevice}
 use Rattle.system_model.specs.Daemon.{Environment}
@@ -49,11 +49,7 @@ word_four i make table s x q n None w e = e
 word_four i make table s x q n (Some d) w e = left_none (closes q) s.words n w e
 
 plain_four : (i : ℕ) (make : ℕ → Make) (table : ℕ → AbstractDevice) (s : AbstractSession) (x : ℕ → Environment) (call : AddressedRequest) (q : AbstractRequest) (w : ℕ) → 4 ≤ w → s.words w ≡ None → (plain_call i make table s x call q).session.words w ≡ None
-plain_four i make table s x call Init w l e = e
-plain_four i make table s x call GetDevices w l e = e
 plain_four i make table s x call Open w l e = open_four i make table s (x call.place) call.place (least_free_word s.words) w (free_below s.words) l e
-plain_four i make table s x call (Authorize c) w l e = e
-plain_four i make table s x call Exit w l e = e
 plain_four i make table s x call Describe w l e = word_four i make table s (x call.place) Describe call.word (s.words call.word) w e
 plain_four i make table s x call (Get n) w l e = word_four i make table s (x call.place) (Get n) call.word (s.words call.word) w e
 plain_four i make table s x call (Set n v) w l e = word_four i make table s (x call.place) (Set n v) call.word (s.words call.word) w e
@@ -61,6 +57,7 @@ plain_four i make table s x call Parameters w l e = word_four i make table s (x 
 plain_four i make table s x call Start w l e = word_four i make table s (x call.place) Start call.word (s.words call.word) w e
 plain_four i make table s x call Cancel w l e = word_four i make table s (x call.place) Cancel call.word (s.words call.word) w e
 plain_four i make table s x call Close w l e = word_four i make table s (x call.place) Close call.word (s.words call.word) w e
+plain_four i make table s x call q w l e = e
 
 awaited_four : (i : ℕ) (make : ℕ → Make) (table : ℕ → AbstractDevice) (s : AbstractSession) (x : ℕ → Environment) (sent : Challenge) (d : ℕ) (q : AbstractRequest) (w : ℕ) → 4 ≤ w → s.words w ≡ None → (awaited_call i make table s x sent d q).session.words w ≡ None
 awaited_four i make table s x sent d (Authorize c) w l e = allow_four i make table s (x d) sent d c (least_free_word s.words) w (free_below s.words) l e

@@ -2,11 +2,16 @@
 use Rattle.std.proofs.Common.{◌≡◌, ◌∙◌, ◌≢◌, ◌≤◌, ℕ, List, [], ◌∷◌, ◌++◌, Bool, true, false, Some, None, refl, sym, subst, ap, inl, inr, append_assoc, length, length-append, ltb, arith}
 use Rattle.std.proofs.lemmas.List.{append-nil}
 use Rattle.std.proofs.lemmas.Bool.{ltb-true, ltb-false}
+use Rattle.scan_job.specs.declared.outcome.Why.TheVariants.{Answer, Short}
+use Rattle.sane_fixed.specs.declared.status.Status.{Status}
+use Rattle.sane_fixed.specs.declared.status.Status.TheVariants.{Good, Unsupported, Cancelled, DeviceBusy, Inval, Eof}
+use Rattle.sane_fixed.specs.declared.status.Status.TheVariants.{Jammed, NoDocs, CoverOpen, IoError, NoMem}
+use Rattle.sane_fixed.specs.declared.status.Status.TheVariants.{AccessDenied}
 use Rattle.page_picture.specs.Shows.{Frame}
 use Rattle.sane_fixed.specs.declared.params.Params.{Params}
-use Rattle.system_model.specs.AbstractMessages.{RequestedSetting, Status, Good, Unsupported, GivenUp, Busy, Inval, Eof, Jammed, NoDocs, CoverOpen, IoError, NoMem, AccessDenied, Answer, Short}
+use Rattle.system_model.specs.AbstractMessages.{RequestedSetting}
 use Rattle.system_model.specs.Devices.{Make, OptionsInForce, frame_overflows, frame_fills}
-use Rattle.system_model.specs.Client.{Task, List_, Show, SetOnly, Scan, Batch, further_pages, ClientView, JobStage, Running, Done, Starting, Imaging, with_ending}
+use Rattle.system_model.specs.Client.{AbstractTask, List_, Show, SetOnly, Scan, Batch, further_pages, ClientView, JobStage, Running, Done, Starting, Imaging, with_ending}
 use Rattle.system_model.specs.ClientReplies.{reads_on, end_frame, close_frame, close_page, after_page}
 use Rattle.system_model.specs.AbstractDevices.{AbstractDevice, Begin, phase_after_frame}
 use Rattle.system_model.specs.Daemon.{Quiet}
@@ -72,7 +77,7 @@ one_more k ws [] (q ∷ ps) b p h x = absurd h
 one_more k ws (a ∷ bs) [] b p h x = absurd h
 one_more k ws (a ∷ bs) (q ∷ ps) b p h x = (h.0, one_more k ws bs ps b p h.1 x)
 
-all_done : (k : Make) (b : SessionView) (m : ClientView) (o : OptionsInForce) (task : Task) (page : List Frame) → Scans task → length m.pages ≤ further_pages task → further_pages task ≤ length m.pages →
+all_done : (k : Make) (b : SessionView) (m : ClientView) (o : OptionsInForce) (task : AbstractTask) (page : List Frame) → Scans task → length m.pages ≤ further_pages task → further_pages task ≤ length m.pages →
     ((reports : _) × (reports ≡ m.reports) × AllInForce k b.job b.sent reports o) → IsRightlyDone k b (record m { stage = Done; frames = []; pages = m.pages ++ page ∷ [] }) task
 all_done k b m o List_ page s l g h = absurd s
 all_done k b m o Show page s l g h = absurd s
@@ -160,11 +165,11 @@ whole_right i k b m dev params heard f meant more e c h q a p =
     subst (λ (x : ClientView). IsRightAt i k (with_nothing_in_flight b) dev x) n (next_frame i k b m dev f meant more params.last_frame l c h q a p)
 
 -- THE END OF A FRAME
-pub refused : (status : Status) (task : Task) (params : Params) (heard : List ℕ) (m : ClientView) → status ≢ Eof → status ≢ Good → end_frame status task params heard m ≡ with_ending status Answer m
+pub refused : (status : Status) (task : AbstractTask) (params : Params) (heard : List ℕ) (m : ClientView) → status ≢ Eof → status ≢ Good → end_frame status task params heard m ≡ with_ending status Answer m
 refused Good task params heard m e g = absurd (g refl)
 refused Unsupported task params heard m e g = refl
-refused GivenUp task params heard m e g = refl
-refused Busy task params heard m e g = refl
+refused Cancelled task params heard m e g = refl
+refused DeviceBusy task params heard m e g = refl
 refused Inval task params heard m e g = refl
 refused Eof task params heard m e g = absurd (e refl)
 refused Jammed task params heard m e g = refl

@@ -1,6 +1,9 @@
 -- WHATEVER STEP COMES, WHAT STANDS IS SOUND.
 use Rattle.std.proofs.Common.{◌≡◌, ◌∙◌, ◌≢◌, ℕ, List, [], ◌∷◌, ◌++◌, true, false, Option, Some, None, refl, sym, ap, Bool, subst}
-use Rattle.system_model.specs.AbstractMessages.{Challenge, Good, Eof, IoError, GivenUp, NoMem, Lost, Cancelled, Memory, AbstractRequest}
+use Rattle.scan_job.specs.declared.outcome.Why.TheVariants.{Lost, Cancelled, Memory}
+use Rattle.sane_fixed.specs.declared.status.Status.TheVariants.{Good, Eof, IoError, NoMem}
+use Rattle.sane_fixed.specs.declared.status.Status.TheVariants as statuses
+use Rattle.system_model.specs.AbstractMessages.{Challenge, AbstractRequest}
 use Rattle.device_api.specs.Kinds.{Model, Page, laid_in, is_feeder}
 use Rattle.device_api.specs.State.{pages_with}
 use Rattle.device_api.proofs.KindLaws.{laid_is, laid_stocked}
@@ -83,8 +86,8 @@ kept i k listed_devices p dev (Actions.TurnsFault fault) l z t f = (
   same_pages k p.session (Actions.session_at_end p.session IoError (SourceFailed ∷ [])) p.client p.client refl refl refl f,
 )
 kept i k listed_devices p dev Actions.TurnsOff l z t f = (
-  lift i k p dev dev Quiet p.session.flight (Some GivenUp) p.session.met p.client.stage (not_quiet _ Ending l ending_is) (λ z. tt) (λ m st. off_right i k p.session m dev st l) t,
-  same_pages k p.session (Actions.session_at_end p.session GivenUp []) p.client p.client refl refl refl f,
+  lift i k p dev dev Quiet p.session.flight (Some statuses.Cancelled) p.session.met p.client.stage (not_quiet _ Ending l ending_is) (λ z. tt) (λ m st. off_right i k p.session m dev st l) t,
+  same_pages k p.session (Actions.session_at_end p.session statuses.Cancelled []) p.client p.client refl refl refl f,
 )
 kept i k listed_devices p dev (Actions.Reads bytes) l z t f = (
   kept_read i k p dev bytes (without_prefix bytes p.session.flight) l.0.0 l.0.1 p.client.stage l.0.2
@@ -107,8 +110,8 @@ kept i k listed_devices p dev Actions.RunsOutOfMemory l z t f = (
   same_pages k p.session (Actions.with_cause p.session ClientOutOfMemory) p.client (client_after_stop NoMem Memory p.client) refl refl refl f,
 )
 kept i k listed_devices p dev Actions.Stops l z t f = (
-  kept_stopped i k p dev dev p.client.stage GivenUp Cancelled GaveUp p.session.transfer p.session.flight p.session.ending (p.todo ++ abstract_farewell p.client.stage) p.due p.linked p.image p.served (refl, refl) t,
-  same_pages k p.session (Actions.with_cause p.session GaveUp) p.client (client_after_stop GivenUp Cancelled p.client) refl refl refl f,
+  kept_stopped i k p dev dev p.client.stage statuses.Cancelled Cancelled GaveUp p.session.transfer p.session.flight p.session.ending (p.todo ++ abstract_farewell p.client.stage) p.due p.linked p.image p.served (refl, refl) t,
+  same_pages k p.session (Actions.with_cause p.session GaveUp) p.client (client_after_stop statuses.Cancelled Cancelled p.client) refl refl refl f,
 )
 
 -- no action changes what a job is

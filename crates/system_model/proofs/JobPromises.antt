@@ -2,10 +2,10 @@
 use Rattle.std.proofs.Common.{Bool, true, false, cond, inl, inr, ◌≡◌, ◌≢◌, ℕ, List, [], ◌∷◌, ◌++◌, Option, Some, None, refl, sym, subst, ap, length, arith}
 use Rattle.page_picture.specs.Shows.{Frame}
 use Rattle.option_desc.specs.declared.value.Value.{Value}
-use Rattle.system_model.specs.AbstractMessages.{RequestedSetting, Report}
+use Rattle.system_model.specs.AbstractMessages.{RequestedSetting, AbstractReport}
 use Rattle.system_model.specs.Devices.{Make, OptionsInForce, AbstractAcceptedSet, default_options, descriptors_in_force, resolve_setting, accept_value}
 use Rattle.system_model.specs.AbstractInForce.{SettingsResult, abstract_force, with_reports_before, put_then, setting_then, report_of, AreAnswered}
-use Rattle.system_model.specs.Client.{JobStage, ClientView, Done, Ended, Task, List_, Show, SetOnly, Scan, Batch}
+use Rattle.system_model.specs.Client.{JobStage, ClientView, Done, Ended, AbstractTask, List_, Show, SetOnly, Scan, Batch}
 use Rattle.system_model.specs.AbstractDevices.{AbstractDevice, Begin}
 use Rattle.system_model.specs.SystemStates.{listed_of, SessionView, JobState, SystemState, make_for, device_for}
 use Rattle.system_model.specs.Sync.{AllInForce, IsPictureOfStart, ArePictures}
@@ -47,23 +47,23 @@ exchanged : (i : ℕ) (k : Make) (p : JobState) (dev : AbstractDevice) (st now :
 exchanged i k p dev st now e h = subst (λ (x : JobStage). StageInvariant i k p dev x) e h
 
 -- a job that is done, at its task
-done : (s : SystemState) (i : ℕ) (task : Task) → Invariant s → (s.job i).client.stage ≡ Done → (s.job i).session.job.task ≡ task → IsRightlyDone (make_for s i) (s.job i).session (s.job i).client task
+done : (s : SystemState) (i : ℕ) (task : AbstractTask) → Invariant s → (s.job i).client.stage ≡ Done → (s.job i).session.job.task ≡ task → IsRightlyDone (make_for s i) (s.job i).session (s.job i).client task
 done s i task h e t =
-    subst (λ (x : Task). IsRightlyDone (make_for s i) (s.job i).session (s.job i).client x) t
+    subst (λ (x : AbstractTask). IsRightlyDone (make_for s i) (s.job i).session (s.job i).client x) t
     (exchanged i (make_for s i) (s.job i) (device_for s i) (s.job i).client.stage Done e (h.exchanges i))
 
 -- REPORTS
-peeled : (r : Report) (f : Option SettingsResult) (o : OptionsInForce) (reports : List Report) → with_reports_before (r ∷ []) f ≡ Some (record { options = o; reports = reports }) →
-    (more : List Report) × (reports ≡ r ∷ more) × (f ≡ Some (record { options = o; reports = more }))
+peeled : (r : AbstractReport) (f : Option SettingsResult) (o : OptionsInForce) (reports : List AbstractReport) → with_reports_before (r ∷ []) f ≡ Some (record { options = o; reports = reports }) →
+    (more : List AbstractReport) × (reports ≡ r ∷ more) × (f ≡ Some (record { options = o; reports = more }))
 peeled r None o reports e = cc
 peeled r (Some f) o reports e =
     let p : record { options = f.options; reports = r ∷ f.reports } ≡ record { options = o; reports = reports } = cc in
     (f.reports, sym (ap (λ (x : SettingsResult). x.reports) p), ap (λ (x : SettingsResult). Some (record { options = x.options; reports = f.reports })) p)
 
 -- the fold answers each setting with the nearest admitted value
-put_answers : (k : Make) (at : OptionsInForce) (requested : RequestedSetting) (ws : List RequestedSetting) (n : ℕ) (asked : Value) (put : Option AbstractAcceptedSet) (o : OptionsInForce) (reports : List Report) →
+put_answers : (k : Make) (at : OptionsInForce) (requested : RequestedSetting) (ws : List RequestedSetting) (n : ℕ) (asked : Value) (put : Option AbstractAcceptedSet) (o : OptionsInForce) (reports : List AbstractReport) →
     resolve_setting (descriptors_in_force k at) requested ≡ Some (n, asked) → accept_value k at n asked ≡ put → put_then (abstract_force ws k) requested asked put ≡ Some (record { options = o; reports = reports }) →
-    ((rs : List Report) (from : OptionsInForce) → abstract_force ws k from ≡ Some (record { options = o; reports = rs }) → AreAnswered k ws rs) → AreAnswered k (requested ∷ ws) reports
+    ((rs : List AbstractReport) (from : OptionsInForce) → abstract_force ws k from ≡ Some (record { options = o; reports = rs }) → AreAnswered k ws rs) → AreAnswered k (requested ∷ ws) reports
 put_answers k at requested ws n asked None o reports r p e rest = cc
 put_answers k at requested ws n asked (Some put) o reports r p e rest =
     let q = peeled (report_of requested asked put) (abstract_force ws k put.options) o reports e in
@@ -71,25 +71,25 @@ put_answers k at requested ws n asked (Some put) o reports r p e rest =
     subst (λ rs. AreAnswered k (requested ∷ ws) rs) (sym q.1)
     ((at, record { number = n; is_setting = refl; asked = r; given = x.0; inexact = x.1 }), rest q.0 put.options q.2)
 
-wish_answers : (k : Make) (at : OptionsInForce) (requested : RequestedSetting) (ws : List RequestedSetting) (r : Option (ℕ × Value)) (o : OptionsInForce) (reports : List Report) →
+wish_answers : (k : Make) (at : OptionsInForce) (requested : RequestedSetting) (ws : List RequestedSetting) (r : Option (ℕ × Value)) (o : OptionsInForce) (reports : List AbstractReport) →
     resolve_setting (descriptors_in_force k at) requested ≡ r → setting_then (abstract_force ws k) k at requested r ≡ Some (record { options = o; reports = reports }) →
-    ((rs : List Report) (from : OptionsInForce) → abstract_force ws k from ≡ Some (record { options = o; reports = rs }) → AreAnswered k ws rs) → AreAnswered k (requested ∷ ws) reports
+    ((rs : List AbstractReport) (from : OptionsInForce) → abstract_force ws k from ≡ Some (record { options = o; reports = rs }) → AreAnswered k ws rs) → AreAnswered k (requested ∷ ws) reports
 wish_answers k at requested ws None o reports r e rest = cc
 wish_answers k at requested ws (Some (n, asked)) o reports r e rest = put_answers k at requested ws n asked (accept_value k at n asked) o reports r refl e rest
 
 same_reports : (a b : SettingsResult) → Some a ≡ Some b → a.reports ≡ b.reports
 same_reports a b e = let p : a ≡ b = cc in ap (λ (x : SettingsResult). x.reports) p
 
-no_report : (r : Report) (reports : List Report) → [] ≡ r ∷ reports → ⊥
+no_report : (r : AbstractReport) (reports : List AbstractReport) → [] ≡ r ∷ reports → ⊥
 no_report r reports e = cc
 
-pub answers_all : (k : Make) (ws : List RequestedSetting) (at : OptionsInForce) (o : OptionsInForce) (reports : List Report) → abstract_force ws k at ≡ Some (record { options = o; reports = reports }) → AreAnswered k ws reports
+pub answers_all : (k : Make) (ws : List RequestedSetting) (at : OptionsInForce) (o : OptionsInForce) (reports : List AbstractReport) → abstract_force ws k at ≡ Some (record { options = o; reports = reports }) → AreAnswered k ws reports
 answers_all k [] at o [] e = tt
 answers_all k [] at o (r ∷ reports) e =
     absurd (no_report r reports (same_reports (record { options = at; reports = [] }) (record { options = o; reports = r ∷ reports }) e))
 answers_all k (requested ∷ ws) at o reports e = wish_answers k at requested ws (resolve_setting (descriptors_in_force k at) requested) o reports refl e (λ rs from f. answers_all k ws from o rs f)
 
-settled_at : (k : Make) (b : SessionView) (m : ClientView) (task : Task) → task ≢ List_ → IsRightlyDone k b m task → (o : OptionsInForce) × AllInForce k b.job b.sent m.reports o
+settled_at : (k : Make) (b : SessionView) (m : ClientView) (task : AbstractTask) → task ≢ List_ → IsRightlyDone k b m task → (o : OptionsInForce) × AllInForce k b.job b.sent m.reports o
 settled_at k b m List_ n h = absurd (n refl)
 settled_at k b m Show n h = (h.options, h.settled)
 settled_at k b m SetOnly n h = h

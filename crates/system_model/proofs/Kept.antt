@@ -1,10 +1,14 @@
 -- WHAT AN ACTION KEEPS OF THE JOB THAT IT COMES TO: messages.
 use Rattle.std.proofs.Common.{◌≡◌, ◌∙◌, ◌≢◌, ℕ, List, [], ◌∷◌, ◌++◌, Bool, true, false, Option, Some, None, refl, sym, subst, ap, inl, inr, append_assoc, ◌⊎◌}
+use Rattle.scan_job.specs.declared.outcome.Why.{Why}
+use Rattle.scan_job.specs.declared.outcome.Why.TheVariants.{Lost}
+use Rattle.sane_fixed.specs.declared.status.Status.{Status}
+use Rattle.sane_fixed.specs.declared.status.Status.TheVariants.{NoDocs, IoError}
 use Rattle.page_picture.specs.Shows.{Frame}
 use Rattle.sane_fixed.specs.declared.params.Params.{Params}
-use Rattle.system_model.specs.AbstractMessages.{Challenge, Status, NoDocs, IoError, Why, Lost, AbstractRequest, AbstractReply, Refused}
+use Rattle.system_model.specs.AbstractMessages.{Challenge, AbstractRequest, AbstractReply, Refused}
 use Rattle.system_model.specs.Devices.{Make, frame_overflows}
-use Rattle.system_model.specs.Client.{AbstractJob, ClientView, JobStage, Idle, Running, Done, Ended, AbstractProgress, Greeting, Listing, Opening, Allowing, Describing, Putting, Getting, Starting, Shaping, Imaging, Task, List_, Show, SetOnly, Scan, Batch, request_awaited, requests_sent}
+use Rattle.system_model.specs.Client.{AbstractJob, ClientView, JobStage, Idle, Running, Done, Ended, AbstractProgress, Greeting, Listing, Opening, Allowing, Describing, Putting, Getting, Starting, Shaping, Imaging, AbstractTask, List_, Show, SetOnly, Scan, Batch, request_awaited, requests_sent}
 use Rattle.system_model.specs.ClientReplies.{hear_in, hear_at, client_after_bytes, finish_in, start_refused, reads_on, stage_after_stop}
 use Rattle.system_model.specs.AbstractDevices.{DeviceInvariant, AbstractDevice, Begin, without_first}
 use Rattle.system_model.specs.Daemon.{TransferState, Quiet, Waiting, Streaming, FailureCounts, AnswerEffect}
@@ -77,7 +81,7 @@ still_permitted job new sent (inr h) = inr (h.0, noted_stays new sent h.0 h.1, h
 still_settled : (k : Make) (b : SessionView) (m : ClientView) (v : AnswerEffect) (o : _) → AllInForce k b.job b.sent m.reports o → AllInForce k b.job (first_noted v.awaited b.sent) m.reports o
 still_settled k b m v o h = record { forced = h.forced; permitted = still_permitted b.job v.awaited b.sent h.permitted }
 
-done_grounded : (k : Make) (b : SessionView) (m : ClientView) (v : AnswerEffect) (task : Task) → IsRightlyDone k b m task → IsRightlyDone k (session_after_answer b v) m task
+done_grounded : (k : Make) (b : SessionView) (m : ClientView) (v : AnswerEffect) (task : AbstractTask) → IsRightlyDone k b m task → IsRightlyDone k (session_after_answer b v) m task
 done_grounded k b m v List_ h = noted_stays v.shown b.shown m.devices h
 done_grounded k b m v Show h = record { options = h.options; settled = still_settled k b m v h.options h.settled; known = h.known; values = h.values }
 done_grounded k b m v SetOnly h = (h.0, still_settled k b m v h.0 h.1)
@@ -209,7 +213,7 @@ kept_dialled i k p dev params heard st e c h =
       };
     }))
 
-reads_sends : (task : Task) (x : Bool) (params : Params) (heard : List ℕ) → [] ≡ requests_sent task (reads_on x params heard)
+reads_sends : (task : AbstractTask) (x : Bool) (params : Params) (heard : List ℕ) → [] ≡ requests_sent task (reads_on x params heard)
 reads_sends task true params heard = refl
 reads_sends task false params heard = refl
 
@@ -255,7 +259,7 @@ pub explains_loss : (memory : Bool) → Explains (loss_cause memory) IoError Los
 explains_loss true = (refl, refl)
 explains_loss false = (refl, refl)
 
-done_stage : (k : Make) (b : SessionView) (m : ClientView) (task : Task) (st : JobStage) → IsRightlyDone k b m task → IsRightlyDone k b (record m { stage = st }) task
+done_stage : (k : Make) (b : SessionView) (m : ClientView) (task : AbstractTask) (st : JobStage) → IsRightlyDone k b m task → IsRightlyDone k b (record m { stage = st }) task
 done_stage k b m List_ st h = h
 done_stage k b m Show st h = record { options = h.options; settled = h.settled; known = h.known; values = h.values }
 done_stage k b m SetOnly st h = h

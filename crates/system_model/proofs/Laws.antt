@@ -3,7 +3,8 @@ use Rattle.std.proofs.Common.{arith, ◌≤◌, ◌≡◌, ◌≢◌, ◌↔◌,
 use Rattle.std.proofs.lemmas.Bool.{le-ltb}
 use Rattle.std.proofs.lemmas.List.{length-take-le, take-append-drop}
 use Rattle.std.specs.Prelude.{Option, Some, None, option_map, if◌then◌else◌, Result, Ok, Err, ◌==◌, ◌&&◌, not, nat_lt}
-use Rattle.sane_fixed.specs.declared.status.Status.{Status as Code}
+use Rattle.sane_fixed.specs.declared.status.Status.TheVariants.{Good}
+use Rattle.sane_fixed.specs.declared.status.Status.{Status}
 use Rattle.sane_fixed.specs.declared.status.Status.TheVariants as code
 use Rattle.sane_fixed.specs.declared.info.Info.{Info as Bits}
 use Rattle.sane_fixed.specs.declared.byte_order.ByteOrder.{ByteOrder as Order}
@@ -24,9 +25,8 @@ use Rattle.scan_laws.specs.SetAndJoin as rules
 use Rattle.scan_laws.proofs.Ruled as ruled
 use Rattle.scan_laws.proofs.Sets.{tells}
 use Rattle.scan_laws.proofs.NearestSet.{set_nearest}
-use Rattle.system_model.specs.AbstractMessages.{Good}
 use Rattle.device_api.specs.Kinds.{Page}
-use Rattle.system_model.specs.Devices.{Make, readable_options, OptionsInForce, AbstractAcceptedSet, AreOptionsAllowed, IsPageShaped, IsNearest, abstract_status, abstract_accepted_set, default_options, read_status_of, descriptors_in_force, accept_value, picture_frames, order_of, accepts, frame_overflows, frame_fills}
+use Rattle.system_model.specs.Devices.{Make, readable_options, OptionsInForce, AbstractAcceptedSet, AreOptionsAllowed, IsPageShaped, IsNearest, abstract_accepted_set, default_options, read_status_of, descriptors_in_force, accept_value, picture_frames, order_of, accepts, frame_overflows, frame_fills}
 use Rattle.system_model.specs.Sync.{AreJoinable}
 use Rattle.system_model.specs.AbstractInForce.{AreReadable}
 use Rattle.system_model.proofs.Readable as readable_laws
@@ -66,7 +66,7 @@ steady k o n v put e r =
     let b : has_bit p.real.info 2 ≡ false = ap (λ (x : AbstractAcceptedSet). x.info.reload_options) p.put_is ∙ r in
     sym (ap (λ (x : AbstractAcceptedSet). descriptors_in_force k x.options) p.put_is) ∙ ruled.steady o n v p.real p.is b
 
-answer_of : (o : Setup) (n : ℕ) (v : Value) (put : rules.AcceptedSet) (r : Result (Value × Bits) Code) → option_set o n v ≡ r → rules.accepted_set_by o n r ≡ Some put → option_set o n v ≡ Ok (put.given, put.info)
+answer_of : (o : Setup) (n : ℕ) (v : Value) (put : rules.AcceptedSet) (r : Result (Value × Bits) Status) → option_set o n v ≡ r → rules.accepted_set_by o n r ≡ Some put → option_set o n v ≡ Ok (put.given, put.info)
 answer_of o n v put (Ok answer) e h =
     let same : record { given = answer.0; info = answer.1; setup = setup_after o n answer.0 } ≡ put = (let some : Some (record { given = answer.0; info = answer.1; setup = setup_after o n answer.0 }) ≡ Some put = h in cc) in
     e ∙ ap (λ (p : rules.AcceptedSet). Ok (p.given, p.info)) same
@@ -87,7 +87,7 @@ is_nearest k o n v put e =
     (set_nearest o n v p.real.given p.real.info a, t.inexact)
 
 -- no device answers GOOD in place of its data
-never : (s : Option Code) → option_map abstract_status s ≡ Some Good → s ≡ Some code.Good
+never : (s : Option Status) → s ≡ Some Good → s ≡ Some code.Good
 never None e = cc
 never (Some code.Good) e = refl
 never (Some s) e = cc

@@ -1,13 +1,16 @@
 -- AN ANSWER LOWERS THE NUMBER, by the request behind it and the reply.
 use Rattle.std.proofs.Common.{◌≡◌, ◌∙◌, ◌≤◌, ◌+◌, ◌*◌, ℕ, suc, List, [], ◌∷◌, Bool, true, false, Option, Some, None, refl, sym, subst, ap, inl, inr, length, arith}
+use Rattle.scan_job.specs.declared.outcome.Why.TheVariants.{Answer}
+use Rattle.sane_fixed.specs.declared.status.Status.{Status}
+use Rattle.sane_fixed.specs.declared.status.Status.TheVariants.{DeviceBusy, Inval, NoDocs, IoError, AccessDenied}
 use Rattle.page_picture.specs.Shows.{Frame}
 use Rattle.option_desc.specs.declared.value.Value.{Value}
 use Rattle.option_desc.specs.declared.descriptor.Descriptor.{Descriptor}
 use Rattle.sane_fixed.specs.declared.params.Params.{Params}
-use Rattle.system_model.specs.AbstractMessages.{Status, Answer, RequestedSetting, Challenge, AbstractRequest, Init, GetDevices, Open, Authorize, Describe, Get, Set, Parameters, Start, AbstractReply, Greeted, Opened, Challenged, Got, Gave, Listed, Described, Shaped, Begun, NoDocs, Inval, IoError, AccessDenied, Busy, Refused}
+use Rattle.system_model.specs.AbstractMessages.{RequestedSetting, Challenge, AbstractRequest, Init, Open, Authorize, Describe, Get, Set, Parameters, Start, AbstractReply, Greeted, Opened, Challenged, Got, Gave, Listed, Described, Shaped, Begun, Refused}
 use Rattle.device_api.specs.Kinds.{Page}
 use Rattle.system_model.specs.Devices.{Make, OptionsInForce, AreOptionsAllowed, AbstractAcceptedSet, descriptors_in_force, readable_options, has_readable_value, readable_value, resolve_setting, accept_value, picture_frames, accepts}
-use Rattle.system_model.specs.Client.{AbstractJob, Task, List_, Show, SetOnly, Scan, Batch, ClientView, Running, Ended, AbstractProgress, Greeting, Listing, Opening, Allowing, Describing, Putting, Getting, Starting, Shaping, Imaging, request_awaited, progress_after_init, stage_after_settings, asks_setting, stage_of_next_setting, stage_after_put, next_value}
+use Rattle.system_model.specs.Client.{AbstractJob, AbstractTask, List_, Show, SetOnly, Scan, Batch, ClientView, Running, Ended, AbstractProgress, Greeting, Listing, Opening, Allowing, Describing, Putting, Getting, Starting, Shaping, Imaging, request_awaited, progress_after_init, stage_after_settings, asks_setting, stage_of_next_setting, stage_after_put, next_value}
 use Rattle.system_model.specs.ClientReplies.{hear_at, begins_frame, start_refused}
 use Rattle.system_model.specs.AbstractDevices.{AbstractDevice, DeviceInvariant, ScanPhase, Resting, is_resting}
 use Rattle.system_model.specs.Daemon.{TransferState, Waiting, Environment, FailureCounts, AnswerEffect, reply_effect, abstract_params, answer, hand_out_device, take_listed, open_listed, allow, get_reply, put_reply, set_reply, begin_page, begin_pass, start_page, start_at, start_or_fail, start_effect}
@@ -15,7 +18,7 @@ use Rattle.system_model.specs.SystemStates.{SessionView}
 use Rattle.system_model.specs.Sync.{InSync}
 use Rattle.system_model.specs.Variant.{exchange_cost, page_cost, payload_total, frames_cost, tail_variant, start_variant, flow_variant, progress_variant, stage_variant}
 use Rattle.system_model.proofs.Laws.{few, small}
-use Rattle.system_model.proofs.Opened.{free_answer, held_answer, same_same}
+use Rattle.system_model.proofs.Opened.{asked_is, free_answer, held_answer, same_same}
 use Rattle.system_model.proofs.RightAnswers.{starting}
 
 -- what a page costs
@@ -39,7 +42,7 @@ told : (m : ClientView) (g : AbstractProgress) (job : AbstractJob) (n t : ℕ) (
 told m g job n t e ph c r q before p h = let z : r ≡ q = cc in subst (λ (x : AbstractReply). 2 * exchange_cost + stage_variant (hear_at g job m x).stage n t ph c e ≤ before) z h
 
 -- STAGES
-greeted_low : (task : Task) (n t : ℕ) (ph : ScanPhase) (c : TransferState) (e : Option Status) → 2 * exchange_cost + progress_variant (progress_after_init task) n t ph c e ≤ progress_variant Greeting n t ph c e
+greeted_low : (task : AbstractTask) (n t : ℕ) (ph : ScanPhase) (c : TransferState) (e : Option Status) → 2 * exchange_cost + progress_variant (progress_after_init task) n t ph c e ≤ progress_variant Greeting n t ph c e
 greeted_low List_ n t ph c e = omega arith
 greeted_low Show n t ph c e = omega arith
 greeted_low SetOnly n t ph c e = omega arith
@@ -50,7 +53,7 @@ value_low : (ns : List ℕ) (n t : ℕ) (ph : ScanPhase) (c : TransferState) (e 
 value_low [] n t ph c e = omega arith
 value_low (x ∷ ns) n t ph c e = omega arith
 
-settles_low : (task : Task) (known : List Descriptor) (n t : ℕ) (ph : ScanPhase) (c : TransferState) (e : Option Status) → length (readable_options known) ≤ 32 → ph ≡ Resting → stage_variant (stage_after_settings task known) n t ph c e ≤ tail_variant t
+settles_low : (task : AbstractTask) (known : List Descriptor) (n t : ℕ) (ph : ScanPhase) (c : TransferState) (e : Option Status) → length (readable_options known) ≤ 32 → ph ≡ Resting → stage_variant (stage_after_settings task known) n t ph c e ≤ tail_variant t
 settles_low List_ known n t ph c e f p = omega arith
 settles_low Show known n t ph c e f p = let h = value_low (readable_options known) n t ph c e in omega arith
 settles_low SetOnly known n t ph c e f p = omega arith
@@ -61,12 +64,12 @@ asks_low : (requested : RequestedSetting) (left : List RequestedSetting) (r : Op
 asks_low requested left None n t ph c e = omega arith
 asks_low requested left (Some (o, v)) n t ph c e = omega arith
 
-next_low : (task : Task) (known : List Descriptor) (left : List RequestedSetting) (n t : ℕ) (ph : ScanPhase) (c : TransferState) (e : Option Status) → length (readable_options known) ≤ 32 → ph ≡ Resting →
+next_low : (task : AbstractTask) (known : List Descriptor) (left : List RequestedSetting) (n t : ℕ) (ph : ScanPhase) (c : TransferState) (e : Option Status) → length (readable_options known) ≤ 32 → ph ≡ Resting →
     stage_variant (stage_of_next_setting task known left) n t ph c e ≤ 4 * exchange_cost * length left + tail_variant t
 next_low task known [] n t ph c e f p = let h = settles_low task known n t ph c e f p in omega arith
 next_low task known (requested ∷ left) n t ph c e f p = asks_low requested left (resolve_setting known requested) n t ph c e
 
-put_low : (task : Task) (known : List Descriptor) (left : List RequestedSetting) (x : Bool) (n t : ℕ) (ph : ScanPhase) (c : TransferState) (e : Option Status) → length (readable_options known) ≤ 32 → ph ≡ Resting →
+put_low : (task : AbstractTask) (known : List Descriptor) (left : List RequestedSetting) (x : Bool) (n t : ℕ) (ph : ScanPhase) (c : TransferState) (e : Option Status) → length (readable_options known) ≤ 32 → ph ≡ Resting →
     stage_variant (stage_after_put task known left x) n t ph c e ≤ 2 * exchange_cost + (4 * exchange_cost * length left + tail_variant t)
 put_low task known left true n t ph c e f p = omega arith
 put_low task known left false n t ph c e f p = let h = next_low task known left n t ph c e f p in omega arith
@@ -92,7 +95,7 @@ closed_low m g job s n t ph c e o = rw (o.1 s) (omega arith)
 take_low : (i : ℕ) (k : Make) (m : ClientView) (dev : AbstractDevice) (c : TransferState) (g : AbstractProgress) (job : AbstractJob) (n t : ℕ) (e : Option Status) (h : Option ℕ) → Opens m g job → length job.settings ≡ n →
     Lowers m g job n t e (hand_out_device i k dev c h) (progress_variant (Allowing []) n t dev.phase c e)
 take_low i k m dev c g job n t e None o l r z = told m g job n t e _ _ Opened r _ z (opened_low m g job n t _ _ e o l)
-take_low i k m dev c g job n t e (Some j) o l r z = told m g job n t e _ _ (Refused Busy) r _ z (closed_low m g job Busy n t _ _ e o)
+take_low i k m dev c g job n t e (Some j) o l r z = told m g job n t e _ _ (Refused DeviceBusy) r _ z (closed_low m g job DeviceBusy n t _ _ e o)
 
 take_listed_low : (i : ℕ) (k : Make) (m : ClientView) (dev : AbstractDevice) (c : TransferState) (g : AbstractProgress) (job : AbstractJob) (n t : ℕ) (e : Option Status) (listed : Bool) → Opens m g job → length job.settings ≡ n →
     Lowers m g job n t e (take_listed i k dev c listed) (progress_variant (Allowing []) n t dev.phase c e)
@@ -153,46 +156,46 @@ ending_none i k b m dev (inr h) = h.still.ending
 pub answers_low : (i : ℕ) (k : Make) (b : SessionView) (m : ClientView) (dev : AbstractDevice) (x : Environment) (g : AbstractProgress) (q : AbstractRequest) (t : ℕ) → DeviceInvariant k dev → request_awaited g ≡ q ∷ [] → InSync i k b m dev g →
     Lowers m g b.job (length b.job.settings) t b.ending (answer i k dev b.transfer b.awaited x q) (progress_variant g (length b.job.settings) t dev.phase b.transfer b.ending)
 answers_low i k b m dev x Greeting q t y e h =
-    let d : q ≡ Init = cc in
+    let d = asked_is _ q e in
     rw d (as_lower m Greeting b.job _ t b.ending _ _ _ (free_answer i k dev b.transfer b.awaited x Init h.awaits h.free)
     (λ r z. told m Greeting b.job _ t b.ending dev.phase b.transfer Greeted r _ z (greeted_low b.job.task (length b.job.settings) t dev.phase b.transfer b.ending)))
 answers_low i k b m dev x Listing q t y e h =
-    let d : q ≡ GetDevices = cc in
-    rw d (as_lower m Listing b.job _ t b.ending _ _ _ (free_answer i k dev b.transfer b.awaited x GetDevices h.0.awaits h.0.free)
+    let d = asked_is _ q e in
+    rw d (as_lower m Listing b.job _ t b.ending _ _ _ (free_answer i k dev b.transfer b.awaited x _ h.0.awaits h.0.free)
     (λ r z. told m Listing b.job _ t b.ending dev.phase b.transfer (Listed x.listed) r _ z (omega arith)))
 answers_low i k b m dev x Opening q t y e h =
-    let d : q ≡ Open = cc in
+    let d = asked_is _ q e in
     rw d (as_lower m Opening b.job _ t b.ending _ _ _ (free_answer i k dev b.transfer b.awaited x Open h.0.awaits h.0.free)
     (open_low i k m dev b.transfer x.challenge b.job _ t b.ending dev.listed x.guarded refl))
 answers_low i k b m dev x (Allowing c) q t y e h =
-    let d : q ≡ Authorize c = cc in
+    let d = asked_is _ q e in
     let r : answer i k dev b.transfer b.awaited x (Authorize c) ≡ allow i k dev b.transfer true (x.allows c) = rw (h.0.awaits, same_same c) refl in
     rw d (as_lower m (Allowing c) b.job _ t b.ending _ _ _ r (allow_low i k m dev b.transfer c b.job _ t b.ending (x.allows c) refl))
 answers_low i k b m dev x (Describing left) q t y e h =
-    let d : q ≡ Describe = cc in
+    let d = asked_is _ q e in
     rw d (as_lower m (Describing left) b.job _ t b.ending _ _ _ (held_answer i k dev b.transfer b.awaited x Describe h.1.still.awaited h.1.held.mine)
     (λ r z. told m (Describing left) b.job _ t b.ending dev.phase b.transfer (Described (descriptors_in_force k dev.options)) r _ z
     (let a = next_low b.job.task (descriptors_in_force k dev.options) left (length b.job.settings) t dev.phase b.transfer b.ending (few k dev.options) h.1.held.phase_is in omega arith)))
 answers_low i k b m dev x (Putting o value requested left) q t y e h =
-    let d : q ≡ Set o value = cc in
+    let d = asked_is _ q e in
     let r : set_reply k dev b.transfer o value (is_resting dev.phase) ≡ put_reply dev b.transfer (accept_value k dev.options o value) = ap (λ (y : ScanPhase). set_reply k dev b.transfer o value (is_resting y)) h.settles.held.phase_is in
     rw d (as_lower m (Putting o value requested left) b.job _ t b.ending _ _ _ (held_answer i k dev b.transfer b.awaited x (Set o value) h.settles.still.awaited h.settles.held.mine ∙ r)
     (reply_low k h.options m dev b.transfer o value requested left b.job _ t b.ending (accept_value k dev.options o value) h.known h.settles.held.phase_is))
 answers_low i k b m dev x (Getting o left) q t y e h =
-    let d : q ≡ Get o = cc in
+    let d = asked_is _ q e in
     let r : get_reply k dev b.transfer o (has_readable_value k dev.options o) ≡ reply_effect (Got (readable_value k dev.options o)) dev b.transfer = rw (h.held.options_are, h.told.0) refl in
     rw d (as_lower m (Getting o left) b.job _ t b.ending _ _ _ (held_answer i k dev b.transfer b.awaited x (Get o) h.still.awaited h.held.mine ∙ r)
     (λ r z. told m (Getting o left) b.job _ t b.ending dev.phase b.transfer (Got (readable_value k dev.options o)) r _ z
     (let a = value_low left (length b.job.settings) t dev.phase b.transfer b.ending in omega arith)))
 answers_low i k b m dev x Starting q t y e h =
-    let d : q ≡ Start = cc in
+    let d = asked_is _ q e in
     let c = starting i k b m dev h in
     let r : start_effect k dev x b.transfer ≡ start_or_fail k dev b.transfer x.again x.fault = rw c.0 refl in
     rw d (as_lower m Starting b.job _ t b.ending _ _ _ (held_answer i k dev b.transfer b.awaited x Start c.1 c.2 ∙ r)
     (subst (λ (z : Option Status). Lowers m Starting b.job (length b.job.settings) t z (start_or_fail k dev b.transfer x.again x.fault) (start_variant dev.phase t)) (sym (ending_none i k b m dev h))
     (start_low i k b m dev x.again (length b.job.settings) t x.fault y.allowed h)))
 answers_low i k b m dev x Shaping q t y e h =
-    let d : q ≡ Parameters = cc in
+    let d = asked_is _ q e in
     rw d (as_lower m Shaping b.job _ t b.ending _ _ _ (held_answer i k dev b.transfer b.awaited x Parameters h.awaited h.held.mine)
     (λ r z. told m Shaping b.job _ t b.ending dev.phase b.transfer (Shaped (abstract_params k dev dev.phase)) r _ z
     (rw (h.ending, h.transfer) (shaped_low (abstract_params k dev dev.phase) (accepts m.frames (abstract_params k dev dev.phase) m.order) (length b.job.settings) t dev.phase))))

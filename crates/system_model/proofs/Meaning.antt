@@ -12,7 +12,7 @@ use Rattle.scan_frames.specs.declared.setup.Setup.{Setup}
 use Rattle.device_api.specs.ScannerLimits as limits
 use Rattle.scan_laws.specs.SetAndJoin as rules
 use Rattle.scan_laws.proofs.Meant.{means_and_shows}
-use Rattle.system_model.specs.AbstractMessages.{RequestedSetting, Report}
+use Rattle.system_model.specs.AbstractMessages.{RequestedSetting, AbstractReport}
 use Rattle.system_model.specs.Devices.{Make, OptionsInForce, AbstractAcceptedSet, AreOptionsAllowed, default_options, descriptors_in_force, resolve_setting, accept_value, picture_frames}
 use Rattle.system_model.specs.AbstractInForce.{SettingsResult, abstract_force, with_reports_before, put_then, setting_then, report_of, abstract_in_force}
 use Rattle.system_model.specs.Meant.{PicturesAreMeant}
@@ -23,7 +23,7 @@ abbrev AllowedIn : Make → Option SettingsResult → Type 0
 AllowedIn k None = Unit {0}
 AllowedIn k (Some f) = AreOptionsAllowed k f.options
 
-onto_allowed : (k : Make) (rs : List Report) (f : Option SettingsResult) → AllowedIn k f → AllowedIn k (with_reports_before rs f)
+onto_allowed : (k : Make) (rs : List AbstractReport) (f : Option SettingsResult) → AllowedIn k f → AllowedIn k (with_reports_before rs f)
 onto_allowed k rs None a = tt
 onto_allowed k rs (Some f) a = a
 
@@ -40,7 +40,7 @@ all_allowed : (k : Make) (ws : List RequestedSetting) (o : OptionsInForce) → A
 all_allowed k [] o a = a
 all_allowed k (requested ∷ ws) o a = wish_allowed k o requested ws (resolve_setting (descriptors_in_force k o) requested) a (λ t b. all_allowed k ws t b)
 
-forced_allowed : (k : Make) (ws : List RequestedSetting) (o : OptionsInForce) (rs : List Report) → abstract_in_force k ws ≡ Some (record { options = o; reports = rs }) → AreOptionsAllowed k o
+forced_allowed : (k : Make) (ws : List RequestedSetting) (o : OptionsInForce) (rs : List AbstractReport) → abstract_in_force k ws ≡ Some (record { options = o; reports = rs }) → AreOptionsAllowed k o
 forced_allowed k ws o rs e = subst (λ (f : Option SettingsResult). AllowedIn k f) e (all_allowed k ws (default_options k) (defaults_allowed k))
 
 shown : (s : Setup) (page_view : PageView) (frames : List Frame) (b : Bool) → has_picture s page_view ≡ b → frames ≡ (if b then scan.frames_of s page_view else []) → frames ≢ [] → limits.IsAllowed s → IsPageView page_view →

@@ -1,11 +1,15 @@
 -- THE NEXT MOVE OF A JOB.
 use Rattle.std.proofs.Common.{◌≡◌, ◌∙◌, ◌≢◌, ◌≤◌, ℕ, List, [], ◌∷◌, ◌++◌, false, Option, Some, None, refl, sym, ap, inl, inr, arith}
 use Rattle.std.proofs.lemmas.List.{append-nil}
+use Rattle.sane_fixed.specs.declared.status.Status.{Status}
+use Rattle.sane_fixed.specs.declared.status.Status.TheVariants.{Good, Unsupported, Cancelled, DeviceBusy, Inval, Eof}
+use Rattle.sane_fixed.specs.declared.status.Status.TheVariants.{Jammed, NoDocs, CoverOpen, IoError, NoMem}
+use Rattle.sane_fixed.specs.declared.status.Status.TheVariants.{AccessDenied}
 use Rattle.page_picture.specs.Shows.{Frame}
 use Rattle.sane_fixed.specs.declared.params.Params.{Params}
-use Rattle.system_model.specs.AbstractMessages.{Status, Good, Unsupported, GivenUp, Busy, Inval, Eof, Jammed, NoDocs, CoverOpen, IoError, NoMem, AccessDenied, AbstractRequest, Init, GetDevices, Open, Authorize, Describe, Get, Set, Parameters, Start}
+use Rattle.system_model.specs.AbstractMessages.{AbstractRequest}
 use Rattle.system_model.specs.Devices.{Make, OptionsInForce, read_status_of}
-use Rattle.system_model.specs.Client.{JobStage, Idle, Running, Done, Ended, AbstractProgress, Greeting, Listing, Opening, Allowing, Describing, Putting, Getting, Starting, Shaping, Imaging, request_awaited}
+use Rattle.system_model.specs.Client.{JobStage, Idle, Running, Done, Ended, AbstractProgress, Imaging, request_awaited}
 use Rattle.system_model.specs.AbstractDevices.{AbstractDevice, DeviceInvariant, Reading}
 use Rattle.system_model.specs.Daemon.{Waiting}
 use Rattle.system_model.specs.SystemStates.{wanted_place, JobState, make_for, device_for}
@@ -94,8 +98,8 @@ turns_named : (i : ℕ) (k : Make) (p : JobState) (dev : AbstractDevice) (f : Fr
 turns_named i k p dev f rest more Eof h r n o = (Actions.TurnsShort, tt, (f, rest, more, h, r), o)
 turns_named i k p dev f rest more Good h r n o = absurd (n refl)
 turns_named i k p dev f rest more Unsupported h r n o = (Actions.TurnsNamed Unsupported, tt, (f, rest, more, h, r, λ z. cc, n), o)
-turns_named i k p dev f rest more GivenUp h r n o = (Actions.TurnsNamed GivenUp, tt, (f, rest, more, h, r, λ z. cc, n), o)
-turns_named i k p dev f rest more Busy h r n o = (Actions.TurnsNamed Busy, tt, (f, rest, more, h, r, λ z. cc, n), o)
+turns_named i k p dev f rest more Cancelled h r n o = (Actions.TurnsNamed Cancelled, tt, (f, rest, more, h, r, λ z. cc, n), o)
+turns_named i k p dev f rest more DeviceBusy h r n o = (Actions.TurnsNamed DeviceBusy, tt, (f, rest, more, h, r, λ z. cc, n), o)
 turns_named i k p dev f rest more Inval h r n o = (Actions.TurnsNamed Inval, tt, (f, rest, more, h, r, λ z. cc, n), o)
 turns_named i k p dev f rest more Jammed h r n o = (Actions.TurnsNamed Jammed, tt, (f, rest, more, h, r, λ z. cc, n), o)
 turns_named i k p dev f rest more NoDocs h r n o = (Actions.TurnsNamed NoDocs, tt, (f, rest, more, h, r, λ z. cc, n), o)
@@ -139,16 +143,8 @@ asks : (i : ℕ) (k : Make) (p : JobState) (dev : AbstractDevice) (g : AbstractP
 asks i k p dev g q e st h = (Actions.Answers [] None, refl, (h.served, λ z. let t = h.todo in cc (z, t, e), tt), first_1 i k p dev g st)
 
 goes_on : (i : ℕ) (k : Make) (p : JobState) (dev : AbstractDevice) (g : AbstractProgress) → p.client.stage ≡ Running g → RequestInFlight i k p dev g → DeviceInvariant k dev → CanMove i k p dev
-goes_on i k p dev Greeting e h y = asks i k p dev Greeting Init refl e h
-goes_on i k p dev Listing e h y = asks i k p dev Listing GetDevices refl e h
-goes_on i k p dev Opening e h y = asks i k p dev Opening Open refl e h
-goes_on i k p dev (Allowing c) e h y = asks i k p dev (Allowing c) (Authorize c) refl e h
-goes_on i k p dev (Describing left) e h y = asks i k p dev (Describing left) Describe refl e h
-goes_on i k p dev (Putting n value requested left) e h y = asks i k p dev (Putting n value requested left) (Set n value) refl e h
-goes_on i k p dev (Getting n left) e h y = asks i k p dev (Getting n left) (Get n) refl e h
-goes_on i k p dev Starting e h y = asks i k p dev Starting Start refl e h
-goes_on i k p dev Shaping e h y = asks i k p dev Shaping Parameters refl e h
 goes_on i k p dev (Imaging params heard) e h y = flows i k p dev params heard h.in_sync.continues.begin.options h.in_sync.more h.in_sync.rest h e h.in_sync.carries y
+goes_on i k p dev g e h y = asks i k p dev g _ refl e h
 
 moves : (i : ℕ) (k : Make) (p : JobState) (dev : AbstractDevice) (st : JobStage) → p.client.stage ≡ st → IsUnderWay st → StageInvariant i k p dev st → DeviceInvariant k dev → CanMove i k p dev
 moves i k p dev Idle e u h y = (Actions.Connects, tt, e, first_0 i k p dev)

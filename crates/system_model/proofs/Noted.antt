@@ -3,7 +3,7 @@ use Rattle.std.proofs.Common.{◌≡◌, ◌∙◌, ◌⊎◌, ℕ, List, [], �
 use Rattle.std.proofs.lemmas.List.{append-nil}
 use Rattle.option_desc.specs.declared.value.Value.{Value}
 use Rattle.page_picture.specs.Shows.{Frame}
-use Rattle.system_model.specs.AbstractMessages.{same_text, Challenge, AbstractRequest, Init, GetDevices, Open, Authorize, Describe, Get, Set, Parameters, Start, Cancel, Close, Exit}
+use Rattle.system_model.specs.AbstractMessages.{same_text, Challenge, AbstractRequest, GetDevices, Open, Authorize, Get, Set, Start, Cancel, Close, Exit}
 use Rattle.device_api.specs.Kinds.{Page}
 use Rattle.system_model.specs.Devices.{Make, AbstractAcceptedSet, has_readable_value, picture_frames, accept_value}
 use Rattle.system_model.specs.AbstractDevices.{AbstractDevice, ScanPhase, Resting, Between, Reading, Begin, is_held_by, is_resting}
@@ -105,18 +105,16 @@ start_notes i d k dev x Streaming ds = (refl, inl refl)
 start_notes i d k dev x Ending ds = (refl, inl refl)
 
 if_notes : (b : Bool) (i d : ℕ) (k : Make) (dev : AbstractDevice) (c : TransferState) (x : Environment) (q : AbstractRequest) → Notes (answer_if b i k dev c x q) (answer_marks b i d k dev c x q) x.listed
-if_notes true i d k dev c x Init = (refl, inl refl)
 if_notes true i d k dev c x GetDevices = (refl, inr refl)
 if_notes true i d k dev c x Open = open_notes i d k dev c x.challenge dev.listed x.guarded x.listed
 if_notes true i d k dev c x (Authorize challenge) = (left_none (is_busy dev.phase) i d, inl refl)
-if_notes true i d k dev c x Describe = (refl, inl refl)
 if_notes true i d k dev c x (Get n) = get_notes k dev c n (has_readable_value k dev.options n) x.listed
 if_notes true i d k dev c x (Set n v) = set_notes k dev c n v (is_resting dev.phase) x.listed
-if_notes true i d k dev c x Parameters = (refl, inl refl)
 if_notes true i d k dev c x Start = start_notes i d k dev x c x.listed
 if_notes true i d k dev c x Cancel = (rested_none (is_busy dev.phase) i d, inl refl)
 if_notes true i d k dev c x Close = (left_none (is_busy dev.phase) i d, inl refl)
 if_notes true i d k dev c x Exit = (left_none (is_busy dev.phase) i d, inl refl)
+if_notes true i d k dev c x q = (refl, inl refl)
 if_notes false i d k dev c x GetDevices = (refl, inr refl)
 if_notes false i d k dev c x Open = open_notes i d k dev c x.challenge dev.listed x.guarded x.listed
 if_notes false i d k dev c x q = (refl, inl refl)

@@ -3,7 +3,7 @@ use Rattle.std.proofs.Common.{◌≡◌, ◌∙◌, ◌≢◌, ℕ, List, [], �
 use Rattle.std.proofs.lemmas.Bool.{eqb-false}
 use Rattle.page_picture.specs.Shows.{Frame}
 use Rattle.option_desc.specs.declared.value.Value.{Value}
-use Rattle.system_model.specs.AbstractMessages.{same_text, Challenge, AbstractRequest, Init, GetDevices, Open, Authorize, Describe, Get, Set, Parameters, Start, Cancel, Close, Exit, AbstractReply, Greeted, Listed, Described, Acked, Refused, Inval}
+use Rattle.system_model.specs.AbstractMessages.{same_text, Challenge, AbstractRequest, Init, GetDevices, Open, Authorize, Get, Set, Start, Close, Exit, AbstractReply, Greeted, Listed}
 use Rattle.device_api.specs.Kinds.{Page}
 use Rattle.system_model.specs.Devices.{Make, AbstractAcceptedSet, has_readable_value, picture_frames, accept_value}
 use Rattle.system_model.specs.AbstractDevices.{AbstractDevice, ScanPhase, Resting, Between, Reading, is_resting, put_back, device_let_go, is_held_by}
@@ -186,28 +186,18 @@ plain i d make table c x Open true e n =
     subst (λ (b : Bool). FollowsOneWord i d table (open_effect i table (one_word_session true d c None) 1 d b (open_listed i (make d) (table d) c (x d).challenge (table d).listed (x d).guarded)) (open_listed i (make d) (table d) c (x d).challenge (table d).listed (x d).guarded)) (sym e)
     (handed i d table (one_word_session true d c None) c _ true 1 e (λ z. kept_opened i (make d) (table d) c (x d).challenge (table d).listed (x d).guarded e) (λ z. cc) refl refl)
 plain i d make table c x (Authorize y) true e n = ended i d table _ _ (lets_go i (table d) true e) n
-plain i d make table c x Describe true e n = served i d make table c (x d) Describe refl e (refl, refl)
 plain i d make table c x (Get m) true e n = served i d make table c (x d) (Get m) refl e (get_stays (make d) (table d) c m (has_readable_value (make d) (table d).options m))
 plain i d make table c x (Set m v) true e n = served i d make table c (x d) (Set m v) refl e (set_stays (make d) (table d) c m v (is_resting (table d).phase))
-plain i d make table c x Parameters true e n = served i d make table c (x d) Parameters refl e (refl, refl)
 plain i d make table c x Start true e n = served i d make table c (x d) Start refl e (start_stays (make d) (table d) (x d) c)
-plain i d make table c x Cancel true e n = served i d make table c (x d) Cancel refl e (refl, refl)
 plain i d make table c x Close true e n = closed i d make table c (x d)
 plain i d make table c x Exit true e n = ended i d table _ _ (lets_go i (table d) true e) n
-plain i d make table c x Init false e n = said i d table c false Greeted _ e refl refl refl refl refl
-plain i d make table c x GetDevices false e n = said i d table c false (Listed (x d).listed) _ e refl refl refl refl refl
+plain i d make table c x q true e n = served i d make table c (x d) q refl e (refl, refl)
 plain i d make table c x Open false e n =
     subst (λ (b : Bool). FollowsOneWord i d table (open_effect i table (one_word_session false d c None) 0 d b (open_listed i (make d) (table d) c (x d).challenge (table d).listed (x d).guarded)) (open_listed i (make d) (table d) c (x d).challenge (table d).listed (x d).guarded)) (sym e)
     (handed i d table (one_word_session false d c None) c _ false 0 e (λ z. cc) (λ z. refl) refl refl)
 plain i d make table c x (Authorize y) false e n = ended i d table _ _ (lets_go i (table d) false e) n
-plain i d make table c x Describe false e n = said i d table c false (Described []) _ e refl refl refl refl refl
-plain i d make table c x (Get m) false e n = said i d table c false (Refused Inval) _ e refl refl refl refl refl
-plain i d make table c x (Set m v) false e n = said i d table c false (Refused Inval) _ e refl refl refl refl refl
-plain i d make table c x Parameters false e n = said i d table c false (Refused Inval) _ e refl refl refl refl refl
-plain i d make table c x Start false e n = said i d table c false (Refused Inval) _ e refl refl refl refl refl
-plain i d make table c x Cancel false e n = said i d table c false Acked _ e refl refl refl refl refl
-plain i d make table c x Close false e n = said i d table c false Acked _ e refl refl refl refl refl
 plain i d make table c x Exit false e n = ended i d table _ _ (lets_go i (table d) false e) n
+plain i d make table c x q false e n = said i d table c false _ _ e refl refl refl refl refl
 
 allowed : (i d : ℕ) (make : ℕ → Make) (table : ℕ → AbstractDevice) (c : TransferState) (sent y : Challenge) (x : ℕ → Environment) (h : Bool) → is_held_by i (table d).holder ≡ h →
     FollowsOneWord i d table (awaited_call i make table (one_word_session h d c (Some sent)) x sent d (Authorize y)) (answer_awaited i (make d) (table d) c (x d) sent (Authorize y))

@@ -1,7 +1,10 @@
 -- OPEN AND AUTHORIZE: a client in sync is right to hear what they come to.
 use Rattle.std.proofs.Common.{◌≡◌, ◌∙◌, ◌≢◌, ℕ, [], ◌∷◌, Bool, true, false, Option, Some, None, refl, sym, subst, ap, inl, inr, eqb}
 use Rattle.std.proofs.lemmas.Bool.{eq-eqb, ne_eqb}
-use Rattle.system_model.specs.AbstractMessages.{same_text, Status, Busy, Inval, Answer, Refused, Challenge, AbstractRequest, Opened, Challenged}
+use Rattle.scan_job.specs.declared.outcome.Why.TheVariants.{Answer}
+use Rattle.sane_fixed.specs.declared.status.Status.{Status}
+use Rattle.sane_fixed.specs.declared.status.Status.TheVariants.{DeviceBusy, Inval}
+use Rattle.system_model.specs.AbstractMessages.{same_text, Refused, Challenge, AbstractRequest, Opened, Challenged}
 use Rattle.system_model.specs.Devices.{Make, default_options}
 use Rattle.system_model.specs.AbstractInForce.{abstract_force}
 use Rattle.system_model.specs.Client.{List_, ClientView, Running, with_ending, AbstractProgress, Opening, Allowing, Describing}
@@ -19,6 +22,10 @@ held_answer i k dev c a x q n h = let e : is_held_by i dev.holder ≡ true = rw 
 pub held_other : (i : ℕ) (h : Option ℕ) → h ≢ Some i → is_held_by i h ≡ false
 held_other i None n = refl
 held_other i (Some j) n = ne_eqb j i (λ e. n (ap Some e))
+
+-- the one request that is awaited
+pub asked_is : (x q : AbstractRequest) → x ∷ [] ≡ q ∷ [] → q ≡ x
+asked_is x q e = cc
 
 pub free_answer : (i : ℕ) (k : Make) (dev : AbstractDevice) (c : TransferState) (a : Option Challenge) (x : Environment) (q : AbstractRequest) → a ≡ None → dev.holder ≢ Some i → answer i k dev c a x q ≡ refuse i k dev c x q
 free_answer i k dev c a x q e n = rw (e, held_other i dev.holder n) refl
@@ -56,7 +63,7 @@ take_right i k b m dev a g None e n o p t = (
 )
 take_right i k b m dev a g (Some j) e n o p t =
     let f : eqb j i ≡ false = ne_eqb j i (λ z. n.free (e ∙ ap Some z)) in
-    (refl, (_, refl, right_at i k _ _ _ _ (t.1 Busy) (rw f (inl (inl (refl, refl))))))
+    (refl, (_, refl, right_at i k _ _ _ _ (t.1 DeviceBusy) (rw f (inl (inl (refl, refl))))))
 
 take_listed_right : (i : ℕ) (k : Make) (b : SessionView) (m : ClientView) (dev : AbstractDevice) (a : Option Challenge) (g : AbstractProgress) (listed : Bool) → NotYet i b m dev a → b.job.task ≢ List_ →
     IsPermitted b.job b.sent → Takes m g b → Answers i k b m g (take_listed i k dev b.transfer listed)

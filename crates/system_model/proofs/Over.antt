@@ -1,6 +1,11 @@
 -- A JOB THAT IS OVER STAYS AS IT IS, and what ends a job.
 use Rattle.std.proofs.Common.{◌≡◌, ◌∙◌, ℕ, List, [], ◌∷◌, Option, refl, sym, ap, subst}
-use Rattle.system_model.specs.AbstractMessages.{Status, IoError, GivenUp, NoMem, Why, Lost, Cancelled, Memory, Challenge, AbstractRequest}
+use Rattle.scan_job.specs.declared.outcome.Why.{Why}
+use Rattle.scan_job.specs.declared.outcome.Why.TheVariants.{Lost, Cancelled, Memory}
+use Rattle.sane_fixed.specs.declared.status.Status.{Status}
+use Rattle.sane_fixed.specs.declared.status.Status.TheVariants.{IoError, NoMem}
+use Rattle.sane_fixed.specs.declared.status.Status.TheVariants as statuses
+use Rattle.system_model.specs.AbstractMessages.{Challenge, AbstractRequest}
 use Rattle.system_model.specs.Devices.{Make}
 use Rattle.system_model.specs.Client.{JobStage, Idle, Running, Done, Ended, ClientView}
 use Rattle.system_model.specs.ClientReplies.{stage_after_stop, client_after_stop}
@@ -41,7 +46,7 @@ lasts i k ds p dev (Actions.Finishes status) l n = absurd (n (images p.client.st
 lasts i k ds p dev (Actions.Loses memory) l n = same_mind IoError Lost p.client n
 lasts i k ds p dev (Actions.LosesImage memory) l n = same_mind IoError Lost p.client n
 lasts i k ds p dev Actions.RunsOutOfMemory l n = same_mind NoMem Memory p.client n
-lasts i k ds p dev Actions.Stops l n = same_mind GivenUp Cancelled p.client n
+lasts i k ds p dev Actions.Stops l n = same_mind statuses.Cancelled Cancelled p.client n
 lasts i k ds p dev x l n = refl
 
 pub outcomes_last : OutcomesLast
@@ -58,7 +63,7 @@ ends : (i : ℕ) (k : Make) (ds : List ℕ) (p : JobState) (dev : AbstractDevice
 ends i k ds p dev (Actions.Loses memory) e u = over IoError Lost p.client.stage u
 ends i k ds p dev (Actions.LosesImage memory) e u = over IoError Lost p.client.stage u
 ends i k ds p dev Actions.RunsOutOfMemory e u = over NoMem Memory p.client.stage u
-ends i k ds p dev Actions.Stops e u = over GivenUp Cancelled p.client.stage u
+ends i k ds p dev Actions.Stops e u = over statuses.Cancelled Cancelled p.client.stage u
 ends i k ds p dev x e u = absurd e
 
 pub ends_end : EndsEnd

@@ -1,11 +1,13 @@
 -- THE CLIENT'S RULES AGAINST THE DAEMON'S: whatever a client in sync asks for, it is right to hear the answer.
 use Rattle.std.proofs.Common.{◌≡◌, ◌∙◌, ◌≤◌, ℕ, List, [], ◌∷◌, Bool, true, false, Option, Some, None, refl, sym, subst, ap, inl, inr, length, arith}
 use Rattle.std.proofs.lemmas.List.{append-nil}
+use Rattle.scan_job.specs.declared.outcome.Why.TheVariants.{Answer}
+use Rattle.sane_fixed.specs.declared.status.Status.TheVariants.{NoDocs}
 use Rattle.page_picture.specs.Shows.{Frame}
-use Rattle.system_model.specs.AbstractMessages.{NoDocs, Answer, AbstractRequest, Init, GetDevices, Open, Authorize, Describe, Get, Set, Parameters, Start, Greeted, Listed, Shaped, Got, Described, Begun}
+use Rattle.system_model.specs.AbstractMessages.{AbstractRequest, Init, Open, Authorize, Describe, Get, Set, Parameters, Start, Greeted, Listed, Shaped, Got, Described, Begun}
 use Rattle.device_api.specs.Kinds.{Page}
 use Rattle.system_model.specs.Devices.{Make, AreOptionsAllowed, IsPageShaped, descriptors_in_force, has_readable_value, readable_value, accept_value, order_of, picture_frames, accepts}
-use Rattle.system_model.specs.Client.{Task, List_, Show, SetOnly, Scan, Batch, further_pages, ClientView, Done, with_ending, AbstractProgress, Greeting, Listing, Opening, Allowing, Describing, Putting, Getting, Starting, Shaping, Imaging, request_awaited, progress_after_init}
+use Rattle.system_model.specs.Client.{AbstractTask, List_, Show, SetOnly, Scan, Batch, further_pages, ClientView, Done, with_ending, AbstractProgress, Greeting, Listing, Opening, Allowing, Describing, Putting, Getting, Starting, Shaping, Imaging, request_awaited, progress_after_init}
 use Rattle.system_model.specs.ClientReplies.{hear_at, begins_frame, start_refused}
 use Rattle.system_model.specs.AbstractDevices.{AbstractDevice, DeviceInvariant, AreShaped, ScanPhase, is_resting, Begin}
 use Rattle.system_model.specs.Daemon.{Quiet, Environment, FailureCounts, reply_effect, abstract_params, answer, serve, allow, get_reply, put_reply, set_reply, begin_page, begin_pass, start_page, start_at, start_or_fail, start_effect}
@@ -15,7 +17,7 @@ use Rattle.system_model.specs.Sync.{NotYet, Ready, Pauses, IsShaping, InSync, Sc
 use Rattle.system_model.specs.Invariants.{IsRight}
 use Rattle.system_model.proofs.Laws.{proper}
 use Rattle.system_model.proofs.Settled.{Answers, done_at, right_at, next_right, put_right, got_right}
-use Rattle.system_model.proofs.Opened.{held_answer, free_answer, as_served, open_right, allow_right, same_same}
+use Rattle.system_model.proofs.Opened.{asked_is, held_answer, free_answer, as_served, open_right, allow_right, same_same}
 
 -- START
 begin_right : (i : ℕ) (k : Make) (b : SessionView) (m : ClientView) (dev : AbstractDevice) (page : Page) (fs : List Frame) (h : Ready i k b m dev) → AreOptionsAllowed k dev.options → IsPageShaped page → picture_frames k dev.options page ≡ fs →
@@ -61,18 +63,18 @@ later_empty m page pages (x ∷ fs) ps f p = cc
 later_empty m page pages [] [] f p = cc
 
 -- an empty tray, at the first start or at a later one
-empty_right : (i : ℕ) (k : Make) (b : SessionView) (m : ClientView) (dev : AbstractDevice) (task : Task) (starts : List Begin) (pages : List (List Frame)) (h : Ready i k b m dev) → b.job.task ≡ task → b.started ≡ starts → m.pages ≡ pages →
+empty_right : (i : ℕ) (k : Make) (b : SessionView) (m : ClientView) (dev : AbstractDevice) (task : AbstractTask) (starts : List Begin) (pages : List (List Frame)) (h : Ready i k b m dev) → b.job.task ≡ task → b.started ≡ starts → m.pages ≡ pages →
     Answers i k b m Starting (start_page k dev b.transfer (is_some_begun starts) [])
 empty_right i k b m dev task [] [] h t e p = (refl, (_, refl, right_at i k _ _ _ _ (first_empty m m.frames m.pages h.frames p) (inl (inl (refl, refl)))))
 empty_right i k b m dev Scan (s ∷ starts) (page ∷ pages) h t e p =
-    let f : length (page ∷ pages) ≤ 0 = subst (λ (x : List (List Frame)). length x ≤ 0) p (subst (λ (x : Task). length m.pages ≤ further_pages x) t h.fewer) in absurd (omega arith)
+    let f : length (page ∷ pages) ≤ 0 = subst (λ (x : List (List Frame)). length x ≤ 0) p (subst (λ (x : AbstractTask). length m.pages ≤ further_pages x) t h.fewer) in absurd (omega arith)
 empty_right i k b m dev (Batch n) (s ∷ starts) (page ∷ pages) h t e p = (
   refl,
   (
     _,
     refl,
     right_at i k _ _ _ _ (later_empty m page pages m.frames m.pages h.frames p)
-        (done_at k _ _ (Batch n) t ((h.options, record { forced = h.settled.forced; permitted = h.settled.permitted }), inr (λ z. cc (z, p), subst (λ (x : Task). length m.pages ≤ further_pages x) t h.fewer, inl refl))),
+        (done_at k _ _ (Batch n) t ((h.options, record { forced = h.settled.forced; permitted = h.settled.permitted }), inr (λ z. cc (z, p), subst (λ (x : AbstractTask). length m.pages ≤ further_pages x) t h.fewer, inl refl))),
   ),
 )
 empty_right i k b m dev List_ (s ∷ starts) (page ∷ pages) h t e p = absurd (subst Scans t h.scans)
@@ -177,7 +179,7 @@ shaped i k b m dev h =
     )
 
 -- INIT
-greeted : (i : ℕ) (k : Make) (b : SessionView) (m : ClientView) (dev : AbstractDevice) (task : Task) → b.job.task ≡ task → NotYet i b m dev None → InSync i k b m dev (progress_after_init task)
+greeted : (i : ℕ) (k : Make) (b : SessionView) (m : ClientView) (dev : AbstractDevice) (task : AbstractTask) → b.job.task ≡ task → NotYet i b m dev None → InSync i k b m dev (progress_after_init task)
 greeted i k b m dev List_ e n = (n, e)
 greeted i k b m dev Show e n = (n, λ z. cc (e, z))
 greeted i k b m dev SetOnly e n = (n, λ z. cc (e, z))
@@ -188,7 +190,7 @@ greeted i k b m dev (Batch l) e n = (n, λ z. cc (e, z))
 pub answers_right : (i : ℕ) (k : Make) (b : SessionView) (m : ClientView) (dev : AbstractDevice) (x : Environment) (g : AbstractProgress) (q : AbstractRequest) → DeviceInvariant k dev → x.guarded ≡ b.job.guarded → x.allows ≡ b.job.allows → x.again ≡ is_some_begun b.started →
     request_awaited g ≡ q ∷ [] → InSync i k b m dev g → Answers i k b m g (answer i k dev b.transfer b.awaited x q)
 answers_right i k b m dev x Greeting q y xg xa xs e h =
-    let d : q ≡ Init = cc in
+    let d = asked_is _ q e in
     rw d (as_served i k b m Greeting _ _ (free_answer i k dev b.transfer b.awaited x Init h.awaits h.free) (
       refl,
       (
@@ -212,19 +214,19 @@ answers_right i k b m dev x Greeting q y xg xa xs e h =
       ),
     ))
 answers_right i k b m dev x Listing q y xg xa xs e h =
-    let d : q ≡ GetDevices = cc in
-    rw d (as_served i k b m Listing _ _ (free_answer i k dev b.transfer b.awaited x GetDevices h.0.awaits h.0.free)
+    let d = asked_is _ q e in
+    rw d (as_served i k b m Listing _ _ (free_answer i k dev b.transfer b.awaited x _ h.0.awaits h.0.free)
     (refl, (Listed x.listed, refl, done_at k _ _ List_ h.1 (rw h.0.shown refl))))
 answers_right i k b m dev x Opening q y xg xa xs e h =
-    let d : q ≡ Open = cc in
+    let d = asked_is _ q e in
     rw d (as_served i k b m Opening _ _ (free_answer i k dev b.transfer b.awaited x Open h.0.awaits h.0.free)
     (open_right i k b m dev x.challenge dev.listed x.guarded (sym xg) h.0 h.1))
 answers_right i k b m dev x (Allowing c) q y xg xa xs e h =
-    let d : q ≡ Authorize c = cc in
+    let d = asked_is _ q e in
     let r : answer i k dev b.transfer b.awaited x (Authorize c) ≡ allow i k dev b.transfer true (x.allows c) = rw (h.0.awaits, same_same c) refl in
     rw d (as_served i k b m (Allowing c) _ _ r (allow_right i k b m dev c (x.allows c) (ap (λ f. f c) (sym xa)) h.0 h.1))
 answers_right i k b m dev x (Describing left) q y xg xa xs e h =
-    let d : q ≡ Describe = cc in
+    let d = asked_is _ q e in
     rw d (as_served i k b m (Describing left) _ _ (held_answer i k dev b.transfer b.awaited x Describe h.1.still.awaited h.1.held.mine) (
       refl,
       (
@@ -245,20 +247,20 @@ answers_right i k b m dev x (Describing left) q y xg xa xs e h =
       ),
     ))
 answers_right i k b m dev x (Putting n value requested left) q y xg xa xs e h =
-    let d : q ≡ Set n value = cc in
+    let d = asked_is _ q e in
     let r : set_reply k dev b.transfer n value (is_resting dev.phase) ≡ put_reply dev b.transfer (accept_value k dev.options n value) = rw h.settles.held.phase_is refl in
     rw d (as_served i k b m (Putting n value requested left) _ _ (held_answer i k dev b.transfer b.awaited x (Set n value) h.settles.still.awaited h.settles.held.mine ∙ r)
     (put_right i k b m dev n value requested left h.options (accept_value k dev.options n value) h.settles h.known h.resolved (rw h.settles.held.options_are refl)))
 answers_right i k b m dev x (Getting n left) q y xg xa xs e h =
-    let d : q ≡ Get n = cc in
+    let d = asked_is _ q e in
     let r : get_reply k dev b.transfer n (has_readable_value k dev.options n) ≡ reply_effect (Got (readable_value k dev.options n)) dev b.transfer = rw (h.held.options_are, h.told.0) refl in
     rw d (as_served i k b m (Getting n left) _ _ (held_answer i k dev b.transfer b.awaited x (Get n) h.still.awaited h.held.mine ∙ r) (got_right i k b m dev n left h))
 answers_right i k b m dev x Starting q y xg xa xs e h =
-    let d : q ≡ Start = cc in
+    let d = asked_is _ q e in
     let c = starting i k b m dev h in
     let r : start_effect k dev x b.transfer ≡ start_or_fail k dev b.transfer (is_some_begun b.started) x.fault = rw (c.0, xs) refl in
     rw d (as_served i k b m Starting _ _ (held_answer i k dev b.transfer b.awaited x Start c.1 c.2 ∙ r) (start_right i k b m dev x.fault y h c.0))
 answers_right i k b m dev x Shaping q y xg xa xs e h =
-    let d : q ≡ Parameters = cc in
+    let d = asked_is _ q e in
     rw d (as_served i k b m Shaping _ _ (held_answer i k dev b.transfer b.awaited x Parameters h.awaited h.held.mine) (shaped i k b m dev h))
 answers_right i k b m dev x (Imaging params heard) q y xg xa xs e h = cc

@@ -15,7 +15,7 @@ use Rattle.device_api.specs.Options as table
 use Rattle.device_api.specs.Values.{option_set, setup_after}
 use Rattle.device_api.proofs.TableLaws.{set_places}
 use Rattle.scan_laws.specs.SetAndJoin as rules
-use Rattle.system_model.specs.AbstractMessages.{RequestedSetting, Report}
+use Rattle.system_model.specs.AbstractMessages.{RequestedSetting, AbstractReport}
 use Rattle.system_model.specs.Devices.{Make, abstract_accepted_set, default_options, descriptors_in_force, resolve_setting, accept_value}
 use Rattle.system_model.specs.AbstractInForce.{SettingsResult, abstract_force, with_reports_before, put_then, setting_then, report_of}
 use Rattle.system_model.specs.Settings.{pair_of, SettingsMeanTheSame}
@@ -27,7 +27,7 @@ options_in f = option_map (λ x. x.options) f
 abbrev setup_in : Option (Setup × List Placement) → Option Setup
 setup_in r = option_map (λ x. x.0) r
 
-onto_options : (rs : List Report) (f : Option SettingsResult) → options_in (with_reports_before rs f) ≡ options_in f
+onto_options : (rs : List AbstractReport) (f : Option SettingsResult) → options_in (with_reports_before rs f) ≡ options_in f
 onto_options rs None = refl
 onto_options rs (Some f) = refl
 

@@ -2,10 +2,10 @@
 use Rattle.std.proofs.Common.{◌≡◌, ◌∙◌, ℕ, List, [], ◌∷◌, ◌++◌, Bool, true, false, Option, Some, None, refl, sym, subst, ap, inl, inr, append_assoc, arith}
 use Rattle.std.proofs.lemmas.List.{append-nil}
 use Rattle.option_desc.specs.declared.value.Value.{Value}
-use Rattle.system_model.specs.AbstractMessages.{RequestedSetting, Report, Gave, Got}
+use Rattle.system_model.specs.AbstractMessages.{RequestedSetting, AbstractReport, Gave, Got}
 use Rattle.system_model.specs.Devices.{Make, OptionsInForce, AbstractAcceptedSet, descriptors_in_force, readable_options, readable_value, resolve_setting, accept_value}
 use Rattle.system_model.specs.AbstractInForce.{SettingsResult, abstract_force, with_reports_before, report_of, values_of}
-use Rattle.system_model.specs.Client.{Task, List_, Show, SetOnly, Scan, Batch, ClientView, AbstractProgress, Putting, Getting, stage_after_settings, asks_setting, stage_of_next_setting, stage_after_put, next_value}
+use Rattle.system_model.specs.Client.{AbstractTask, List_, Show, SetOnly, Scan, Batch, ClientView, AbstractProgress, Putting, Getting, stage_after_settings, asks_setting, stage_of_next_setting, stage_after_put, next_value}
 use Rattle.system_model.specs.ClientReplies.{hear_at}
 use Rattle.system_model.specs.AbstractDevices.{AbstractDevice}
 use Rattle.system_model.specs.Daemon.{AnswerEffect, reply_effect, put_reply}
@@ -20,7 +20,7 @@ abbrev pub Answers : ℕ → Make → SessionView → ClientView → AbstractPro
 Answers i k b m g v =
     (v.goes_on ≡ true) × ((r : _) × (v.told ≡ r ∷ []) × IsRight i k (session_after_answer b v) (hear_at g b.job m r) v.device (hear_at g b.job m r).stage)
 
-onto_onto : (xs ys : List Report) (f : Option SettingsResult) → with_reports_before xs (with_reports_before ys f) ≡ with_reports_before (xs ++ ys) f
+onto_onto : (xs ys : List AbstractReport) (f : Option SettingsResult) → with_reports_before xs (with_reports_before ys f) ≡ with_reports_before (xs ++ ys) f
 onto_onto xs ys None = refl
 onto_onto xs ys (Some f) = simp append_assoc
 
@@ -28,8 +28,8 @@ pub onto_nil : (f : Option SettingsResult) → with_reports_before [] f ≡ f
 onto_nil None = refl
 onto_nil (Some f) = refl
 
-pub done_at : (k : Make) (b : SessionView) (m : ClientView) (task : Task) → b.job.task ≡ task → IsRightlyDone k b m task → IsRightlyDone k b m b.job.task
-done_at k b m task e h = subst (λ (t : Task). IsRightlyDone k b m t) (sym e) h
+pub done_at : (k : Make) (b : SessionView) (m : ClientView) (task : AbstractTask) → b.job.task ≡ task → IsRightlyDone k b m task → IsRightlyDone k b m b.job.task
+done_at k b m task e h = subst (λ (t : AbstractTask). IsRightlyDone k b m t) (sym e) h
 
 pub right_at : (i : ℕ) (k : Make) (b : SessionView) (dev : AbstractDevice) (m n : ClientView) → m ≡ n → IsRight i k b n dev n.stage → IsRight i k b m dev m.stage
 right_at i k b dev m n e h = subst (λ (x : ClientView). IsRight i k b x dev x.stage) (sym e) h
@@ -52,7 +52,7 @@ value_next i k b m dev (n ∷ ns) o h t d e s =
       few = rw e at (few k o);
     }
 
-settled : (i : ℕ) (k : Make) (b : SessionView) (m : ClientView) (dev : AbstractDevice) (o : OptionsInForce) (task : Task) → b.job.task ≡ task → m.known ≡ descriptors_in_force k o → SettingsInForce i k b m dev [] o →
+settled : (i : ℕ) (k : Make) (b : SessionView) (m : ClientView) (dev : AbstractDevice) (o : OptionsInForce) (task : AbstractTask) → b.job.task ≡ task → m.known ≡ descriptors_in_force k o → SettingsInForce i k b m dev [] o →
     IsRight i k b m dev (stage_after_settings task m.known)
 settled i k b m dev o List_ e d h = absurd (h.opens e)
 settled i k b m dev o Show e d h =

@@ -1,7 +1,8 @@
 -- THE NUMBERS OF STAGES: what runs has one, and what they are where no reply is on the way.
 use Rattle.std.proofs.Common.{◌≡◌, ◌∙◌, ◌≤◌, ℕ, List, [], ◌∷◌, Bool, true, false, Option, Some, None, refl, ap, length, arith}
+use Rattle.sane_fixed.specs.declared.status.Status.{Status}
 use Rattle.sane_fixed.specs.declared.params.Params.{Params}
-use Rattle.system_model.specs.AbstractMessages.{Status, AbstractReply}
+use Rattle.system_model.specs.AbstractMessages.{AbstractReply}
 use Rattle.system_model.specs.Client.{ClientView, JobStage, Idle, Running, Done, Ended, AbstractProgress, Greeting, Listing, Opening, Allowing, Describing, Putting, Getting, Starting, Shaping, Imaging}
 use Rattle.system_model.specs.AbstractDevices.{AbstractDevice, ScanPhase, Resting, Between, Reading}
 use Rattle.system_model.specs.Daemon.{TransferState, Quiet, Waiting, Streaming, Ending}

@@ -2,7 +2,7 @@
 use Rattle.std.proofs.Common.{◌≡◌, ◌∙◌, ◌≢◌, ◌⊎◌, ℕ, List, [], ◌∷◌, Bool, true, false, Option, Some, None, refl, sym, subst, ap, inl, inr, cond, eqb-true}
 use Rattle.page_picture.specs.Shows.{Frame}
 use Rattle.option_desc.specs.declared.value.Value.{Value}
-use Rattle.system_model.specs.AbstractMessages.{same_text, Challenge, AbstractRequest, Init, GetDevices, Open, Authorize, Describe, Get, Set, Parameters, Start, Cancel, Close, Exit}
+use Rattle.system_model.specs.AbstractMessages.{same_text, Challenge, AbstractRequest, Open, Authorize, Get, Set, Start, Cancel, Close, Exit}
 use Rattle.device_api.specs.Kinds.{Model, Page, IsStocked, after_start, is_feeder}
 use Rattle.device_api.specs.State.{left_behind}
 use Rattle.device_api.proofs.KindLaws.{start_leaves, start_stocked}
@@ -130,18 +130,15 @@ start_treats i k dev x Streaming h = inl refl
 start_treats i k dev x Ending h = inl refl
 
 serve_treats : (i : ℕ) (k : Make) (dev : AbstractDevice) (c : TransferState) (x : Environment) (q : AbstractRequest) → dev.holder ≡ Some i → Treats i k dev (serve i k dev c x q).device
-serve_treats i k dev c x Init h = inl refl
-serve_treats i k dev c x GetDevices h = inl refl
 serve_treats i k dev c x Open h = open_treats i k dev c x.challenge dev.listed x.guarded
 serve_treats i k dev c x (Authorize challenge) h = given_back i k dev h
-serve_treats i k dev c x Describe h = inl refl
 serve_treats i k dev c x (Get n) h = get_treats i k dev c n (has_readable_value k dev.options n)
 serve_treats i k dev c x (Set n value) h = set_treats i k dev c n value (is_resting dev.phase) h
-serve_treats i k dev c x Parameters h = inl refl
 serve_treats i k dev c x Start h = start_treats i k dev x c h
 serve_treats i k dev c x Cancel h = rested i k dev h
 serve_treats i k dev c x Close h = given_back i k dev h
 serve_treats i k dev c x Exit h = given_back i k dev h
+serve_treats i k dev c x q h = inl refl
 
 refuse_treats : (i : ℕ) (k : Make) (dev : AbstractDevice) (c : TransferState) (x : Environment) (q : AbstractRequest) → Treats i k dev (refuse i k dev c x q).device
 refuse_treats i k dev c x Open = open_treats i k dev c x.challenge dev.listed x.guarded

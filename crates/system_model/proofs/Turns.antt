@@ -1,10 +1,14 @@
 -- THE DAEMON'S SIDE OF A DATA CONNECTION: records that it sends, and the end record.
 use Rattle.std.proofs.Common.{arith, ◌≡◌, ◌∙◌, ◌≢◌, ℕ, List, [], ◌∷◌, ◌++◌, Option, Some, None, true, refl, sym, subst, ap, inl, inr, append_assoc, length, length-append}
+use Rattle.scan_job.specs.declared.outcome.Why.{Why}
+use Rattle.scan_job.specs.declared.outcome.Why.TheVariants.{Answer}
+use Rattle.sane_fixed.specs.declared.status.Status.{Status}
+use Rattle.sane_fixed.specs.declared.status.Status.TheVariants.{Good, Cancelled, Eof}
 use Rattle.page_picture.specs.Shows.{Frame}
 use Rattle.sane_fixed.specs.declared.params.Params.{Params}
-use Rattle.system_model.specs.AbstractMessages.{Challenge, Report, Status, Good, Eof, GivenUp, Why, Answer}
+use Rattle.system_model.specs.AbstractMessages.{Challenge, AbstractReport}
 use Rattle.system_model.specs.Devices.{Make, OptionsInForce, order_of, read_status_of}
-use Rattle.system_model.specs.Client.{AbstractJob, ClientView, JobStage, Idle, Running, Done, Ended, AbstractProgress, Greeting, Listing, Opening, Allowing, Describing, Putting, Getting, Starting, Shaping, Imaging, Task, List_, Show, SetOnly, Scan, Batch}
+use Rattle.system_model.specs.Client.{AbstractJob, ClientView, JobStage, Idle, Running, Done, Ended, AbstractProgress, Greeting, Listing, Opening, Allowing, Describing, Putting, Getting, Starting, Shaping, Imaging, AbstractTask, List_, Show, SetOnly, Scan, Batch}
 use Rattle.system_model.specs.AbstractDevices.{AbstractDevice, Begin, ScanPhase, Reading, without_prefix, read_on, ended_phase}
 use Rattle.system_model.specs.Daemon.{TransferState, Quiet, Streaming, Ending}
 use Rattle.system_model.specs.Causes.{Cause, TrayRanOut, IsExplained, Explains, IsCauseAmong, NamesEof}
@@ -56,7 +60,7 @@ caused_more k b causes s w (inl h) = inl (explained_more s w causes b.met h)
 caused_more k b causes s w (inr h) = inr h
 
 -- what is done stays so
-pub done_more : (k : Make) (b : SessionView) (m : ClientView) (c : TransferState) (flight : List ℕ) (ending : Option Status) (causes : List Cause) (task : Task) → IsRightlyDone k b m task →
+pub done_more : (k : Make) (b : SessionView) (m : ClientView) (c : TransferState) (flight : List ℕ) (ending : Option Status) (causes : List Cause) (task : AbstractTask) → IsRightlyDone k b m task →
     IsRightlyDone k (record b { transfer = c; flight = flight; ending = ending; met = causes ++ b.met }) m task
 done_more k b m c flight ending causes List_ h = h
 done_more k b m c flight ending causes Show h = record { options = h.options; settled = h.settled; known = h.known; values = h.values }
@@ -76,7 +80,7 @@ without_as_many (x ∷ xs) [] ys e = absurd (omega arith)
 without_as_many (x ∷ xs) (z ∷ zs) ys e = without_as_many xs zs ys (omega arith)
 
 -- A RECORD IS SENT: the frame under way has its bytes from then on
-resent : (k : Make) (job : AbstractJob) (sent : Option Challenge) (starts : List Begin) (reports : List Report) (pages : List (List Frame)) (done more : List Frame) (f : Frame) (bytes : List ℕ) → length bytes ≡ length f.payload → (k.steady ≡ true → bytes ≡ f.payload) →
+resent : (k : Make) (job : AbstractJob) (sent : Option Challenge) (starts : List Begin) (reports : List AbstractReport) (pages : List (List Frame)) (done more : List Frame) (f : Frame) (bytes : List ℕ) → length bytes ≡ length f.payload → (k.steady ≡ true → bytes ≡ f.payload) →
     PageUnderWay k job sent starts reports pages done (f ∷ more) → PageUnderWay k job sent starts reports pages done (record f { payload = bytes } ∷ more)
 resent k job sent starts reports pages done more f bytes e same c =
     record {
@@ -217,8 +221,8 @@ never_ending i k b m dev Starting c (inr h) = cc (c, h.still.transfer)
 never_ending i k b m dev Shaping c h = cc (c, h.transfer)
 never_ending i k b m dev (Imaging params heard) c h = never_carries i k b dev h.continues.begin.options h.more heard h.rest c h.carries
 
-pub off_right : (i : ℕ) (k : Make) (b : SessionView) (m : ClientView) (dev : AbstractDevice) (st : JobStage) → b.transfer ≡ Ending → IsRight i k b m dev st → IsRight i k (session_at_end b GivenUp []) m dev st
+pub off_right : (i : ℕ) (k : Make) (b : SessionView) (m : ClientView) (dev : AbstractDevice) (st : JobStage) → b.transfer ≡ Ending → IsRight i k b m dev st → IsRight i k (session_at_end b Cancelled []) m dev st
 off_right i k b m dev Idle c h = h
 off_right i k b m dev (Running g) c h = absurd (never_ending i k b m dev g c h)
-off_right i k b m dev Done c h = done_more k b m Quiet b.flight (Some GivenUp) [] b.job.task h
+off_right i k b m dev Done c h = done_more k b m Quiet b.flight (Some Cancelled) [] b.job.task h
 off_right i k b m dev (Ended s w) c h = h

@@ -2,11 +2,16 @@
 use Rattle.std.proofs.Common.{◌≡◌, ◌∙◌, ◌≢◌, ◌≤◌, ◌+◌, ◌*◌, ◌-◌, ℕ, List, [], ◌∷◌, ◌++◌, Bool, true, false, Option, Some, None, refl, sym, subst, ap, inl, inr, length, length-append, ltb, arith}
 use Rattle.std.proofs.lemmas.Bool.{ltb-true}
 use Rattle.std.proofs.lemmas.List.{append-nil}
+use Rattle.scan_job.specs.declared.outcome.Why.{Why}
+use Rattle.scan_job.specs.declared.outcome.Why.TheVariants.{Lost, Memory, Cancelled}
+use Rattle.sane_fixed.specs.declared.status.Status.{Status}
+use Rattle.sane_fixed.specs.declared.status.Status.TheVariants.{Eof, IoError, NoMem}
+use Rattle.sane_fixed.specs.declared.status.Status.TheVariants as statuses
 use Rattle.page_picture.specs.Shows.{Frame}
 use Rattle.sane_fixed.specs.declared.params.Params.{Params}
-use Rattle.system_model.specs.AbstractMessages.{Status, Eof, IoError, Lost, NoMem, Memory, GivenUp, Cancelled, Challenge, AbstractRequest, AbstractReply, Why}
+use Rattle.system_model.specs.AbstractMessages.{Challenge, AbstractRequest, AbstractReply}
 use Rattle.system_model.specs.Devices.{Make, frame_overflows, frame_fills}
-use Rattle.system_model.specs.Client.{AbstractJob, Task, further_pages, ClientView, JobStage, Idle, Running, Done, Ended, AbstractProgress, Greeting, Imaging, request_awaited, requests_sent}
+use Rattle.system_model.specs.Client.{AbstractJob, AbstractTask, further_pages, ClientView, JobStage, Idle, Running, Done, Ended, AbstractProgress, Greeting, Imaging, request_awaited, requests_sent}
 use Rattle.system_model.specs.ClientReplies.{hear_in, hear_at, client_after_bytes, reads_on, finish_in, end_frame, close_frame, close_page, after_page, stage_after_stop}
 use Rattle.system_model.specs.AbstractDevices.{AbstractDevice, DeviceInvariant, ScanPhase, Resting, Reading, phase_after_frame, read_on, ended_phase, put_down, without_first, without_prefix}
 use Rattle.system_model.specs.Daemon.{TransferState, Quiet, Waiting, Streaming, Ending, FailureCounts}
@@ -210,15 +215,15 @@ reads_low i k p dev bytes left params heard st e h =
     subst (λ (z : JobStage). control_variant_of (reading p bytes left z) dev + 0 ≤ control_variant_at z p dev) (sym e) (omega arith)
 
 -- the number of a stage with these pages, where the end record was taken
-abbrev after_end : Task → ClientView → ℕ → ScanPhase → TransferState → ℕ
+abbrev after_end : AbstractTask → ClientView → ℕ → ScanPhase → TransferState → ℕ
 after_end task m n ph c = stage_variant m.stage n (further_pages task - length m.pages) ph c None
 
-page_low : (task : Task) (m : ClientView) (page : List Frame) (x : Bool) (n : ℕ) (c : TransferState) → ltb (length m.pages) (further_pages task) ≡ x →
+page_low : (task : AbstractTask) (m : ClientView) (page : List Frame) (x : Bool) (n : ℕ) (c : TransferState) → ltb (length m.pages) (further_pages task) ≡ x →
     stage_variant (after_page x) n (further_pages task - length (m.pages ++ page ∷ [])) Resting c None ≤ page_cost * (further_pages task - length m.pages)
 page_low task m page true n c e = let l = ltb-true (length m.pages) (further_pages task) e in let a = length-append m.pages (page ∷ []) in omega arith
 page_low task m page false n c e = omega arith
 
-close_low : (task : Task) (m : ClientView) (f last : Frame) (more : List Frame) (x : Bool) (n : ℕ) (c : TransferState) → x ≡ no_frame_left more → after_end task (close_page x task f m) n (phase_after_frame last more) c ≤ pages_variant (phase_after_frame last more) (further_pages task - length m.pages)
+close_low : (task : AbstractTask) (m : ClientView) (f last : Frame) (more : List Frame) (x : Bool) (n : ℕ) (c : TransferState) → x ≡ no_frame_left more → after_end task (close_page x task f m) n (phase_after_frame last more) c ≤ pages_variant (phase_after_frame last more) (further_pages task - length m.pages)
 close_low task m f last [] true n c e = page_low task m (m.frames ++ f ∷ []) (ltb (length m.pages) (further_pages task)) n c refl
 close_low task m f last [] false n c e = cc
 close_low task m f last (g ∷ more) true n c e = cc
@@ -294,4 +299,4 @@ paid i k listed p dev (Actions.Loses memory) u l y h = stop_low p.client.stage p
 paid i k listed p dev (Actions.LosesImage memory) u l y h = stop_low p.client.stage p (job_after_action i k listed p dev (Actions.LosesImage memory)) dev (device_after i k listed p dev (Actions.LosesImage memory)) IoError Lost u refl
 paid i k listed p dev (Actions.Breaks memory) u l y h = breaks_low i k p (job_after_action i k listed p dev (Actions.Breaks memory)) dev (device_after i k listed p dev (Actions.Breaks memory)) p.client.stage refl u l.0 refl refl h
 paid i k listed p dev Actions.RunsOutOfMemory u l y h = stop_low p.client.stage p (job_after_action i k listed p dev Actions.RunsOutOfMemory) dev (device_after i k listed p dev Actions.RunsOutOfMemory) NoMem Memory u refl
-paid i k listed p dev Actions.Stops u l y h = stop_low p.client.stage p (job_after_action i k listed p dev Actions.Stops) dev (device_after i k listed p dev Actions.Stops) GivenUp Cancelled u refl
+paid i k listed p dev Actions.Stops u l y h = stop_low p.client.stage p (job_after_action i k listed p dev Actions.Stops) dev (device_after i k listed p dev Actions.Stops) statuses.Cancelled Cancelled u refl

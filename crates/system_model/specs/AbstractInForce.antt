@@ -1,19 +1,19 @@
 -- The settings of a job in force: a fold over them from the default_options, and what it reports.
 use Rattle.std.specs.Prelude.{ℕ, ◌≡◌, ◌≢◌, ◌↔◌, List, [], ◌∷◌, ◌++◌, true, Option, Some, None}
 use Rattle.option_desc.specs.declared.value.Value.{Value}
-use Rattle.system_model.specs.AbstractMessages.{RequestedSetting, Report}
+use Rattle.system_model.specs.AbstractMessages.{RequestedSetting, AbstractReport}
 use Rattle.system_model.specs.Devices.{Make, OptionsInForce, AbstractAcceptedSet, default_options, descriptors_in_force}
 use Rattle.system_model.specs.Devices.{resolve_setting, accept_value, IsNearest, has_readable_value, readable_value}
 
 pub record SettingsResult : Type 0 where
   pub options : OptionsInForce
-  pub reports : List Report
+  pub reports : List AbstractReport
 
-abbrev pub report_of : RequestedSetting → Value → AbstractAcceptedSet → Report
+abbrev pub report_of : RequestedSetting → Value → AbstractAcceptedSet → AbstractReport
 report_of requested asked put = record { setting = requested; asked = asked; given = put.given; info = put.info }
 
 -- with these reports in front
-abbrev pub with_reports_before : List Report → Option SettingsResult → Option SettingsResult
+abbrev pub with_reports_before : List AbstractReport → Option SettingsResult → Option SettingsResult
 with_reports_before reports None = None
 with_reports_before reports (Some f) = Some (record { options = f.options; reports = reports ++ f.reports })
 
@@ -45,7 +45,7 @@ abstract_in_force make settings = abstract_force settings make (default_options 
 -- A report answers its setting: it has what the text reads as where these options are in force, the nearest admitted
 -- value, and INEXACT just where the two differ.
 pub record IsAnswered (make : Make) (options : OptionsInForce) (requested : RequestedSetting)
-    (report : Report) : Type 0 where
+    (report : AbstractReport) : Type 0 where
   pub number : ℕ
   pub is_setting : report.setting ≡ requested
   pub asked : resolve_setting (descriptors_in_force make options) requested ≡ Some (number, report.asked)
@@ -53,7 +53,7 @@ pub record IsAnswered (make : Make) (options : OptionsInForce) (requested : Requ
   pub inexact : (report.info.inexact ≡ true) ↔ (report.given ≢ report.asked)
 
 -- one report a setting, in order
-abbrev pub AreAnswered : Make → List RequestedSetting → List Report → Type 0
+abbrev pub AreAnswered : Make → List RequestedSetting → List AbstractReport → Type 0
 AreAnswered make [] [] = Unit {0}
 AreAnswered make [] (report ∷ reports) = ⊥
 AreAnswered make (requested ∷ requested_settings) [] = ⊥

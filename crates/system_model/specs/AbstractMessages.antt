@@ -1,36 +1,10 @@
 -- The words that clients and daemon speak of: settings, answers, requests and replies, without their bytes.
 use Rattle.sane_fixed.specs.declared.byte_order.ByteOrder.{ByteOrder as Order}
 use Rattle.sane_fixed.specs.declared.params.Params.{Params}
+use Rattle.sane_fixed.specs.declared.status.Status.{Status}
 use Rattle.option_desc.specs.declared.descriptor.Descriptor.{Descriptor}
 use Rattle.option_desc.specs.declared.value.Value.{Value}
 use Rattle.std.specs.Prelude.{ℕ, List, [], ◌∷◌, Bool, true, false, if◌then◌else◌, ◌==◌}
-
--- the statuses of the standard
-pub data Status : Type 0 where
-  Good : Status
-  Unsupported : Status
-  GivenUp : Status
-  Busy : Status
-  Inval : Status
-  Eof : Status
-  Jammed : Status
-  NoDocs : Status
-  CoverOpen : Status
-  IoError : Status
-  NoMem : Status
-  AccessDenied : Status
-
--- why a job ended
-pub data Why : Type 0 where
-  Answer : Why
-  Cancelled : Why
-  Lost : Why
-  Malformed : Why
-  Short : Why
-  Long : Why
-  Setting : Why
-  Plain : Why
-  Memory : Why
 
 -- whether two texts are equal
 abbrev pub same_text : List ℕ → List ℕ → Bool
@@ -48,19 +22,19 @@ pub record RequestedSetting : Type 0 where
   pub name : List ℕ
   pub text : List ℕ
 
-pub record Info : Type 0 where
+pub record AbstractInfo : Type 0 where
   pub inexact : Bool
   pub reload_options : Bool
   pub reload_params : Bool
 
 -- what became of a setting
-pub record Report : Type 0 where
+pub record AbstractReport : Type 0 where
   pub setting : RequestedSetting
   pub asked : Value
   pub given : Value
-  pub info : Info
+  pub info : AbstractInfo
 
--- **words (`AbstractRequest`, `AbstractReply`, `Status`, `Why`, `Report`)**: what clients and daemon say to each other:
+-- **words (`AbstractRequest`, `AbstractReply`, `AbstractReport`)**: what clients and daemon say to each other:
 -- an answer, not its spelling.
 --
 -- the requests of the client's rules; those about a device are about the one that the session opened
@@ -87,7 +61,7 @@ pub data AbstractReply : Type 0 where
   Challenged : (challenge : Challenge) → AbstractReply
   Described : (descriptors : List Descriptor) → AbstractReply
   Got : (value : Value) → AbstractReply
-  Gave : (value : Value) → (info : Info) → AbstractReply
+  Gave : (value : Value) → (info : AbstractInfo) → AbstractReply
   Shaped : (params : Params) → AbstractReply
   Begun : (order : Order) → AbstractReply
   Acked : AbstractReply

@@ -1,7 +1,8 @@
 -- The daemon's rules in full, for a session with four device words: what the model for one device leaves out.
 use Rattle.std.specs.Prelude.{◌≤◌, ℕ, ◌≡◌, ◌≢◌, ◌⊎◌, List, [], ◌∷◌, Bool, true, false, Option, Some, None, option_map}
 use Rattle.std.specs.Prelude.{if◌then◌else◌, ◌==◌}
-use Rattle.system_model.specs.AbstractMessages.{same_text, Unsupported, Inval, Challenge, AbstractRequest, Init}
+use Rattle.sane_fixed.specs.declared.status.Status.TheVariants.{Unsupported, Inval}
+use Rattle.system_model.specs.AbstractMessages.{same_text, Challenge, AbstractRequest, Init}
 use Rattle.system_model.specs.AbstractMessages.{GetDevices, Open, Authorize, Describe, Cancel, Close, Exit}
 use Rattle.system_model.specs.AbstractMessages.{AbstractReply, Greeted, Listed, Described, Acked, Refused}
 use Rattle.system_model.specs.Devices.{Make}

@@ -1,7 +1,10 @@
 -- What happens, as far as messages tell. All that chance decides is in a step's arguments, so that what stands after it
 -- is a function.
 use Rattle.std.specs.Prelude.{ℕ, List, [], ◌∷◌, ◌++◌, Bool, true, false, Option, Some, None, if◌then◌else◌}
-use Rattle.system_model.specs.AbstractMessages.{Status, GivenUp, IoError, NoMem, Eof, Cancelled, Lost, Memory}
+use Rattle.scan_job.specs.declared.outcome.Why.TheVariants.{Cancelled, Lost, Memory}
+use Rattle.sane_fixed.specs.declared.status.Status.{Status}
+use Rattle.sane_fixed.specs.declared.status.Status.TheVariants.{Eof, IoError, NoMem}
+use Rattle.sane_fixed.specs.declared.status.Status.TheVariants as statuses
 use Rattle.system_model.specs.AbstractMessages.{Challenge, AbstractRequest, Init, AbstractReply}
 use Rattle.system_model.specs.Devices.{Make}
 use Rattle.system_model.specs.Client.{ClientView, with_progress, Greeting, requests_sent, abstract_farewell}
@@ -173,7 +176,7 @@ job_after_action i k listed p dev TurnsLast = turned_last p Eof []
 job_after_action i k listed p dev (TurnsNamed status) = turned_last p status (Names status ∷ [])
 job_after_action i k listed p dev TurnsShort = turned_last p Eof (NamesEof ∷ [])
 job_after_action i k listed p dev (TurnsFault fault) = turned_last p IoError (SourceFailed ∷ [])
-job_after_action i k listed p dev TurnsOff = turned_last p GivenUp []
+job_after_action i k listed p dev TurnsOff = turned_last p statuses.Cancelled []
 job_after_action i k listed p dev (Reads bytes) =
     record p {
       client = client_after_bytes p.client.stage p.client bytes;
@@ -205,7 +208,7 @@ job_after_action i k listed p dev RunsOutOfMemory =
     record p { client = client_after_stop NoMem Memory p.client; session = with_cause p.session ClientOutOfMemory }
 job_after_action i k listed p dev Stops =
     record p {
-      client = client_after_stop GivenUp Cancelled p.client;
+      client = client_after_stop statuses.Cancelled Cancelled p.client;
       todo =
           p.todo ++ abstract_farewell p.client.stage;
       session = with_cause p.session GaveUp;

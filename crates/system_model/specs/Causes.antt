@@ -1,7 +1,11 @@
 -- What explains that a job ended with a status and a why.
 use Rattle.std.specs.Prelude.{◌≡◌, ◌≢◌, ◌⊎◌, List, [], ◌∷◌}
-use Rattle.system_model.specs.AbstractMessages.{Status, GivenUp, Busy, Inval, Eof, NoDocs, IoError, NoMem, AccessDenied}
-use Rattle.system_model.specs.AbstractMessages.{Why, Answer, Cancelled, Lost, Short, Setting, Memory}
+use Rattle.scan_job.specs.declared.outcome.Why.{Why}
+use Rattle.scan_job.specs.declared.outcome.Why.TheVariants.{Answer, Cancelled, Lost, Short, Setting, Memory}
+use Rattle.sane_fixed.specs.declared.status.Status.{Status}
+use Rattle.sane_fixed.specs.declared.status.Status.TheVariants.{DeviceBusy, Inval, Eof, NoDocs, IoError, NoMem}
+use Rattle.sane_fixed.specs.declared.status.Status.TheVariants.{AccessDenied}
+use Rattle.sane_fixed.specs.declared.status.Status.TheVariants as statuses
 
 -- **causes (`Cause`, `Explains`, `HaveGrounds`)**: why a job may end: the table of statuses and whys, and what a cause
 -- means where a request is answered.
@@ -33,7 +37,7 @@ pub data Cause : Type 0 where
 
 -- the table of causes
 abbrev pub Explains : Cause → Status → Why → Type 0
-Explains GaveUp s w = (s ≡ GivenUp) × (w ≡ Cancelled)
+Explains GaveUp s w = (s ≡ statuses.Cancelled) × (w ≡ Cancelled)
 Explains LinkLost s w = (s ≡ IoError) × (w ≡ Lost)
 Explains LinkOutOfMemory s w = (s ≡ IoError) × (w ≡ Lost)
 Explains WasUnsaid s w = ⊥
@@ -43,7 +47,7 @@ Explains (Names status) s w = (s ≡ status) × (status ≢ Eof) × (w ≡ Answe
 Explains Unforced s w = (s ≡ Inval) × ((w ≡ Setting) ⊎ (w ≡ Answer))
 Explains WasUnlisted s w = (s ≡ Inval) × (w ≡ Answer)
 Explains HadNoPicture s w = (s ≡ Inval) × (w ≡ Answer)
-Explains WasHeld s w = (s ≡ Busy) × (w ≡ Answer)
+Explains WasHeld s w = (s ≡ DeviceBusy) × (w ≡ Answer)
 Explains Disallowed s w = (s ≡ AccessDenied) × (w ≡ Answer)
 Explains TrayWasEmpty s w = (s ≡ NoDocs) × (w ≡ Answer)
 Explains TrayRanOut s w = ⊥

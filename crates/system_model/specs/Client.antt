@@ -1,4 +1,8 @@
 -- The client's rules: what it asks for, and what it is to be told next.
+use Rattle.scan_job.specs.declared.outcome.Why.{Why}
+use Rattle.scan_job.specs.declared.outcome.Why.TheVariants.{Setting, Malformed}
+use Rattle.sane_fixed.specs.declared.status.Status.{Status}
+use Rattle.sane_fixed.specs.declared.status.Status.TheVariants.{Inval, IoError}
 use Rattle.sane_fixed.specs.declared.byte_order.ByteOrder.TheVariants.{Little}
 use Rattle.std.specs.Prelude.{ℕ, List, [], ◌∷◌, Bool, true, false, Option, Some, None}
 use Rattle.option_desc.specs.declared.value.Value.{Value}
@@ -6,24 +10,24 @@ use Rattle.sane_fixed.specs.declared.byte_order.ByteOrder.{ByteOrder as Order}
 use Rattle.sane_fixed.specs.declared.params.Params.{Params}
 use Rattle.page_picture.specs.Shows.{Frame}
 use Rattle.option_desc.specs.declared.descriptor.Descriptor.{Descriptor}
-use Rattle.system_model.specs.AbstractMessages.{Status, Inval, Why, Setting, IoError, Malformed, RequestedSetting}
-use Rattle.system_model.specs.AbstractMessages.{Challenge, Report, AbstractRequest, Init, GetDevices, Open, Authorize}
-use Rattle.system_model.specs.AbstractMessages.{Describe, Get, Set, Parameters, Start, Cancel, Close, Exit}
+use Rattle.system_model.specs.AbstractMessages.{RequestedSetting}
+use Rattle.system_model.specs.AbstractMessages.{Challenge, AbstractReport, AbstractRequest, Init, GetDevices, Open}
+use Rattle.system_model.specs.AbstractMessages.{Authorize, Describe, Get, Set, Parameters, Start, Cancel, Close, Exit}
 use Rattle.system_model.specs.Devices.{resolve_setting, readable_options}
 
--- **client (`Task`, `AbstractJob`, `AbstractProgress`, `ClientView`), hearing (`hear_at`, `client_after_bytes`,
+-- **client (`AbstractTask`, `AbstractJob`, `AbstractProgress`, `ClientView`), hearing (`hear_at`, `client_after_bytes`,
 -- `end_frame`)**: what a client is to do, what it waits for, what it knows; what it makes of a reply, of bytes, of a
 -- frame's end.
-pub data Task : Type 0 where
-  List_ : Task
-  Show : Task
-  SetOnly : Task
-  Scan : Task
+pub data AbstractTask : Type 0 where
+  List_ : AbstractTask
+  Show : AbstractTask
+  SetOnly : AbstractTask
+  Scan : AbstractTask
   -- a first page, and so many after it
-  Batch : (further_pages : ℕ) → Task
+  Batch : (further_pages : ℕ) → AbstractTask
 
 -- how many pages may come after the first
-abbrev pub further_pages : Task → ℕ
+abbrev pub further_pages : AbstractTask → ℕ
 further_pages List_ = 0
 further_pages Show = 0
 further_pages SetOnly = 0
@@ -38,7 +42,7 @@ pub record AbstractJob : Type 0 where
   pub guarded : Bool
   pub allows : Challenge → Bool
   pub settings : List RequestedSetting
-  pub task : Task
+  pub task : AbstractTask
 
 -- what a running client waits for; each says what is still to come
 pub data AbstractProgress : Type 0 where
@@ -68,7 +72,7 @@ pub data JobStage : Type 0 where
 -- what a client knows
 pub record ClientView : Type 0 where
   pub stage : JobStage
-  pub reports : List Report
+  pub reports : List AbstractReport
   pub devices : List ℕ
   pub known : List Descriptor
   pub values : List Value
@@ -115,7 +119,7 @@ request_awaited Shaping = Parameters ∷ []
 request_awaited (Imaging params heard) = []
 
 -- what is sent at the end of a job that is done
-abbrev pub abstract_goodbye : Task → List AbstractRequest
+abbrev pub abstract_goodbye : AbstractTask → List AbstractRequest
 abstract_goodbye List_ = Exit ∷ []
 abstract_goodbye Show = Close ∷ Exit ∷ []
 abstract_goodbye SetOnly = Close ∷ Exit ∷ []
@@ -123,7 +127,7 @@ abstract_goodbye Scan = Close ∷ Exit ∷ []
 abstract_goodbye (Batch n) = Close ∷ Exit ∷ []
 
 -- what a client that comes into this stage asks for
-abbrev pub requests_sent : Task → JobStage → List AbstractRequest
+abbrev pub requests_sent : AbstractTask → JobStage → List AbstractRequest
 requests_sent task Idle = []
 requests_sent task (Running progress) = request_awaited progress
 requests_sent task Done = abstract_goodbye task
@@ -145,7 +149,7 @@ abstract_farewell (Running (Imaging params heard)) = Cancel ∷ Exit ∷ []
 abstract_farewell Done = []
 abstract_farewell (Ended status why) = []
 
-abbrev pub progress_after_init : Task → AbstractProgress
+abbrev pub progress_after_init : AbstractTask → AbstractProgress
 progress_after_init List_ = Listing
 progress_after_init Show = Opening
 progress_after_init SetOnly = Opening
@@ -157,7 +161,7 @@ abbrev pub next_value : List ℕ → JobStage
 next_value [] = Done
 next_value (n ∷ left) = Running (Getting n left)
 
-abbrev pub stage_after_settings : Task → List Descriptor → JobStage
+abbrev pub stage_after_settings : AbstractTask → List Descriptor → JobStage
 stage_after_settings List_ known = Done
 stage_after_settings Show known = next_value (readable_options known)
 stage_after_settings SetOnly known = Done
@@ -169,10 +173,10 @@ asks_setting requested left None = Ended Inval Setting
 asks_setting requested left (Some (n, value)) = Running (Putting n value requested left)
 
 -- the next of these settings, by these descriptors
-abbrev pub stage_of_next_setting : Task → List Descriptor → List RequestedSetting → JobStage
+abbrev pub stage_of_next_setting : AbstractTask → List Descriptor → List RequestedSetting → JobStage
 stage_of_next_setting task known [] = stage_after_settings task known
 stage_of_next_setting task known (requested ∷ left) = asks_setting requested left (resolve_setting known requested)
 
-abbrev pub stage_after_put : Task → List Descriptor → List RequestedSetting → Bool → JobStage
+abbrev pub stage_after_put : AbstractTask → List Descriptor → List RequestedSetting → Bool → JobStage
 stage_after_put task known left true = Running (Describing left)
 stage_after_put task known left false = stage_of_next_setting task known left

@@ -1,13 +1,18 @@
 -- The client's rules: what it makes of a reply, and of the data of a frame.
 use Rattle.std.specs.Prelude.{ℕ, List, [], ◌∷◌, ◌++◌, Bool, true, false, length, ltb}
+use Rattle.scan_job.specs.declared.outcome.Why.{Why}
+use Rattle.scan_job.specs.declared.outcome.Why.TheVariants.{Answer, Malformed, Short, Long}
+use Rattle.sane_fixed.specs.declared.status.Status.{Status}
+use Rattle.sane_fixed.specs.declared.status.Status.TheVariants.{Good, Unsupported, Cancelled, DeviceBusy, Inval, Eof}
+use Rattle.sane_fixed.specs.declared.status.Status.TheVariants.{Jammed, NoDocs, CoverOpen, IoError, NoMem}
+use Rattle.sane_fixed.specs.declared.status.Status.TheVariants.{AccessDenied}
 use Rattle.sane_fixed.specs.declared.params.Params.{Params}
 use Rattle.page_picture.specs.Shows.{Frame}
-use Rattle.system_model.specs.AbstractMessages.{Status, Good, Unsupported, GivenUp, Busy, Inval, Eof, Jammed, NoDocs}
-use Rattle.system_model.specs.AbstractMessages.{CoverOpen, IoError, NoMem, AccessDenied, Why, Answer, Malformed, Short}
-use Rattle.system_model.specs.AbstractMessages.{Long, AbstractReply, Greeted, Listed, Opened, Challenged, Described}
+use Rattle.system_model.specs.AbstractMessages.{AbstractReply, Greeted, Listed, Opened, Challenged, Described}
 use Rattle.system_model.specs.AbstractMessages.{Got, Gave, Shaped, Begun, Refused}
 use Rattle.system_model.specs.Devices.{accepts, frame_overflows, frame_fills}
-use Rattle.system_model.specs.Client.{AbstractJob, Task, further_pages, AbstractProgress, Greeting, Listing, Opening}
+use Rattle.system_model.specs.Client.{AbstractJob, AbstractTask, further_pages, AbstractProgress, Greeting, Listing}
+use Rattle.system_model.specs.Client.{Opening}
 use Rattle.system_model.specs.Client.{Allowing, Describing, Putting, Getting, Starting, Shaping, Imaging, JobStage}
 use Rattle.system_model.specs.Client.{Idle, Running, Done, Ended, ClientView, with_ending, with_progress}
 use Rattle.system_model.specs.Client.{with_malformed, progress_after_init, stage_of_next_setting, stage_after_put}
@@ -66,7 +71,7 @@ abbrev pub after_page : Bool → JobStage
 after_page true = Running Starting
 after_page false = Done
 
-abbrev pub close_page : Bool → Task → Frame → ClientView → ClientView
+abbrev pub close_page : Bool → AbstractTask → Frame → ClientView → ClientView
 close_page true task frame m =
     record m {
       stage = after_page (ltb (length m.pages) (further_pages task));
@@ -77,17 +82,17 @@ close_page true task frame m =
 close_page false task frame m = record m { stage = Running Starting; frames = m.frames ++ frame ∷ [] }
 
 -- the end of a frame: it is whole, or too short
-abbrev pub close_frame : Bool → Task → Params → List ℕ → ClientView → ClientView
+abbrev pub close_frame : Bool → AbstractTask → Params → List ℕ → ClientView → ClientView
 close_frame true task params heard m =
     close_page params.last_frame task (record { params = params; order = m.order; payload = heard }) m
 close_frame false task params heard m = with_ending IoError Short m
 
-abbrev pub end_frame : Status → Task → Params → List ℕ → ClientView → ClientView
+abbrev pub end_frame : Status → AbstractTask → Params → List ℕ → ClientView → ClientView
 end_frame Eof task params heard m = close_frame (frame_fills params heard) task params heard m
 end_frame Good task params heard m = with_malformed m
 end_frame Unsupported task params heard m = with_ending Unsupported Answer m
-end_frame GivenUp task params heard m = with_ending GivenUp Answer m
-end_frame Busy task params heard m = with_ending Busy Answer m
+end_frame Cancelled task params heard m = with_ending Cancelled Answer m
+end_frame DeviceBusy task params heard m = with_ending DeviceBusy Answer m
 end_frame Inval task params heard m = with_ending Inval Answer m
 end_frame Jammed task params heard m = with_ending Jammed Answer m
 end_frame NoDocs task params heard m = with_ending NoDocs Answer m
@@ -96,7 +101,7 @@ end_frame IoError task params heard m = with_ending IoError Answer m
 end_frame NoMem task params heard m = with_ending NoMem Answer m
 end_frame AccessDenied task params heard m = with_ending AccessDenied Answer m
 
-abbrev pub finish_in : JobStage → Task → ClientView → Status → ClientView
+abbrev pub finish_in : JobStage → AbstractTask → ClientView → Status → ClientView
 finish_in (Running (Imaging params heard)) task m status = end_frame status task params heard m
 finish_in stage task m status = m
 

@@ -1,9 +1,10 @@
 -- The daemon's rules, for a session that opens one device: what it answers, and what that does.
 use Rattle.std.specs.Prelude.{ℕ, List, [], ◌∷◌, Bool, true, false, Option, Some, None, ◌==◌}
+use Rattle.sane_fixed.specs.declared.status.Status.TheVariants.{DeviceBusy, Inval, NoDocs, IoError, AccessDenied}
 use Rattle.option_desc.specs.declared.value.Value.{Value}
 use Rattle.sane_fixed.specs.declared.params.Params.{Params}
 use Rattle.page_picture.specs.Shows.{Frame}
-use Rattle.system_model.specs.AbstractMessages.{same_text, Busy, Inval, NoDocs, IoError, AccessDenied, Challenge}
+use Rattle.system_model.specs.AbstractMessages.{same_text, Challenge}
 use Rattle.system_model.specs.AbstractMessages.{AbstractRequest, Init, GetDevices, Open, Authorize, Describe, Get, Set}
 use Rattle.system_model.specs.AbstractMessages.{Parameters, Start, Cancel, Close, Exit, AbstractReply, Greeted, Listed}
 use Rattle.system_model.specs.AbstractMessages.{Opened, Challenged, Described, Got, Gave, Shaped, Begun, Acked, Refused}
@@ -95,7 +96,7 @@ held_cause false = WasHeld ∷ []
 abbrev pub hand_out_device : ℕ → Make → AbstractDevice → TransferState → Option ℕ → AnswerEffect
 hand_out_device i k dev c None =
     reply_effect Opened (record dev { holder = Some i; options = default_options k; phase = Resting }) c
-hand_out_device i k dev c (Some j) = record (reply_effect (Refused Busy) dev c) { causes = held_cause (j == i) }
+hand_out_device i k dev c (Some j) = record (reply_effect (Refused DeviceBusy) dev c) { causes = held_cause (j == i) }
 
 abbrev pub take_listed : ℕ → Make → AbstractDevice → TransferState → Bool → AnswerEffect
 take_listed i k dev c false = record (reply_effect (Refused Inval) dev c) { causes = WasUnlisted ∷ [] }
@@ -126,7 +127,7 @@ put_reply dev c (Some put) = reply_effect (Gave put.given put.info) (record dev 
 
 abbrev pub set_reply : Make → AbstractDevice → TransferState → ℕ → Value → Bool → AnswerEffect
 set_reply k dev c n value true = put_reply dev c (accept_value k dev.options n value)
-set_reply k dev c n value false = reply_effect (Refused Busy) dev c
+set_reply k dev c n value false = reply_effect (Refused DeviceBusy) dev c
 
 abbrev pub abstract_params : Make → AbstractDevice → ScanPhase → Params
 abstract_params k dev Resting = params_at_rest k dev.options dev.tray
@@ -159,7 +160,7 @@ start_page k dev c again (page ∷ tray) = begin_page k dev c page (picture_fram
 abbrev pub start_at : Make → AbstractDevice → TransferState → Bool → ScanPhase → AnswerEffect
 start_at k dev c again Resting = start_page k dev c again dev.tray
 start_at k dev c again (Between last more) = begin_pass k dev c more
-start_at k dev c again (Reading frame rest more) = reply_effect (Refused Busy) dev c
+start_at k dev c again (Reading frame rest more) = reply_effect (Refused DeviceBusy) dev c
 
 -- the source fails at a start, and the device is at rest; its tray is as it was
 abbrev pub start_or_fail : Make → AbstractDevice → TransferState → Bool → Option FailureCounts → AnswerEffect
@@ -169,9 +170,9 @@ start_or_fail k dev c again (Some fault) =
 
 abbrev pub start_effect : Make → AbstractDevice → Environment → TransferState → AnswerEffect
 start_effect k dev x Quiet = start_or_fail k dev Quiet x.again x.fault
-start_effect k dev x Waiting = reply_effect (Refused Busy) dev Waiting
-start_effect k dev x Streaming = reply_effect (Refused Busy) dev Streaming
-start_effect k dev x Ending = reply_effect (Refused Busy) dev Ending
+start_effect k dev x Waiting = reply_effect (Refused DeviceBusy) dev Waiting
+start_effect k dev x Streaming = reply_effect (Refused DeviceBusy) dev Streaming
+start_effect k dev x Ending = reply_effect (Refused DeviceBusy) dev Ending
 
 abbrev pub cancelled_transfer : TransferState → TransferState
 cancelled_transfer Quiet = Quiet

@@ -8,8 +8,7 @@ use Rattle.sane_fixed.specs.declared.info.Info.{Info as Bits}
 use Rattle.sane_fixed.specs.declared.kind.Kind.{Kind}
 use Rattle.sane_fixed.specs.declared.kind.Kind.TheVariants as kind
 use Rattle.sane_fixed.specs.declared.params.Params.{Params}
-use Rattle.sane_fixed.specs.declared.status.Status.{Status as Code}
-use Rattle.sane_fixed.specs.declared.status.Status.TheVariants as code
+use Rattle.sane_fixed.specs.declared.status.Status.{Status}
 use Rattle.option_desc.specs.declared.descriptor.Descriptor.{Descriptor}
 use Rattle.option_desc.specs.declared.value.Value.{Value}
 use Rattle.option_desc.specs.declared.value.Value.TheVariants as value
@@ -29,8 +28,7 @@ use Rattle.frame_join.specs.FrameHistory.{is_accepted}
 use Rattle.scan_laws.specs.NearestSet.{GivesNearest}
 use Rattle.scan_laws.specs.SetAndJoin as rules
 use Rattle.scan_laws.specs.SetInfo.{has_bit}
-use Rattle.system_model.specs.AbstractMessages.{Status, Good, Unsupported, GivenUp, Busy, Inval, Eof, Jammed, NoDocs}
-use Rattle.system_model.specs.AbstractMessages.{CoverOpen, IoError, NoMem, AccessDenied, RequestedSetting, Info}
+use Rattle.system_model.specs.AbstractMessages.{RequestedSetting, AbstractInfo}
 
 -- what never changes of a device
 pub record Make : Type 0 where
@@ -40,20 +38,6 @@ pub record Make : Type 0 where
   pub fallible : Bool
   -- whether each of them gives its page's rows at each pass
   pub steady : Bool
-
-abbrev pub abstract_status : Code → Status
-abstract_status code.Good = Good
-abstract_status code.Unsupported = Unsupported
-abstract_status code.Cancelled = GivenUp
-abstract_status code.DeviceBusy = Busy
-abstract_status code.Inval = Inval
-abstract_status code.Eof = Eof
-abstract_status code.Jammed = Jammed
-abstract_status code.NoDocs = NoDocs
-abstract_status code.CoverOpen = CoverOpen
-abstract_status code.IoError = IoError
-abstract_status code.NoMem = NoMem
-abstract_status code.AccessDenied = AccessDenied
 
 -- the values in force
 abbrev pub OptionsInForce : Type 0
@@ -70,7 +54,7 @@ IsPageShaped page_view = page.IsShaped page_view
 -- an accepted setting
 pub record AbstractAcceptedSet : Type 0 where
   pub given : Value
-  pub info : Info
+  pub info : AbstractInfo
   pub options : OptionsInForce
 
 unfoldable pub default_options : Make → OptionsInForce
@@ -88,7 +72,7 @@ resolve_setting descriptors requested = do
   asked ← read_value desc requested.text
   Some (n, asked)
 
-abbrev pub abstract_info : Bits → Info
+abbrev pub abstract_info : Bits → AbstractInfo
 abstract_info bits =
     record { inexact = has_bit bits 1; reload_options = has_bit bits 2; reload_params = has_bit bits 4 }
 
@@ -127,11 +111,11 @@ readable_from n (d ∷ ds) = if is_readable d then n ∷ readable_from (n + 1) d
 unfoldable pub readable_options : List Descriptor → List ℕ
 readable_options descriptors = readable_from 0 descriptors
 
-abbrev pub is_answered_value : Result Value Code → Bool
+abbrev pub is_answered_value : Result Value Status → Bool
 is_answered_value (Ok _) = true
 is_answered_value (Err _) = false
 
-abbrev pub value_or_false : Result Value Code → Value
+abbrev pub value_or_false : Result Value Status → Value
 value_or_false (Ok v) = v
 value_or_false (Err _) = value.Flag false
 
@@ -153,7 +137,7 @@ picture_frames make options page_view = rules.frames_given options page_view
 
 -- the status that the first read of a frame answers in place of bytes
 unfoldable pub read_status_of : Make → OptionsInForce → Option Status
-read_status_of make options = option_map abstract_status options.told
+read_status_of make options = options.told
 
 abbrev pub params_of_tray : OptionsInForce → List Page → Params
 params_of_tray options [] = params_without options 0

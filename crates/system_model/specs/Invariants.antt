@@ -1,10 +1,12 @@
 -- What is always so: of each job, of its finished pages, and of each device.
 use Rattle.std.specs.Prelude.{ℕ, ◌≡◌, ◌≢◌, ◌≤◌, ◌⊎◌, List, [], ◌∷◌, ◌++◌, true, false, length, suc, Some, None}
-use Rattle.system_model.specs.AbstractMessages.{Status, Why, AbstractReply}
+use Rattle.scan_job.specs.declared.outcome.Why.{Why}
+use Rattle.sane_fixed.specs.declared.status.Status.{Status}
+use Rattle.system_model.specs.AbstractMessages.{AbstractReply}
 use Rattle.system_model.specs.Devices.{Make, OptionsInForce, descriptors_in_force, readable_options}
 use Rattle.system_model.specs.AbstractInForce.{abstract_in_force, values_of}
-use Rattle.system_model.specs.Client.{Task, List_, Show, SetOnly, Scan, Batch, ClientView, JobStage, Idle, Running}
-use Rattle.system_model.specs.Client.{Done, Ended, AbstractProgress, request_awaited}
+use Rattle.system_model.specs.Client.{AbstractTask, List_, Show, SetOnly, Scan, Batch, ClientView, JobStage, Idle}
+use Rattle.system_model.specs.Client.{Running, Done, Ended, AbstractProgress, request_awaited}
 use Rattle.system_model.specs.ClientReplies.{hear_at}
 use Rattle.system_model.specs.AbstractDevices.{AbstractDevice, Begin, DeviceInvariant}
 use Rattle.system_model.specs.Daemon.{TransferState, Quiet, Waiting, Streaming, Ending}
@@ -30,7 +32,7 @@ pub record ShowIsRight (k : Make) (b : SessionView) (m : ClientView) : Type 0 wh
   pub values : m.values ≡ values_of k options (readable_options (descriptors_in_force k options))
 
 -- a job that is done kept its promise
-abbrev pub IsRightlyDone : Make → SessionView → ClientView → Task → Type 0
+abbrev pub IsRightlyDone : Make → SessionView → ClientView → AbstractTask → Type 0
 IsRightlyDone k b m List_ = b.shown ≡ Some m.devices
 IsRightlyDone k b m Show = ShowIsRight k b m
 IsRightlyDone k b m SetOnly = (options : OptionsInForce) × AllInForce k b.job b.sent m.reports options

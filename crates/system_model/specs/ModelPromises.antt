@@ -1,8 +1,10 @@
 -- The promises, each a statement about all that may stand or come.
 use Rattle.std.specs.Prelude.{true, false, ℕ, ◌+◌, ◌<◌, ◌^◌, ◌≡◌, ◌≢◌, ◌≤◌, ◌⊎◌, suc, List, [], ◌∷◌, ◌++◌, Option, Some}
 use Rattle.std.specs.Prelude.{None, length}
+use Rattle.scan_job.specs.declared.outcome.Why.{Why}
+use Rattle.sane_fixed.specs.declared.status.Status.{Status}
 use Rattle.page_picture.specs.Shows.{Frame}
-use Rattle.system_model.specs.AbstractMessages.{Challenge, AbstractRequest, Status, Why}
+use Rattle.system_model.specs.AbstractMessages.{Challenge, AbstractRequest}
 use Rattle.system_model.specs.Devices.{Make, OptionsInForce, descriptors_in_force, readable_options}
 use Rattle.system_model.specs.AbstractInForce.{AreAnswered, values_of}
 use Rattle.system_model.specs.Client.{AbstractJob, further_pages, List_, Show, Scan, Batch, Done, Ended}

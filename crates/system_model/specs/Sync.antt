@@ -1,18 +1,22 @@
 -- What is so while a job runs: for each thing that its client may wait for, what client, daemon and device have in
 -- common.
 use Rattle.std.specs.Prelude.{ℕ, ◌≡◌, ◌≢◌, ◌≤◌, ◌⊎◌, List, [], ◌∷◌, ◌++◌, true, false, Option, Some, None, length}
+use Rattle.scan_job.specs.declared.outcome.Why.TheVariants.{Answer, Short}
+use Rattle.sane_fixed.specs.declared.status.Status.{Status}
+use Rattle.sane_fixed.specs.declared.status.Status.TheVariants.{Good, Eof, IoError}
 use Rattle.option_desc.specs.declared.value.Value.{Value}
 use Rattle.sane_fixed.specs.declared.byte_order.ByteOrder.{ByteOrder as Order}
 use Rattle.sane_fixed.specs.declared.params.Params.{Params}
 use Rattle.page_picture.specs.Shows.{Frame}
-use Rattle.system_model.specs.AbstractMessages.{Report, Status, Good, Eof, IoError, Answer, Short, RequestedSetting}
+use Rattle.system_model.specs.AbstractMessages.{AbstractReport, RequestedSetting}
 use Rattle.system_model.specs.AbstractMessages.{Challenge}
 use Rattle.system_model.specs.Devices.{Make, OptionsInForce, read_status_of, resolve_setting, descriptors_in_force}
 use Rattle.system_model.specs.Devices.{readable_options, order_of, picture_frames, accepts, frame_overflows}
 use Rattle.system_model.specs.Devices.{frame_fills}
 use Rattle.system_model.specs.AbstractInForce.{abstract_in_force, abstract_force, with_reports_before, values_of}
 use Rattle.system_model.specs.AbstractInForce.{AreReadable}
-use Rattle.system_model.specs.Client.{AbstractJob, Task, List_, Show, SetOnly, Scan, Batch, further_pages, ClientView}
+use Rattle.system_model.specs.Client.{AbstractJob, AbstractTask, List_, Show, SetOnly, Scan, Batch, further_pages}
+use Rattle.system_model.specs.Client.{ClientView}
 use Rattle.system_model.specs.Client.{AbstractProgress, Greeting, Listing, Opening, Allowing, Describing, Putting}
 use Rattle.system_model.specs.Client.{Getting, Starting, Shaping, Imaging}
 use Rattle.system_model.specs.AbstractDevices.{AbstractDevice, Begin, ScanPhase, Resting, Between, Reading}
@@ -34,7 +38,7 @@ AreJoinable order done (f ∷ more) =
     × (f.order ≡ order)
     × AreJoinable order (done ++ f ∷ []) more
 
-abbrev pub Scans : Task → Type 0
+abbrev pub Scans : AbstractTask → Type 0
 Scans List_ = ⊥
 Scans Show = ⊥
 Scans SetOnly = ⊥
@@ -52,7 +56,7 @@ IsPermitted job sent = (job.guarded ≡ false) ⊎ ((c : Challenge) × (sent ≡
 -- mean on the page of this start.
 abbrev pub IsPictureOfStart : Make → List RequestedSetting → Begin → List Frame → Type 0
 IsPictureOfStart k settings begin frames =
-    ((reports : List Report)
+    ((reports : List AbstractReport)
     × (abstract_in_force k settings ≡ Some (record { options = begin.options; reports = reports })))
     × (k.steady ≡ true → frames ≡ picture_frames k begin.options begin.page) × (frames ≢ [])
 
@@ -114,7 +118,7 @@ pub record IsPutting (i : ℕ) (k : Make) (b : SessionView) (m : ClientView) (de
   pub resolved : resolve_setting m.known requested ≡ Some (n, value)
 
 -- all settings are in force, and the device may be opened
-pub record AllInForce (k : Make) (job : AbstractJob) (sent : Option Challenge) (reports : List Report)
+pub record AllInForce (k : Make) (job : AbstractJob) (sent : Option Challenge) (reports : List AbstractReport)
     (options : OptionsInForce) : Type 0 where
   pub forced : abstract_in_force k job.settings ≡ Some (record { options = options; reports = reports })
   pub permitted : IsPermitted job sent
@@ -146,7 +150,7 @@ pub record Ready (i : ℕ) (k : Make) (b : SessionView) (m : ClientView) (dev : 
 -- A page is under way: the frames but these are heard, of the picture of its start where the sources are steady; the
 -- pages before it are those of theirs.
 pub record PageUnderWay (k : Make) (job : AbstractJob) (sent : Option Challenge) (starts : List Begin)
-    (reports : List Report) (pages : List (List Frame)) (done more : List Frame) : Type 0 where
+    (reports : List AbstractReport) (pages : List (List Frame)) (done more : List Frame) : Type 0 where
   pub earlier : List Begin
   pub begin : Begin
   pub started : starts ≡ earlier ++ begin ∷ []

@@ -1,6 +1,7 @@
 -- What stands: plain data that contracts alone see.
 use Rattle.std.specs.Prelude.{ℕ, List, [], ◌∷◌, Bool, false, Option, None, if◌then◌else◌, ◌==◌}
-use Rattle.system_model.specs.AbstractMessages.{Status, Challenge, AbstractRequest, AbstractReply}
+use Rattle.sane_fixed.specs.declared.status.Status.{Status}
+use Rattle.system_model.specs.AbstractMessages.{Challenge, AbstractRequest, AbstractReply}
 use Rattle.system_model.specs.Devices.{Make}
 use Rattle.system_model.specs.Client.{AbstractJob, ClientView, initial_client}
 use Rattle.system_model.specs.AbstractDevices.{AbstractDevice, Begin}

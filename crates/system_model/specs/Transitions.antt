@@ -1,9 +1,10 @@
 -- The steps of a world, when they may come, and what stands after them.
 use Rattle.std.specs.Prelude.{ℕ, ◌≡◌, ◌≢◌, ◌<◌, ◌^◌, ◌-◌, ◌⊎◌, List, [], ◌∷◌, ◌++◌, true, false, Option, Some, None}
 use Rattle.std.specs.Prelude.{length}
+use Rattle.sane_fixed.specs.declared.status.Status.TheVariants.{Good, Eof}
 use Rattle.sane_fixed.specs.declared.params.Params.{Params}
 use Rattle.page_picture.specs.Shows.{Frame}
-use Rattle.system_model.specs.AbstractMessages.{Good, Eof, AbstractReply}
+use Rattle.system_model.specs.AbstractMessages.{AbstractReply}
 use Rattle.device_api.specs.Kinds.{Page, laid_in, has_room}
 use Rattle.system_model.specs.Devices.{Make, IsPageShaped, read_status_of}
 use Rattle.system_model.specs.Client.{JobStage, Idle, Running, Done, Ended, AbstractProgress, Imaging, request_awaited}

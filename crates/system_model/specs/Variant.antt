@@ -1,7 +1,8 @@
 -- The variant: how many moves a running job may still take, its bytes on the way aside or not.
 use Rattle.std.specs.Prelude.{ℕ, suc, ◌+◌, ◌*◌, ◌-◌, ◌≢◌, List, [], ◌∷◌, Bool, true, false, Option, Some, None, length}
+use Rattle.sane_fixed.specs.declared.status.Status.{Status}
 use Rattle.page_picture.specs.Shows.{Frame}
-use Rattle.system_model.specs.AbstractMessages.{Status, AbstractReply}
+use Rattle.system_model.specs.AbstractMessages.{AbstractReply}
 use Rattle.system_model.specs.Client.{AbstractJob, further_pages, ClientView, JobStage, Idle, Running, Done, Ended}
 use Rattle.system_model.specs.Client.{AbstractProgress, Greeting, Listing, Opening, Allowing, Describing, Putting}
 use Rattle.system_model.specs.Client.{Getting, Starting, Shaping, Imaging}

@@ -15,7 +15,7 @@ use Rattle.wire_message.specs.declared.message.Reply.{Reply}
 use Rattle.wire_message.specs.declared.message.Reply.TheVariants as replies
 use Rattle.wire_message.specs.declared.message.Procedure.TheVariants as procedures
 use Rattle.wire_message.specs.Message.{message_limit, up_to, status, next_device, last_device, devices_of, devices, next_descriptor, descriptors, reply}
-use Rattle.wire_codec.specs.Arrays.{rest_of_array, array_end, devices_end, options_end, IsReadSoFar, DevicesBegun, OptionsBegun, ArraysAreReadSoFar, ReadsElements}
+use Rattle.wire_codec.specs.Arrays.{devices_format, rest_of_array, array_end, devices_end, options_end, IsReadSoFar, DevicesBegun, OptionsBegun, ArraysAreReadSoFar, ReadsElements}
 use Rattle.wire_message.proofs.Messages.{up_to_laws, status_laws}
 use Rattle.wire_format.proofs.Combining.{IsBytes-behind}
 use Rattle.sane_fixed.specs.declared.status.Status.{Status}
@@ -210,7 +210,7 @@ devices_front bytes behind_status rest s count fits first next =
     (p.text ++ q.text, p.whole ∙ ap (λ (l : List ℕ). p.text ++ l) q.whole ∙ sym (append_assoc p.text q.text rest))
 
 pub devices_start : (bytes behind_status rest : List ℕ) (s : Status) (count used : ℕ) → IsBytes bytes → length bytes ≤ message_limit → status.read bytes ≡ Ok (s, behind_status) → (up_to 1024).read behind_status ≡ Ok (count, rest)
-    → used ≤ length bytes → drop used bytes ≡ rest → IsReadSoFar (reply procedures.GetDevices) (rest_of_array next_device (devices_end s count) [] (count - 1)) used bytes
+    → used ≤ length bytes → drop used bytes ≡ rest → IsReadSoFar devices_format (rest_of_array next_device (devices_end s count) [] (count - 1)) used bytes
 unfolding reply devices
 devices_start bytes behind_status rest s count used fits short first next le behind_is =
     let p = status_laws.reads.sound bytes behind_status s fits first in
@@ -258,14 +258,14 @@ gives_takes value rest F f bytes fits (Err e) h = tt
 
 -- ---- how a reply ends
 
-pub devices_told : (bytes rest : List ℕ) (s : Status) (count left used : ℕ) (front last : List DeviceInfo) → IsReadSoFar (reply procedures.GetDevices) (rest_of_array next_device (devices_end s count) front left) used bytes → left ≡ 0
-    → (array_end count).read (drop used bytes) ≡ Ok (last, rest) → (reply procedures.GetDevices).read bytes ≡ Ok (replies.GetDevices s (front ++ last), rest)
-devices_told bytes rest s count left used front last b none h = begun_end (reply procedures.GetDevices) next_device (devices_end s count) front left used bytes b none ∙ rw h refl
+pub devices_told : (bytes rest : List ℕ) (s : Status) (count left used : ℕ) (front last : List DeviceInfo) → IsReadSoFar devices_format (rest_of_array next_device (devices_end s count) front left) used bytes → left ≡ 0
+    → (array_end count).read (drop used bytes) ≡ Ok (last, rest) → devices_format.read bytes ≡ Ok (replies.GetDevices s (front ++ last), rest)
+devices_told bytes rest s count left used front last b none h = begun_end devices_format next_device (devices_end s count) front left used bytes b none ∙ rw h refl
 
-pub devices_fail : (bytes : List ℕ) (s : Status) (count left used : ℕ) (front : List DeviceInfo) (e : ReadError) → IsReadSoFar (reply procedures.GetDevices) (rest_of_array next_device (devices_end s count) front left) used bytes → left ≡ 0
-    → ReadingFails e ((array_end count).read (drop used bytes)) → ReadingFails e ((reply procedures.GetDevices).read bytes)
+pub devices_fail : (bytes : List ℕ) (s : Status) (count left used : ℕ) (front : List DeviceInfo) (e : ReadError) → IsReadSoFar devices_format (rest_of_array next_device (devices_end s count) front left) used bytes → left ≡ 0
+    → ReadingFails e ((array_end count).read (drop used bytes)) → ReadingFails e (devices_format.read bytes)
 devices_fail bytes s count left used front errors.Memory b none h = tt
-devices_fail bytes s count left used front (errors.Stop stop) b none h = begun_end (reply procedures.GetDevices) next_device (devices_end s count) front left used bytes b none ∙ rw h refl
+devices_fail bytes s count left used front (errors.Stop stop) b none h = begun_end devices_format next_device (devices_end s count) front left used bytes b none ∙ rw h refl
 
 -- ---- more bytes, and the first of them
 

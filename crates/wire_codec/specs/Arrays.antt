@@ -21,6 +21,10 @@ abbrev pub array_end : ℕ → Format (List DeviceInfo)
 array_end zero = pure_format []
 array_end (suc n) = last_device
 
+-- the reply that lists devices
+abbrev pub devices_format : Format Reply
+devices_format = reply procedures.GetDevices
+
 abbrev pub devices_end : Status → ℕ → List DeviceInfo → Format Reply
 devices_end status count all = map_format (λ last. replies.GetDevices status (all ++ last)) (array_end count)
 
@@ -36,7 +40,7 @@ pub record IsReadSoFar (F G : Format Reply) (used : ℕ) (bytes : List ℕ) : Ty
 
 abbrev pub DevicesBegun : List ℕ → Devices → Type 0
 DevicesBegun bytes d =
-    IsReadSoFar (reply procedures.GetDevices)
+    IsReadSoFar devices_format
     (rest_of_array next_device (devices_end d.status d.count) d.elements.front.items d.elements.left) d.elements.used
     bytes
 

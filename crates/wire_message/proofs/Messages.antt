@@ -156,7 +156,6 @@ kind_laws = from_to_laws 0 3 (omega arith) (omega arith)
 
 arguments_laws : (p : Procedure) → Lawful (arguments p)
 arguments_laws procedures.Init = after-laws _ _ word_laws (λ version. made-laws _ _ string_laws)
-arguments_laws procedures.GetDevices = done-laws _
 arguments_laws procedures.Open = made-laws _ _ string_laws
 arguments_laws procedures.Close = made-laws _ _ word_laws
 arguments_laws procedures.GetOptionDescriptors = made-laws _ _ word_laws
@@ -166,7 +165,7 @@ arguments_laws procedures.GetParameters = made-laws _ _ word_laws
 arguments_laws procedures.Start = made-laws _ _ word_laws
 arguments_laws procedures.Cancel = made-laws _ _ word_laws
 arguments_laws procedures.Authorize = after-laws _ _ string_laws (λ resource. after-laws _ _ string_laws (λ user. made-laws _ _ string_laws))
-arguments_laws procedures.Exit = done-laws _
+arguments_laws q = done-laws _
 
 pub request_laws : Lawful request
 unfolding request
@@ -182,12 +181,10 @@ unfolding reply
 reply_reads procedures.Init = (after-laws _ _ status_laws (λ s. made-laws _ _ word_laws)).reads
 reply_reads procedures.GetDevices = (after-laws _ _ status_laws (λ s. made-laws _ _ devices_laws)).reads
 reply_reads procedures.Open = (after-laws _ _ status_laws (λ s. after-laws _ _ word_laws (λ device. made-laws _ _ string_laws))).reads
-reply_reads procedures.Close = (made-laws _ _ word_laws).reads
 reply_reads procedures.GetOptionDescriptors = (made-laws _ _ descriptors_laws).reads
 reply_reads procedures.ControlOption = (after-laws _ _ status_laws (λ s. after-laws _ _ word_laws (λ info. after-spelled-laws _ _ kind_laws (λ text kind t.
     after-laws _ _ (value_laws kind (from_to_value 0 3 text kind t)) (λ value. made-laws _ _ string_laws))))).reads
 reply_reads procedures.GetParameters = (after-laws _ _ status_laws (λ s. made-laws _ _ params_laws)).reads
 reply_reads procedures.Start = (after-laws _ _ status_laws (λ s. after-laws _ _ (from_to_laws 0 65535 (omega arith) (omega arith)) (λ port. after-laws _ _ (kind-laws order order_kind) (λ o. made-laws _ _ string_laws)))).reads
-reply_reads procedures.Cancel = (made-laws _ _ word_laws).reads
-reply_reads procedures.Authorize = (made-laws _ _ word_laws).reads
 reply_reads procedures.Exit = refused-reads BadCode
+reply_reads q = (made-laws _ _ word_laws).reads

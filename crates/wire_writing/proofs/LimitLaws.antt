@@ -46,29 +46,18 @@ descriptor_same d = rw (text_long d.name, text_long d.title, text_long d.about, 
 
 request_same : (r : Request) → write_request.long r ≡ request_passes r
 request_same (requests.Init version user) = text_long user
-request_same requests.GetDevices = refl
 request_same (requests.Open name) = text_long name
-request_same (requests.Close device) = refl
-request_same (requests.GetOptionDescriptors device) = refl
 request_same (requests.ControlOption device option action kind value) = value_same value
-request_same (requests.GetParameters device) = refl
-request_same (requests.Start device) = refl
-request_same (requests.Cancel device) = refl
 request_same (requests.Authorize resource user password) = rw (text_long resource, text_long user, text_long password) refl
-request_same requests.Exit = refl
+request_same q = refl
 
 reply_same : (r : Reply) → write_reply.long r ≡ reply_passes r
-reply_same (replies.Init status version) = refl
 reply_same (replies.GetDevices status devices) = ap (λ (b : Bool). nat_lt 1023 (length devices) || b) (places_long write_device device_passes devices device_same)
 reply_same (replies.Open status device resource) = text_long resource
-reply_same replies.Close = refl
 reply_same (replies.GetOptionDescriptors descriptors) = ap (λ (b : Bool). nat_lt 1024 (length descriptors) || b) (places_long write_descriptor descriptor_passes descriptors descriptor_same)
 reply_same (replies.ControlOption status info kind value resource) = rw (value_same value, text_long resource) refl
-reply_same (replies.GetParameters status params) = refl
 reply_same (replies.Start status port order resource) = text_long resource
-reply_same replies.Cancel = refl
-reply_same replies.Authorize = refl
-reply_same replies.Exit = refl
+reply_same q = refl
 
 -- a message
 over : (text : Option (List ℕ)) → exceeds message_limit text ≡ true → (whole : List ℕ) × (text ≡ Some whole) × (1048576 < length whole)

@@ -75,7 +75,6 @@ number_at (suc (suc (suc (suc (suc (suc (suc (suc (suc (suc (suc n))))))))))) le
 is_to : (p : Procedure) (text : List ℕ) (r : Request) → (arguments p).spells text r → procedure_of r ≡ p
 unfolding procedure_of
 is_to procedures.Init text r s = ap procedure_of s.behind.behind.1
-is_to procedures.GetDevices text r s = ap procedure_of s.1
 is_to procedures.Open text r s = ap procedure_of s.behind.1
 is_to procedures.Close text r s = ap procedure_of s.behind.1
 is_to procedures.GetOptionDescriptors text r s = ap procedure_of s.behind.1
@@ -84,7 +83,7 @@ is_to procedures.GetParameters text r s = ap procedure_of s.behind.1
 is_to procedures.Start text r s = ap procedure_of s.behind.1
 is_to procedures.Cancel text r s = ap procedure_of s.behind.1
 is_to procedures.Authorize text r s = ap procedure_of s.behind.behind.behind.1
-is_to procedures.Exit text r s = ap procedure_of s.1
+is_to q text r s = ap procedure_of s.1
 
 code_value : (text : List ℕ) (n : ℕ) → (word_of_kind (between 0 10 BadCode)).spells text n → n ≤ 10
 code_value text n s = value s.n s.is
