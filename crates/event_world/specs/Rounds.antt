@@ -13,6 +13,11 @@ abbrev pub total_left : List Endpoint → ℕ
 total_left [] = 0
 total_left (p ∷ endpoints) = moves_left_of p + total_left endpoints
 
+-- **no more moves (`HasNoMoreMoves`)**: no job has more moves left in the second world than in the first.
+abbrev pub HasNoMoreMoves : WorldCore → WorldCore → Type 0
+HasNoMoreMoves w v = (i : ℕ) (p q : Endpoint) → slice_get w.endpoints i ≡ Some p → slice_get v.endpoints i ≡ Some q
+    → moves_left_of q ≤ moves_left_of p
+
 -- the next move of a job that has moves left
 pub record IsMoveOf (w : WorldCore) (i : ℕ) (event : Event) : Type 0 where
   pub endpoint : Endpoint

@@ -13,7 +13,7 @@ ghost use Rattle.event_world.specs.declared.endpoint.Endpoint.{Endpoint};
 ghost use Rattle.event_world.specs.JobEvents.{Can, Happens, is_done};
 ghost use Rattle.event_world.specs.JobMoves.{IsNextMove, moves_left_of};
 ghost use Rattle.event_world.specs.Endpoints.{finished_page};
-ghost use Rattle.event_world.specs.Rounds.{RestsAt};
+ghost use Rattle.event_world.specs.Rounds.{HasNoMoreMoves, RestsAt};
 ghost use Rattle.event_world.specs.FileInvariant.{AllFilesRepresent, FilesRepresent, IsFileOf};
 ghost use Rattle.event_world.specs.Worlds.{AreNew, Leads, MayRun, Runs, WorldCore};
 
@@ -49,10 +49,8 @@ pub fn moves_fall()
         → Can d p job_event → Happens d p job_event e q → q.budget ≡ p.budget - 1 }
     ensures less { (d e : Core) (p q : Endpoint) (job_event : JobEvent) → 0 < moves_left_of p
         → Can d p job_event → Happens d p job_event e q → moves_left_of q < moves_left_of p }
-    ensures never_more { (source : Source
-        → SourceState) (event : Event) (w v : WorldCore) (i : ℕ) (p q : Endpoint)
-        → Leads source event w v → slice_get w.endpoints i ≡ Some p
-        → slice_get v.endpoints i ≡ Some q → moves_left_of q ≤ moves_left_of p }
+    ensures never_more { (source : Source → SourceState) (event : Event) (w v : WorldCore)
+        → Leads source event w v → HasNoMoreMoves w v }
 {}
 
 /// A job that rests behind all rounds has no next move, as long as it has moves left.

@@ -1,6 +1,7 @@
 -- What private functions alone promise.
 use Rattle.std.specs.Prelude.{ℕ, ◌+◌, ◌*◌, ◌≡◌, ◌≤◌, ◌&&◌, nat_le, if◌then◌else◌, Bool, List, ◌∷◌, Option, Some, None}
 use Rattle.std.specs.Prelude.{drop, ◌^◌, ◌<◌, true, false, length, ◌/◌, slice_index, ◌-◌, ◌++◌, ◌%◌, nat_lt, take, []}
+use Rattle.std.specs.Prelude.{MatchBool, slice_range}
 use Rattle.std.specs.Char.{is_ascii_digit, digit_value}
 use Rattle.netpbm.specs.FileText.{concat_up_to}
 use Rattle.netpbm.specs.HeaderReading.{field_at, end_at, format_of, ◌>>=◌}
@@ -177,6 +178,36 @@ pub record GivesThirdsOf (h : Header) (at : ℕ) (before after part : List ℕ) 
   pub part_is : (j : ℕ) → j < length part
       → slice_index part j ≡ third_byte h.maxval (take (file_row_size h) before) at j
 
+-- a room with the next rows of a file at its end, how many those are, and what is left of the reader behind them
+pub record RowRoom : Type 0 where
+  pub held : ℕ
+  pub bytes : List ℕ
+  pub left : List ℕ
+
+abbrev pub row_room : ℕ → List ℕ → List ℕ → RowRoom
+row_room held bytes left = record { held = held; bytes = bytes; left = left }
+
+-- the bytes of the file that are not used yet
+abbrev pub unused_in : Header → RowRoom → List ℕ
+unused_in h room = unused_bytes (file_row_size h) room.held room.bytes room.left
+
+-- the next row was used: its bytes stand in the room from there on
+abbrev pub TakesRowAt : Header → RowRoom → ℕ → RowRoom → Type 0
+TakesRowAt h was from now =
+    unused_in h was ≡ slice_range now.bytes from (from + file_row_size h) ++ unused_in h now
+
+-- the next row was used, and these are its samples
+abbrev pub TakesRow : Header → RowRoom → RowRoom → List ℕ → Type 0
+TakesRow h was now row = GivesRowOf h (unused_in h was) (unused_in h now) row
+
+-- the next row was used, and these are the upper bytes of its samples, from there on
+abbrev pub TakesPart : Header → ℕ → RowRoom → RowRoom → List ℕ → Type 0
+TakesPart h at was now part = GivesPartOf h at (unused_in h was) (unused_in h now) part
+
+-- the next row was used, and these are the bytes of every third of its numbers, from there on
+abbrev pub TakesThirds : Header → ℕ → RowRoom → RowRoom → List ℕ → Type 0
+TakesThirds h at was now part = GivesThirdsOf h at (unused_in h was) (unused_in h now) part
+
 -- so many rows stand at the front of these bytes, fewer than 2^40, and no number of the first is above the greatest
 pub record HasRows (h : Header) (rows : ℕ) (bytes : List ℕ) : Type 0 where
   pub size : rows * file_row_size h ≤ length bytes
@@ -200,6 +231,11 @@ page_shown h dpi raster = record {
 pub record IsRaster (h : Header) (raster : List ℕ) : Type 0 where
   pub size : length raster ≡ raster_size h
   pub none_above : NoneAbove h.maxval raster (sample_count h)
+
+-- whether no number of a raster is above the greatest
+abbrev pub TellsFit : Bool → Header → List ℕ → Type 0
+TellsFit fits h raster =
+    MatchBool fits (NoneAbove h.maxval raster (sample_count h)) (SomeAbove h.maxval raster (sample_count h))
 
 -- so many bytes as the header tells were read, and the others are left
 pub record ReadsRaster (h : Header) (raster left : List ℕ) : Type 0 where

@@ -62,6 +62,9 @@ pub record SourceAndBytes : Type 0 where
   pub source : SourceState
   pub bytes : List ℕ
 
+abbrev pub source_and_bytes : SourceState → List ℕ → SourceAndBytes
+source_and_bytes source bytes = record { source = source; bytes = bytes }
+
 -- the upper bytes of the next row, or nothing where the page gives none or no row is left, or a failure
 abbrev pub GivesRowBytes : Mode → ℕ → SourceAndBytes → Result Bool SourceFault → SourceAndBytes → Type 0
 GivesRowBytes mode first was (Ok true) now = GivesNextBytes mode first was.source now.source now.bytes

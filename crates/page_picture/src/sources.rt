@@ -2,7 +2,7 @@
 
 ghost use Rattle.std.specs.Prelude.{◌≡◌, ◌≤◌, ◌<◌, ◌+◌, ◌*◌, ◌%◌, true, length};
 ghost use Rattle.page_picture.specs.Page.{IsShaped, IsPageView};
-ghost use Rattle.page_picture.specs.Source.{SourceState, GivesRow, GivesRowBytes, GivesChannel, Rewinds, byte_place, bytes_in};
+ghost use Rattle.page_picture.specs.Source.{SourceState, GivesRow, GivesRowBytes, GivesChannel, Rewinds, byte_place, bytes_in, source_and_bytes};
 
 mod eights;
 mod failing_page;
@@ -94,8 +94,8 @@ pub trait ByteRows: PageSource {
         /// it has done nothing; when it gives none no clause says.
         /// Carried by: `ByteRows`, at `MemoryPage`, `FailingPage`, `PnmPage`, `Source`
         ensures { GivesRowBytes mode first
-            (record { source = Self.source self.old; bytes = bytes.old }) result
-            (record { source = Self.source self.new; bytes = bytes.new }) };
+            (source_and_bytes (Self.source self.old) bytes.old) result
+            (source_and_bytes (Self.source self.new) bytes.new) };
 
     /// Writes the bytes of one channel of the next row's samples, from place `first` on. False where the page gives none of
     /// that kind, and after the last row; nothing was done then. All of them must be whole samples that lie within the row.
@@ -114,6 +114,6 @@ pub trait ByteRows: PageSource {
         /// gives none, it has done nothing; when it gives none no clause says.
         /// Carried by: `next_channel` of `ByteRows`, at `MemoryPage`, `FailingPage`, `PnmPage`, `Source`
         ensures { GivesChannel (record { which = which; channel = channel; first = first })
-            (record { source = Self.source self.old; bytes = bytes.old }) result
-            (record { source = Self.source self.new; bytes = bytes.new }) };
+            (source_and_bytes (Self.source self.old) bytes.old) result
+            (source_and_bytes (Self.source self.new) bytes.new) };
 }

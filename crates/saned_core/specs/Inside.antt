@@ -3,8 +3,9 @@
 use Rattle.std.specs.Prelude.{◌<◌, ◌≡◌, Bool, true, false, Option, Some, None, List, length, slice_index_or, Result}
 use Rattle.std.specs.Prelude.{option_and_then, ℕ, option_map, [], ◌++◌}
 use Rattle.saned_core.specs.declared.session_slot.SessionSlot.{SessionSlot}
-use Rattle.saned_core.specs.DaemonStates.{is_slot_number, session_in, with_session, seen_session_slot, session_slot_of}
-use Rattle.saned_core.specs.DaemonStates.{on_session_slot, kept_if_open}
+use Rattle.saned_core.specs.DaemonStates.{is_slot_number, session_in, with_session, seen_session_slot}
+use Rattle.saned_core.specs.DaemonStates.{seen_session_slots}
+use Rattle.saned_core.specs.DaemonStates.{session_slot_of, on_session_slot, kept_if_open}
 use Rattle.sane_fixed.specs.declared.status.Status.{Status}
 use Rattle.device_api.specs.State.{DeviceState, Reads}
 use Rattle.dispatch.specs.declared.table.place.Lease.{Lease}
@@ -155,6 +156,11 @@ pub record SlotsState : Type 0 where
   pub slots : List (Option (SessionSlot DeviceState))
   pub registry : Table
   pub stream : ChaCha
+
+abbrev pub slots_state : {D : Type 0} → (D → DeviceState) → List Entry → List (Option (SessionSlot D)) → List (Place D)
+    → ChaCha → SlotsState
+slots_state f users slots registry stream =
+    record { users = users; slots = seen_session_slots f slots; registry = table f registry; stream = stream }
 
 abbrev pub FeedsAmong : ℕ → SlotsState → List ℕ → Fed → SlotsState → Type 0
 FeedsAmong n was piece fed now =

@@ -4,7 +4,7 @@ ghost use Rattle.std.specs.Prelude.{not, ◌==◌, ◌⊎◌, ◌++◌, take, dr
 ghost use Rattle.dispatch.specs.Table.{table};
 ghost use Rattle.saned_requests.specs.Holding.{seen_session};
 ghost use Rattle.saned_core.specs.DaemonStates.{all_slots_taken, with_session_slot, new_session_slot, after_reply_bytes, after_taken, no_more, replies_in, session_let_go, kept_if_open, is_slot_number, session_slot_of, on_session_slot, on_session, frame_in, frame_state_of, is_waiting, after_connected, after_lost, seen_session_slot, seen_session_slots, session_in};
-ghost use Rattle.saned_core.specs.Inside.{is_vacant, IsFirstSlot, IsMissing, FeedsAmong};
+ghost use Rattle.saned_core.specs.Inside.{is_vacant, IsFirstSlot, IsMissing, FeedsAmong, slots_state};
 ghost use Rattle.saned_core.specs.Turns.{TurnsSlots};
 
 use crate::data::{data_phase_connected, lose, state_of, turn};
@@ -388,18 +388,8 @@ pub fn feed_at<D: Device>(
     piece: &[u8],
 ) -> Fed
     ensures { FeedsAmong number
-        (record {
-          users = users.now;
-          slots = seen_session_slots D.state slots.old;
-          registry = table D.state registry.old;
-          stream = challenger.old;
-        }) piece.now result
-        (record {
-          users = users.now;
-          slots = seen_session_slots D.state slots.new;
-          registry = table D.state registry.new;
-          stream = challenger.new;
-        }) }
+        (slots_state D.state users.now slots.old registry.old challenger.old) piece.now result
+        (slots_state D.state users.now slots.new registry.new challenger.new) }
 {
     let Some(k) = find(slots, number) else {
         return Fed::Over;

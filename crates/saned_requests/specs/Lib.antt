@@ -3,3 +3,4 @@ pub mod OptionValues
 pub mod RequestAnswers
 pub mod LeaseLaws
 pub mod Laws
+pub mod Inside

@@ -16,12 +16,13 @@ use Rattle.sane_fixed.specs.declared.byte_order.ByteOrder.{ByteOrder}
 use Rattle.sane_fixed.specs.declared.byte_order.ByteOrder.TheVariants.{Big}
 use Rattle.sane_fixed.specs.declared.frame_format.FrameFormat.{FrameFormat}
 use Rattle.scan_frames.specs.Frames.{channel_in, format_at, bytes_per_line, payload, line_bytes}
-use Rattle.scan_frames.specs.Line.{half, packing_of}
+use Rattle.scan_frames.specs.Line.{half, line_of, packing_of}
 use Rattle.scan_frames.specs.PassReading.{FrameProgress, FrameAndSource, IsFrame, given_in, row_of}
 use Rattle.scan_frames.specs.Rows.{IsWhiteBehind, TakesRows}
 use Rattle.scan_frames.specs.Samples.{IsZeroFrom}
 use Rattle.scan_frames.specs.Tables.{AreComposed}
 use Rattle.scan_frames.specs.declared.buffers.Buffers.{Buffers}
+use Rattle.scan_frames.specs.declared.line.Layout.{Layout}
 use Rattle.scan_frames.specs.declared.setup.Packing.{Packing}
 use Rattle.scan_frames.specs.declared.setup.Packing.TheVariants.{Bits, Bytes, Words}
 use Rattle.scan_frames.specs.declared.setup.Setup.{Setup}
@@ -69,6 +70,24 @@ sample_in_row scene row place k =
 -- the sample that stands as number k at column x of a frame's line
 abbrev pub value_at : Scene → FrameFormat → List ℕ → Columns → ℕ → ℕ → ℕ
 value_at scene format row columns x k = sample_in_row scene row (place_at columns x) (channel_in format k)
+
+-- the samples of a scene at these places of a row stand in the line
+abbrev pub HasPlaces : Scene → Layout → List ℕ → List ℕ → List ℕ → Type 0
+HasPlaces scene layout row places line = (x k : ℕ) → x < length places → k < channels_within layout.format
+    → HasSample layout.packing layout.order line (channels_within layout.format * x + k)
+    (sample_in_row scene row (slice_index places x) (channel_in layout.format k))
+
+-- likewise where each is a byte
+abbrev pub HasPlacesAsBytes : Scene → FrameFormat → List ℕ → List ℕ → List ℕ → Type 0
+HasPlacesAsBytes scene format row places line = (x k : ℕ) → x < length places → k < channels_within format
+    → slice_index line (channels_within format * x + k)
+    ≡ sample_in_row scene row (slice_index places x) (channel_in format k)
+
+-- the line of a pass, of so many bytes, that shows a row of the page at these columns
+abbrev pub line_shown : Setup → ℕ → List ℕ → Columns → ℕ → List ℕ
+line_shown setup pass row columns size =
+    line_of (packing_of setup.scene.depth) setup.order (channels_within (format_at setup pass)) columns.count
+    (value_at setup.scene (format_at setup pass) row columns) size
 
 -- **dark dots (`dark`, `darks_from`)**: one for a sample below 32,768, and zero for any other; of eight dots a byte,
 -- the leftmost as its most significant bit.
@@ -133,6 +152,10 @@ state_of b = record {
   made = b.made;
   left = b.left;
 }
+
+-- a source, and how far its frame has come in these buffers
+abbrev pub being_read : SourceState → Buffers → FrameAndSource
+being_read source buffers = record { source = source; frame = state_of buffers }
 
 -- buffers for the frame of a pass, before its first row
 pub record IsNewFrame (page : PageView) (setup : Setup) (pass height : ℕ) (f : FrameProgress) : Type 0 where

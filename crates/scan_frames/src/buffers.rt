@@ -5,7 +5,7 @@ ghost use Rattle.scan_frames.specs.Rows.{IsWhiteBehind, StopsFailing};
 ghost use Rattle.scan_frames.specs.Samples.{IsZeroFrom};
 ghost use Rattle.scan_frames.specs.Frames.{IsSetup};
 ghost use Rattle.scan_frames.specs.PassReading.{IsFrame, ReadsFrame, row_of};
-ghost use Rattle.scan_frames.specs.Inside.{IsLineCounted, IsNewFrame, MakesLine, KeepsCount, HasLineBytes, GivesLine, GivesOfLine, MayBeMadeApart, is_frame_over, state_of};
+ghost use Rattle.scan_frames.specs.Inside.{IsLineCounted, IsNewFrame, MakesLine, KeepsCount, HasLineBytes, GivesLine, GivesOfLine, MayBeMadeApart, being_read, is_frame_over, state_of};
 
 use crate::byte_lines::byte_line;
 use crate::faults::ReadEnd;
@@ -285,9 +285,9 @@ fn give_whole_line<S: ByteRows>(
     requires more { buffers.old.made < buffers.old.height }
     requires room { length buffers.old.line.items ≤ length buf.old }
     ensures given { result ≡ Ok true → GivesOfLine setup.now
-        (record { source = S.source source.old; frame = state_of buffers.old })
+        (being_read (S.source source.old) buffers.old)
         (length buffers.old.line.items)
-        (record { source = S.source source.new; frame = state_of buffers.new }) buf.new }
+        (being_read (S.source source.new) buffers.new) buf.new }
     ensures none { result ≡ Ok false → (S.source source.new ≡ S.source source.old)
         × (state_of buffers.new ≡ state_of buffers.old) }
     ensures err { OnErr result (StopsFailing (S.source source.old) (S.source source.new)) }
@@ -326,8 +326,8 @@ fn give_of_line<S: ByteRows>(
     requires more { is_frame_over (state_of buffers.old) ≡ false }
     requires buf { 0 < length buf.old }
     ensures ok { IfOk result (λ n. GivesOfLine setup.now
-        (record { source = S.source source.old; frame = state_of buffers.old }) n
-        (record { source = S.source source.new; frame = state_of buffers.new }) buf.new) }
+        (being_read (S.source source.old) buffers.old) n
+        (being_read (S.source source.new) buffers.new) buf.new) }
     ensures err { OnErr result (StopsFailing (S.source source.old) (S.source source.new)) }
     ensures counted { OnErr result (IsLineCounted (state_of buffers.new)) }
 {
@@ -358,8 +358,8 @@ pub fn read_on<S: ByteRows>(
     requires counted { IsLineCounted (state_of buffers.old) }
     requires buf { 0 < length buf.old }
     ensures read { ReadsFrame setup.now
-        (record { source = S.source source.old; frame = state_of buffers.old }) result
-        (record { source = S.source source.new; frame = state_of buffers.new }) buf.new }
+        (being_read (S.source source.old) buffers.old) result
+        (being_read (S.source source.new) buffers.new) buf.new }
     ensures counted { IsLineCounted (state_of buffers.new) }
 {
     let most = buf.len().min(setup.limit as usize);

@@ -4,10 +4,10 @@ ghost use Rattle.std.specs.Prelude.{◌≡◌, ◌≤◌, ◌<◌, ◌+◌, ◌*
 ghost use Rattle.page_picture.specs.Columns.{place_at};
 ghost use Rattle.page_picture.specs.Shows.{channels_within};
 ghost use Rattle.page_picture.specs.Tone.{brightness};
-ghost use Rattle.scan_frames.specs.Line.{packing_of, line_of};
+ghost use Rattle.scan_frames.specs.Line.{packing_of};
 ghost use Rattle.scan_frames.specs.Frames.{channel_in, format_at};
 ghost use Rattle.scan_frames.specs.Tables.{AreComposed};
-ghost use Rattle.scan_frames.specs.Inside.{IsPlain, IsSame, HasSample, IsGrayRow, bit_in, bits_in, sample_end, gray_in, value_at, sample_in_row, AreInRow, IsRunFrom, IsSameFrom};
+ghost use Rattle.scan_frames.specs.Inside.{IsPlain, IsSame, HasPlaces, HasPlacesAsBytes, HasSample, IsGrayRow, bit_in, bits_in, sample_end, gray_in, line_shown, sample_in_row, AreInRow, IsRunFrom, IsSameFrom};
 ghost use Rattle.scan_frames.specs.Samples.{HasZeros};
 
 use crate::byte_words::{put_channel_words, put_samples, put_word};
@@ -333,9 +333,7 @@ fn put_bytes(
     requires places { AreInRow places.now row.now }
     requires few { length places.now ≤ 65536 }
     requires room { channels_within layout.format * length places.now ≤ length line.old }
-    ensures here { (x k : ℕ) → x < length places.now → k < channels_within layout.format
-        → slice_index line.new (channels_within layout.format * x + k)
-        ≡ sample_in_row scene.now row.now (slice_index places.now x) (channel_in layout.format k) }
+    ensures here { HasPlacesAsBytes scene.now layout.format row.now places.now line.new }
     ensures behind { (j : ℕ) → channels_within layout.format * length places.now ≤ j
         → slice_index line.new j ≡ slice_index line.old j }
 {
@@ -357,9 +355,7 @@ fn put_each(scene: &Scene, layout: Layout, row: &[u16], places: &[u32], line: &m
     requires few { length places.now ≤ 65536 }
     requires room { sample_end layout.packing (channels_within layout.format * length places.now)
         ≤ length line.old }
-    ensures here { (x k : ℕ) → x < length places.now → k < channels_within layout.format
-        → HasSample layout.packing layout.order line.new (channels_within layout.format * x + k)
-        (sample_in_row scene.now row.now (slice_index places.now x) (channel_in layout.format k)) }
+    ensures here { HasPlaces scene.now layout row.now places.now line.new }
     ensures behind { (j : ℕ)
         → sample_end layout.packing (channels_within layout.format * length places.now) ≤ j
         → slice_index line.new j ≡ slice_index line.old j }
@@ -385,9 +381,7 @@ fn put_all(
     requires few { length places.now ≤ 65536 }
     requires room { sample_end layout.packing (channels_within layout.format * length places.now)
         ≤ length line.old }
-    ensures here { (x k : ℕ) → x < length places.now → k < channels_within layout.format
-        → HasSample layout.packing layout.order line.new (channels_within layout.format * x + k)
-        (sample_in_row scene.now row.now (slice_index places.now x) (channel_in layout.format k)) }
+    ensures here { HasPlaces scene.now layout row.now places.now line.new }
     ensures behind { (j : ℕ)
         → sample_end layout.packing (channels_within layout.format * length places.now) ≤ j
         → slice_index line.new j ≡ slice_index line.old j }
@@ -706,9 +700,8 @@ pub fn make_line(
         (channels_within (format_at setup.now pass) * columns.now.count) line.old }
     ensures zeros { HasZeros (packing_of setup.now.scene.depth)
         (channels_within (format_at setup.now pass) * columns.now.count) line.new }
-    ensures bytes { line.new ≡ line_of (packing_of setup.now.scene.depth) setup.now.order
-        (channels_within (format_at setup.now pass)) columns.now.count (value_at setup.now.scene
-        (format_at setup.now pass) row.now columns.now) (length line.old) }
+    ensures bytes { line.new
+        ≡ line_shown setup.now pass row.now columns.now (length line.old) }
 {
     let format = format_at(setup, pass);
     let layout = Layout {

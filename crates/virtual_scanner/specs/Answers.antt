@@ -2,10 +2,12 @@
 use Rattle.std.specs.Prelude.{ℕ, ◌≡◌, List, Option, Some, None, Result, Ok, Err}
 use Rattle.sane_fixed.specs.declared.status.Status.{Status}
 use Rattle.scan_frames.specs.StatusOf.{end_status}
-use Rattle.scan_frames.specs.PassReading.{FrameAndSource, ReadsFrame, given_in}
+use Rattle.page_picture.specs.Source.{SourceState}
+use Rattle.scan_frames.specs.PassReading.{FrameAndSource, FrameProgress, ReadsFrame, given_in}
 use Rattle.scan_frames.specs.declared.faults.ReadEnd.{ReadEnd}
 use Rattle.scan_frames.specs.declared.setup.Setup.{Setup}
 use Rattle.device_api.specs.State.{read_status_at}
+use Rattle.virtual_scanner.specs.First.{OnFirst}
 
 -- the frame gave no byte, for a reason that the status tells
 pub record FrameEndsWith (setup : Setup) (was : FrameAndSource) (status : Status) (now : FrameAndSource)
@@ -28,3 +30,15 @@ AnswersUnless (Some status) setup was result now buf = (result ≡ Err status) �
 abbrev pub AnswersRead : Setup → FrameAndSource → Result ℕ Status → FrameAndSource → List ℕ → Type 0
 AnswersRead setup was result now buf =
     AnswersUnless (read_status_at setup.told (given_in was.frame)) setup was result now buf
+
+-- a frame of the first page, and the pages in the scanner
+pub record FrameAndPages : Type 0 where
+  pub frame : FrameProgress
+  pub pages : List SourceState
+
+-- the same in a frame of the first page, and nothing of the other pages
+abbrev pub AnswersOnFirst : Setup → FrameAndPages → Result ℕ Status → FrameAndPages → List ℕ → Type 0
+AnswersOnFirst setup was result now buf =
+    OnFirst
+    (λ s t. AnswersRead setup (record { source = s; frame = was.frame }) result
+    (record { source = t; frame = now.frame }) buf) was.pages now.pages

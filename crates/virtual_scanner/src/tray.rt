@@ -7,7 +7,7 @@ ghost use Rattle.scan_frames.specs.PassReading.{BeginsPass, IsFrame};
 ghost use Rattle.device_api.specs.ScannerLimits.{IsHeldPage};
 ghost use Rattle.device_api.specs.Kinds.{is_feeder};
 ghost use Rattle.device_api.specs.State.{held_from, left_behind, pages_with, params_in, tray_room};
-ghost use Rattle.virtual_scanner.specs.Answers.{AnswersRead};
+ghost use Rattle.virtual_scanner.specs.Answers.{AnswersOnFirst};
 ghost use Rattle.virtual_scanner.specs.First.{OfFirst, OnFirst};
 
 use crate::at::answer_read;
@@ -58,10 +58,9 @@ pub fn read_frame(
     requires frame { OfFirst (λ s. IsFrame s setup.now frame.old)
         (map source_state tray.old.items) }
     requires buf { 0 < length buf.old }
-    ensures answers { OnFirst (λ s t. AnswersRead setup.now
-        (record { source = s; frame = frame.old }) result
-        (record { source = t; frame = frame.new }) buf.new)
-        (map source_state tray.old.items) (map source_state tray.new.items) }
+    ensures answers { AnswersOnFirst setup.now
+        (record { frame = frame.old; pages = map source_state tray.old.items }) result
+        (record { frame = frame.new; pages = map source_state tray.new.items }) buf.new }
     ensures room { vec_capacity tray.new ≡ vec_capacity tray.old }
 {
     answer_read(frame, &mut tray[0], setup, buf)

@@ -4,12 +4,17 @@ use Rattle.option_desc.specs.declared.descriptor.Constraint.{Constraint}
 use Rattle.option_desc.specs.declared.descriptor.Constraint.TheVariants as constraints
 use Rattle.option_desc.specs.declared.descriptor.Descriptor.{Descriptor}
 use Rattle.sane_fixed.specs.declared.device_info.DeviceInfo.{DeviceInfo}
+use Rattle.wire_message.specs.Message.{request as request_format, reply as reply_format}
+use Rattle.wire_message.specs.declared.message_fault.WireFault.{WireFault}
+use Rattle.wire_message.specs.declared.message_fault.WireFault.TheVariants.{BadValue}
 use Rattle.wire_message.specs.declared.message.WireValue.{WireValue}
 use Rattle.wire_message.specs.declared.message.WireValue.TheVariants as values
 use Rattle.wire_message.specs.declared.message.Request.{Request}
 use Rattle.wire_message.specs.declared.message.Request.TheVariants as requests
 use Rattle.wire_message.specs.declared.message.Reply.{Reply}
 use Rattle.wire_message.specs.declared.message.Reply.TheVariants as replies
+use Rattle.wire_writing.specs.RequestWriting.{write_request}
+use Rattle.wire_writing.specs.ReplyWriting.{replied_procedure, write_reply}
 
 -- a text that is too long for a string with its NUL
 abbrev pub is_long_text : List ℕ → Bool
@@ -78,3 +83,13 @@ reply_passes replies.Exit = false
 -- more than 1,048,576 bytes.
 abbrev pub PassesLimit : Bool → Option (List ℕ) → Type 0
 PassesLimit part text = (part ≡ true) ⊎ ((whole : List ℕ) × (text ≡ Some whole) × (1048576 < length whole))
+
+-- **bad (`IsBadRequest`, `IsBadReply`)**: a message that passes no limit, and that nothing spells; the fault is then
+-- `BadValue`.
+abbrev pub IsBadRequest : Request → WireFault → Type 0
+IsBadRequest r fault = (fault ≡ BadValue) × (¬ PassesLimit (request_passes r) (write_request.text r))
+    × ((text : List ℕ) → request_format.spells text r → ⊥)
+
+abbrev pub IsBadReply : Reply → WireFault → Type 0
+IsBadReply r fault = (fault ≡ BadValue) × (¬ PassesLimit (reply_passes r) (write_reply.text r))
+    × ((text : List ℕ) → (reply_format (replied_procedure r)).spells text r → ⊥)

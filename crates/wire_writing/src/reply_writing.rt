@@ -1,12 +1,12 @@
 //! Replies as bytes: the one way of writing each.
 
-ghost use Rattle.std.specs.Prelude.{◌≡◌, ◌≢◌, ◌↔◌, ◌||◌, ℕ, List, Some, IfOk, IfErr};
+ghost use Rattle.std.specs.Prelude.{◌≡◌, ◌≢◌, ◌↔◌, ◌||◌, Some, IfOk, IfErr};
 ghost use Rattle.wire_format.specs.Limit.{limited_format};
 ghost use Rattle.wire_format.specs.Writer.{PutsBehind, append_text, write_places};
 ghost use Rattle.sane_fixed.specs.Status.{status_code};
 ghost use Rattle.constraint.specs.Admitted.{IsRange};
 ghost use Rattle.wire_message.specs.Message.{message_limit, reply as reply_format};
-ghost use Rattle.wire_writing.specs.WireLimits.{PassesLimit, reply_passes};
+ghost use Rattle.wire_writing.specs.WireLimits.{IsBadReply, PassesLimit, reply_passes};
 ghost use Rattle.wire_writing.specs.RequestWriting.{code_text, write_string, write_any, write_resource, value_long};
 ghost use Rattle.wire_writing.specs.ReplyWriting.{device_text, write_device, write_devices, signed_text, bounds_text, range_text, word_list_text, string_list_text, constraint_long, constraint_text, size_text, kind_text, write_descriptor, write_descriptors, flag_code, lines_text, params_text, order_code, replied_procedure, write_reply};
 
@@ -394,10 +394,8 @@ pub fn encode_reply(alloc: Global, reply: &Reply) -> Result<Vec<u8>, WireFault>
     ensures text { IfOk result (λ v. write_reply.text reply.now ≡ Some v.items) }
     ensures long { result ≢ Err WireFault.NoMem → (result ≡ Err WireFault.TooLong)
         ↔ PassesLimit (reply_passes reply.now) (write_reply.text reply.now) }
-    ensures bad { IfErr result (λ e. e ≢ WireFault.NoMem
-        → e ≢ WireFault.TooLong → (e ≡ WireFault.BadValue)
-        × (¬ PassesLimit (reply_passes reply.now) (write_reply.text reply.now)) × ((text : List ℕ)
-        → (reply_format (replied_procedure reply.now)).spells text reply.now → ⊥)) }
+    ensures bad { IfErr result
+        (λ e. e ≢ WireFault.NoMem → e ≢ WireFault.TooLong → IsBadReply reply.now e) }
 {
     encode::<AnyReply>(alloc, reply)
 }

@@ -1,11 +1,11 @@
 //! Messages as bytes: the one way of writing each.
 
-ghost use Rattle.std.specs.Prelude.{◌≡◌, ◌≢◌, ◌↔◌, ℕ, List, Some, IfOk, IfErr};
+ghost use Rattle.std.specs.Prelude.{◌≡◌, ◌≢◌, ◌↔◌, Some, IfOk, IfErr};
 ghost use Rattle.wire_format.specs.Limit.{limited_format};
 ghost use Rattle.wire_format.specs.Writer.{PutsBehind, append_text, encoding_or_fault, write_limited};
 ghost use Rattle.sane_fixed.specs.Kind.{kind_code};
 ghost use Rattle.wire_message.specs.Message.{message_limit, request as request_format};
-ghost use Rattle.wire_writing.specs.WireLimits.{PassesLimit, request_passes};
+ghost use Rattle.wire_writing.specs.WireLimits.{IsBadRequest, PassesLimit, request_passes};
 ghost use Rattle.wire_writing.specs.RequestWriting.{EncodesAs, write_any, write_string, write_resource, value_long, words_text, bytes_text, write_value, action_code, code_text, code_and_word_text, write_request, request_long};
 
 use sane_fixed::{Kind, Text};
@@ -265,10 +265,8 @@ pub fn encode_request(alloc: Global, request: &Request) -> Result<Vec<u8>, WireF
     ensures long { result ≢ Err WireFault.NoMem → (result ≡ Err WireFault.TooLong)
         ↔ PassesLimit (request_passes request.now) (write_request.text request.now) }
     /// Else `BadValue` comes exactly where nothing spells it.
-    ensures bad { IfErr result (λ e. e ≢ WireFault.NoMem
-        → e ≢ WireFault.TooLong → (e ≡ WireFault.BadValue)
-        × (¬ PassesLimit (request_passes request.now) (write_request.text request.now))
-        × ((text : List ℕ) → request_format.spells text request.now → ⊥)) }
+    ensures bad { IfErr result
+        (λ e. e ≢ WireFault.NoMem → e ≢ WireFault.TooLong → IsBadRequest request.now e) }
 {
     encode::<AnyRequest>(alloc, request)
 }

@@ -36,11 +36,11 @@ use Rattle.scan_world.specs.Settings.{AreSettingsPut}
 -- ---- the devices
 
 -- **worked worlds (`memory_source`, `flatbed_with`, `feeder_with`, `LedFrom`, `DoneFrom`, `SaysDone`, `SaysAnswered`,
--- `ListsAll`, `ShowsOptions`, `WasPassed`, `IsUnlisted`, `IsDisallowed`, `IsPlainScan`, `HasBrokenOff`, `AreScans`)**:
--- a flatbed with a page in memory, and a feeder with some; a history of these devices, users and one job, and a world
--- to which it led; that the job is done there, and right; a list of all devices; a show of a flatbed's options; that
--- the password was allowed for a challenge; a device that was not listed, a password that is not allowed; a scan in
--- whose way nothing stands, and one that broke off; the files of a batch's first two pages.
+-- `ListsAll`, `ShowsOptions`, `WasPassed`, `IsUnlisted`, `WasUnlisted`, `IsDisallowed`, `IsPlainScan`, `HasBrokenOff`,
+-- `AreScans`)**: a flatbed with a page in memory, and a feeder with some; a history of these devices, users and one
+-- job, and a world to which it led; that the job is done there, and right; a list of all devices; a show of a flatbed's
+-- options; that the password was allowed for a challenge; a device that was not listed, a password that is not
+-- allowed; a scan in whose way nothing stands, and one that broke off; the files of a batch's first two pages.
 --
 -- a page in memory: at each pass the same, and it cannot fail
 abbrev pub memory_source : PageView → SourceState
@@ -105,6 +105,10 @@ WasPassed devices users job =
 -- as it asked for its device, none of the name was listed
 abbrev pub IsUnlisted : History → WorldCore → ℕ → Job → Type 0
 IsUnlisted h w i job = (asked : Asked h w i IsAtOpen) × (find_name job.device asked.at.before.daemon.registry ≡ None)
+
+-- a history of these devices and users and of one job led to a world in which that is so
+abbrev pub WasUnlisted : List DeviceState → List Entry → Job → Type 0
+WasUnlisted devices users job = (from : LedFrom devices users job) × IsUnlisted from.history from.world 0 job
 
 -- its user and password were not allowed for the challenge that was sent
 abbrev pub IsDisallowed : History → WorldCore → ℕ → Job → Type 0

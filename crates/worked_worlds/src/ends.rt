@@ -1,14 +1,13 @@
 //! How the one job of a world stands.
 
-ghost use Rattle.std.specs.Prelude.{◌≡◌, ◌≢◌, Some, true, false};
+ghost use Rattle.std.specs.Prelude.{◌≡◌, Some, true};
 ghost use Rattle.device_api.specs.State.{DeviceState};
 ghost use Rattle.sane_fixed.specs.declared.status.Status.TheVariants as statuses;
-ghost use Rattle.scan_job.specs.declared.outcome.Outcome.TheVariants.{Done, Ended};
-ghost use Rattle.scan_job.specs.declared.outcome.Outcome.{Outcome as AnOutcome};
-ghost use Rattle.scan_job.specs.declared.outcome.Why.TheVariants.{Memory};
+ghost use Rattle.scan_job.specs.declared.outcome.Outcome.TheVariants.{Done};
 ghost use Rattle.scan_job.specs.declared.report.Reports.{Reports};
 ghost use Rattle.event_world.specs.Worlds.{seen_world};
-ghost use Rattle.scan_world.specs.Calls.{outcome_at, starved_at};
+ghost use Rattle.scan_world.specs.Calls.{outcome_at};
+ghost use Rattle.worked_worlds.specs.Inside.{IsOtherEnd};
 ghost use Rattle.worked_worlds.specs.Worked.{SaysAnswered, SaysDone};
 
 use device_api::Device;
@@ -74,8 +73,7 @@ pub(crate) fn end_of(world: &World) -> End
     ensures done { let w = seen_world ⟦<Box<dyn Device> as Device>⟧.state world.now.inner in
         result ≡ End.Done → (reports : Reports) × (outcome_at w 0 ≡ Some (Done reports)) }
     ensures other { let w = seen_world ⟦<Box<dyn Device> as Device>⟧.state world.now.inner in
-        result ≡ End.Other → (starved_at w 0 ≡ false) × ((o : AnOutcome) → outcome_at w 0 ≡ Some o
-        → ((reports : Reports) → o ≢ Done reports) × (o ≢ Ended statuses.NoMem Memory)) }
+        result ≡ End.Other → IsOtherEnd w }
 {
     if world.starved(0) {
         return End::OutOfMemory;

@@ -6,7 +6,7 @@ ghost use Rattle.page_picture.specs.declared.scene.DeviceKind.TheVariants.{Flatb
 ghost use Rattle.device_api.specs.Values.{defaults};
 ghost use Rattle.sane_fixed.specs.declared.byte_order.ByteOrder.TheVariants.{Little};
 ghost use Rattle.event_world.specs.declared.event.Event.TheVariants.{Unplug};
-ghost use Rattle.worked_worlds.specs.Worked.{IsUnlisted, LedFrom, flatbed_with};
+ghost use Rattle.worked_worlds.specs.Worked.{WasUnlisted, flatbed_with};
 
 use crate::ends::was_invalid;
 use crate::worlds::{flatbed_on, one_box, one_job};
@@ -41,8 +41,7 @@ pub fn scan_of_taken_out(
     /// since that was not listed as the job asked for it.
     ensures { result ≡ true → job.settings.items ≡ [] → job.device ≡ name
         → meaning_of page (defaults Flatbed Little).scene ≢ None
-        → (from : LedFrom (flatbed_with name page ∷ []) users job)
-        × IsUnlisted from.history from.world 0 job }
+        → WasUnlisted (flatbed_with name page ∷ []) users job }
 {
     let Some(flatbed) = flatbed_on(alloc, name, page) else {
         return false;

@@ -1,7 +1,7 @@
-ghost use Rattle.std.specs.Prelude.{ℕ, ◌≡◌, ◌≤◌, ◌<◌, ◌+◌, ◌-◌, ◌*◌, ◌/◌, ◌%◌, ◌^◌, ◌++◌, length, slice_index, slice_range, true, false, Ok, min, max, IfOk, IfErr, MatchBool, OnOk, OnErr};
+ghost use Rattle.std.specs.Prelude.{ℕ, ◌≡◌, ◌≤◌, ◌<◌, ◌+◌, ◌-◌, ◌*◌, ◌/◌, ◌%◌, ◌^◌, ◌++◌, length, slice_index, slice_range, true, false, Ok, min, max, IfOk, IfErr, OnOk, OnErr};
 ghost use Rattle.netpbm.specs.Pnm.{sample_bytes};
-ghost use Rattle.netpbm.specs.Raster.{NoneAbove, SomeAbove, sample_count};
-ghost use Rattle.page_picture.specs.Inside.{FailsWithin, IsPageHeader, IsRaster, ReadsRaster, ShowsRow, GivesPartOf, GivesRowOf, GivesThirdsOf, HasRows, unused_bytes, row_count, row_header, file_row_size, third_byte, HasOpenFaultAfter, IsOfFile};
+ghost use Rattle.netpbm.specs.Raster.{NoneAbove};
+ghost use Rattle.page_picture.specs.Inside.{FailsWithin, IsPageHeader, IsRaster, ReadsRaster, ShowsRow, GivesPartOf, HasRows, TakesPart, TakesRow, TakesRowAt, TakesThirds, TellsFit, row_room, unused_bytes, row_count, row_header, file_row_size, third_byte, HasOpenFaultAfter, IsOfFile};
 
 use crate::page_file::PageFault;
 use crate::rereadable::Rereadable;
@@ -317,10 +317,9 @@ fn take_row<R: Rereadable>(
     ensures place { IfOk result (λ from. from + file_row_size header.now ≤ length bytes.new) }
     ensures fits { IfOk result (λ from. NoneAbove header.now.maxval
         (slice_range bytes.new from (from + file_row_size header.now)) (row_count header.now)) }
-    ensures read { IfOk result (λ from. R.is_kept reader.old ≡ true
-        → unused_bytes (file_row_size header.now) held.old bytes.old (R.left reader.old)
-        ≡ slice_range bytes.new from (from + file_row_size header.now)
-        ++ unused_bytes (file_row_size header.now) held.new bytes.new (R.left reader.new)) }
+    ensures read { IfOk result (λ from. R.is_kept reader.old ≡ true → TakesRowAt header.now
+        (row_room held.old bytes.old (R.left reader.old)) from
+        (row_room held.new bytes.new (R.left reader.new))) }
     ensures failed { OnErr result (R.is_kept reader.old ≡ true
         → HasRows header.now rows
         (unused_bytes (file_row_size header.now) held.old bytes.old (R.left reader.old))
@@ -361,9 +360,9 @@ pub fn read_row<R: Rereadable>(
     ensures held { held.new ≤ rows }
     ensures next { OnOk result (held.new + 1 ≤ rows) }
     ensures within { held.new * file_row_size header.now ≤ length bytes.new }
-    ensures read { OnOk result (R.is_kept reader.old ≡ true → GivesRowOf header.now
-        (unused_bytes (file_row_size header.now) held.old bytes.old (R.left reader.old))
-        (unused_bytes (file_row_size header.now) held.new bytes.new (R.left reader.new)) row.new) }
+    ensures read { OnOk result (R.is_kept reader.old ≡ true → TakesRow header.now
+        (row_room held.old bytes.old (R.left reader.old))
+        (row_room held.new bytes.new (R.left reader.new)) row.new) }
     ensures failed { OnErr result (R.is_kept reader.old ≡ true
         → HasRows header.now rows
         (unused_bytes (file_row_size header.now) held.old bytes.old (R.left reader.old))
@@ -427,9 +426,9 @@ pub fn read_row_bytes<R: Rereadable>(
     ensures held { held.new ≤ rows }
     ensures next { OnOk result (held.new + 1 ≤ rows) }
     ensures within { held.new * file_row_size header.now ≤ length bytes.new }
-    ensures read { OnOk result (R.is_kept reader.old ≡ true → GivesPartOf header.now at
-        (unused_bytes (file_row_size header.now) held.old bytes.old (R.left reader.old))
-        (unused_bytes (file_row_size header.now) held.new bytes.new (R.left reader.new)) part.new) }
+    ensures read { OnOk result (R.is_kept reader.old ≡ true → TakesPart header.now at
+        (row_room held.old bytes.old (R.left reader.old))
+        (row_room held.new bytes.new (R.left reader.new)) part.new) }
     ensures failed { OnErr result (R.is_kept reader.old ≡ true
         → HasRows header.now rows
         (unused_bytes (file_row_size header.now) held.old bytes.old (R.left reader.old))
@@ -484,9 +483,9 @@ pub fn read_row_thirds<R: Rereadable>(
     ensures held { held.new ≤ rows }
     ensures next { OnOk result (held.new + 1 ≤ rows) }
     ensures within { held.new * file_row_size header.now ≤ length bytes.new }
-    ensures read { OnOk result (R.is_kept reader.old ≡ true → GivesThirdsOf header.now at
-        (unused_bytes (file_row_size header.now) held.old bytes.old (R.left reader.old))
-        (unused_bytes (file_row_size header.now) held.new bytes.new (R.left reader.new)) part.new) }
+    ensures read { OnOk result (R.is_kept reader.old ≡ true → TakesThirds header.now at
+        (row_room held.old bytes.old (R.left reader.old))
+        (row_room held.new bytes.new (R.left reader.new)) part.new) }
     ensures failed { OnErr result (R.is_kept reader.old ≡ true
         → HasRows header.now rows
         (unused_bytes (file_row_size header.now) held.old bytes.old (R.left reader.old))
@@ -519,8 +518,7 @@ fn check_rows<R: Rereadable>(
         → FailsWithin (R.is_kept reader.old) reads.old
         (R.left reader.old) (R.faults reader.old) (R.faults reader.new)) }
     ensures fits { IfOk result (λ fits. R.is_kept reader.old ≡ true
-        → MatchBool fits (NoneAbove header.now.maxval (R.left reader.old) (sample_count header.now))
-        (SomeAbove header.now.maxval (R.left reader.old) (sample_count header.now))) }
+        → TellsFit fits header.now (R.left reader.old)) }
     ensures file { IfErr result (λ fault. IsOfFile fault) }
     ensures fault { IfErr result (λ fault. R.is_kept reader.old ≡ true
         → HasOpenFaultAfter fault header.now (R.left reader.old)) }

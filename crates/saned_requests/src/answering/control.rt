@@ -1,12 +1,12 @@
 //! CONTROL_OPTION.
 
-ghost use Rattle.std.specs.Prelude.{◌≡◌, ◌⊎◌, [], option_map, IfOk, IfErr, OnErr, slice_get};
-ghost use Rattle.rand_chacha.specs.ChaCha.{ChaCha};
+ghost use Rattle.std.specs.Prelude.{◌≡◌, [], option_map, IfOk, IfErr, OnErr, slice_get};
 ghost use Rattle.device_api.specs.Options.{descriptors_of};
 ghost use Rattle.device_api.specs.State.{get_answer};
 ghost use Rattle.dispatch.specs.Table.{seen_lease, table};
 ghost use Rattle.saned_requests.specs.Holding.{seen_held, held_by};
-ghost use Rattle.saned_requests.specs.RequestAnswers.{request_context, IsContextOutcome, GivesReply, control, control_held, control_lease, control_device, set_at, asked_at, kind_of, got_reply, refused_control};
+ghost use Rattle.saned_requests.specs.Inside.{GoesBy, StaysOrGoesBy};
+ghost use Rattle.saned_requests.specs.RequestAnswers.{GivesReply, control, control_held, control_lease, control_device, set_at, asked_at, kind_of, got_reply, refused_control};
 ghost use Rattle.saned_requests.specs.OptionValues.{size_of};
 
 use crate::answering::option_values::{sent_as, value_asked};
@@ -204,14 +204,10 @@ pub fn control<D: Device>(
     kind: Kind,
     value: WireValue,
 ) -> Result<RequestAnswer, NoMem>
-    ensures ok { IfOk result (λ said. (registry : _) (stream : ChaCha)
-        → IsContextOutcome (control (request_context D.state session.old registry stream)
-        word option action kind value) said (request_context D.state session.new registry stream)) }
-    ensures err { OnErr result ((registry : _) (stream : ChaCha)
-        → (request_context D.state session.new registry stream
-        ≡ request_context D.state session.old registry stream)
-        ⊎ (request_context D.state session.new registry stream ≡ (control
-        (request_context D.state session.old registry stream) word option action kind value).1)) }
+    ensures ok { IfOk result (λ said. GoesBy D.state
+        (λ d. control d word option action kind value) session.old said session.new) }
+    ensures err { OnErr result (StaysOrGoesBy D.state
+        (λ d. (control d word option action kind value).1) session.old session.new) }
 {
     let reply = control_held(
         alloc,

@@ -3,7 +3,8 @@
 ghost use Rattle.std.specs.Prelude.{◌≡◌, None, IfOk, OnErr};
 ghost use Rattle.rand_chacha.specs.ChaCha.{ChaCha};
 ghost use Rattle.dispatch.specs.Table.{table};
-ghost use Rattle.saned_requests.specs.RequestAnswers.{request_context, IsContextOutcome, Answers, AnswersFree, AnswersAwaiting, OutOfMemoryAt, OutOfMemoryFree, with_awaited, devices_answer, first_answer, greeting};
+ghost use Rattle.saned_requests.specs.Inside.{GoesBy};
+ghost use Rattle.saned_requests.specs.RequestAnswers.{request_context, Answers, AnswersFree, AnswersAwaiting, OutOfMemoryAt, OutOfMemoryFree, with_awaited, devices_answer, first_answer, greeting};
 
 use crate::answering::control::control;
 use crate::answering::open_requests::{authorize, open};
@@ -95,9 +96,7 @@ fn answer_free<D: Device>(
 
 /// The first request, which is INIT.
 fn answer_first<D: Device>(session: &mut Session<D>, request: Request) -> RequestAnswer
-    ensures { (registry : _) (stream : ChaCha)
-        → IsContextOutcome (first_answer (request_context D.state session.old registry stream)
-        request) result (request_context D.state session.new registry stream) }
+    ensures { GoesBy D.state (λ d. first_answer d request) session.old result session.new }
 {
     match request {
         Request::Init { version, user: _ } => {

@@ -4,6 +4,7 @@ ghost use Rattle.std.specs.Prelude.{◌≡◌, ◌≢◌, ◌<◌, List, None, o
 ghost use Rattle.rand_chacha.specs.ChaCha.{ChaCha};
 ghost use Rattle.dispatch.specs.Table.{seen_lease, table};
 ghost use Rattle.saned_requests.specs.Holding.{seen_held, seen_session, held_by, on_word, is_some_lease};
+ghost use Rattle.saned_requests.specs.Inside.{GoesBy};
 ghost use Rattle.saned_requests.specs.RequestAnswers.{data_phase_off, options_of_lease, params_reply_of, no_params, IsContextOutcome, request_context, close, cancel, options_reply, params_reply};
 
 use crate::cancelling::cancel_word;
@@ -87,9 +88,7 @@ pub fn close<D: Device>(
 
 /// CANCEL.
 pub fn cancel<D: Device>(session: &mut Session<D>, word: u32) -> RequestAnswer
-    ensures { (registry : _) (stream : ChaCha)
-        → IsContextOutcome (cancel (request_context D.state session.old registry stream) word)
-        result (request_context D.state session.new registry stream) }
+    ensures { GoesBy D.state (λ d. cancel d word) session.old result session.new }
 {
     let word = word as usize;
     if has_lease(&session.held, word) {
@@ -135,9 +134,8 @@ pub fn options<D: Device>(
     session: &Session<D>,
     word: u32,
 ) -> Result<RequestAnswer, NoMem>
-    ensures { IfOk result (λ said. (registry : _) (stream : ChaCha)
-        → IsContextOutcome (options_reply (request_context D.state session.now registry stream)
-        word) said (request_context D.state session.now registry stream)) }
+    ensures { IfOk result (λ said.
+        GoesBy D.state (λ d. options_reply d word) session.now said session.now) }
 {
     let all = options_at(alloc, &session.held, word as usize)?;
     Ok(RequestAnswer::One(Reply::GetOptionDescriptors {
@@ -189,9 +187,7 @@ fn params_at<D: Device>(held: &[Option<Lease<D>>], word: usize) -> Reply
 
 /// GET_PARAMETERS.
 pub fn params<D: Device>(session: &Session<D>, word: u32) -> RequestAnswer
-    ensures { (registry : _) (stream : ChaCha)
-        → IsContextOutcome (params_reply (request_context D.state session.now registry stream) word)
-        result (request_context D.state session.now registry stream) }
+    ensures { GoesBy D.state (λ d. params_reply d word) session.now result session.now }
 {
     RequestAnswer::One(params_at(&session.held, word as usize))
 }

@@ -1,7 +1,7 @@
 //! A page file gives the upper bytes of its rows, in gray or in color as it is, and the bytes of one channel.
 
 ghost use Rattle.std.specs.Prelude.{◌≡◌, ◌≤◌, ◌<◌, ◌+◌, ◌*◌, ◌%◌, true, false, length, OnErr};
-ghost use Rattle.page_picture.specs.Source.{GivesRowBytes, GivesChannel, byte_place, bytes_in};
+ghost use Rattle.page_picture.specs.Source.{GivesRowBytes, GivesChannel, byte_place, bytes_in, source_and_bytes};
 ghost use Rattle.page_picture.specs.PnmState.{LosesRows};
 ghost use Rattle.page_picture.specs.Inside.{HasSamplesOf};
 
@@ -38,8 +38,8 @@ impl<R: Rereadable + Drop> ByteRows for PnmPage<R> {
         requires { byte_place mode first 0 + length bytes.old
             ≤ byte_place mode self.old.shown.page.width 0 }
         ensures bytes { GivesRowBytes mode first
-            (record { source = self.old.shown; bytes = bytes.old }) result
-            (record { source = self.new.shown; bytes = bytes.new }) }
+            (source_and_bytes self.old.shown bytes.old) result
+            (source_and_bytes self.new.shown bytes.new) }
         ensures lost { LosesRows result self.new }
         // As `next_row`: over a reader that keeps its bytes only where a call of the reader fails, or the rows are lost.
         ensures failed { OnErr result (self.old.shown.steady ≡ true
@@ -83,8 +83,8 @@ impl<R: Rereadable + Drop> ByteRows for PnmPage<R> {
         requires inside { bytes_in which * first + length bytes.old
             ≤ bytes_in which * self.old.shown.page.width }
         ensures bytes { GivesChannel (record { which = which; channel = channel; first = first })
-            (record { source = self.old.shown; bytes = bytes.old }) result
-            (record { source = self.new.shown; bytes = bytes.new }) }
+            (source_and_bytes self.old.shown bytes.old) result
+            (source_and_bytes self.new.shown bytes.new) }
         ensures lost { LosesRows result self.new }
         // As `next_row`: over a reader that keeps its bytes only where a call of the reader fails, or the rows are lost.
         ensures failed { OnErr result (self.old.shown.steady ≡ true

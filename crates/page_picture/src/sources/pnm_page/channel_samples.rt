@@ -1,7 +1,7 @@
 //! A page file in color gives the bytes of one channel of its rows, where the bytes of a sample are those of its number.
 
 ghost use Rattle.std.specs.Prelude.{◌≡◌, ◌≤◌, ◌<◌, ◌+◌, ◌*◌, ◌%◌, true, false, length, OnErr};
-ghost use Rattle.page_picture.specs.Source.{GivesChannel, bytes_in};
+ghost use Rattle.page_picture.specs.Source.{GivesChannel, bytes_in, source_and_bytes};
 ghost use Rattle.page_picture.specs.PnmState.{LosesRows};
 ghost use Rattle.page_picture.specs.Inside.{HasChannels};
 
@@ -38,8 +38,8 @@ impl<R: Rereadable> PnmPage<R> {
         requires inside { bytes_in which * first + length bytes.old
             ≤ bytes_in which * self.old.shown.page.width }
         ensures bytes { GivesChannel (record { which = which; channel = channel; first = first })
-            (record { source = self.old.shown; bytes = bytes.old }) result
-            (record { source = self.new.shown; bytes = bytes.new }) }
+            (source_and_bytes self.old.shown bytes.old) result
+            (source_and_bytes self.new.shown bytes.new) }
         ensures lost { LosesRows result self.new }
         // As `next_row`: over a reader that keeps its bytes only where a call of the reader fails, or the rows are lost.
         ensures failed { OnErr result (self.old.shown.steady ≡ true
