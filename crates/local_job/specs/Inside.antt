@@ -1,7 +1,7 @@
 -- What private functions promise of a job on a scanner: of its settings, of the frames on their way from the scanner to
 -- the output, and of the pages of a batch.
 use Rattle.std.specs.Prelude.{ℕ, Option, Some, None, Result, Ok, Err, List, [], ◌∷◌, ◌++◌, slice_get, suc, ◌+◌, ◌≡◌}
-use Rattle.std.specs.Prelude.{◌≤◌, ◌⊎◌, take, length, Bool, true, false}
+use Rattle.std.specs.Prelude.{◌≤◌, ◌≢◌, ◌⊎◌, take, length, Bool, true, false}
 use Rattle.std.specs.Option.{option_map_or}
 use Rattle.std.specs.Io.KnownBytes.{Appends}
 use Rattle.sane_fixed.specs.declared.status.Status.{Status}
@@ -24,12 +24,15 @@ use Rattle.netpbm.specs.Picture.{Picture}
 use Rattle.netpbm.specs.Pnm.{Denotes, IsWhole}
 use Rattle.page_picture.specs.Shows.{Frame, ShowsFrames}
 use Rattle.frame_join.specs.FrameHistory.{JoinHistory, IsJoined, after_pull, is_full, is_joined}
+use Rattle.frame_join.specs.AloneFrame.{most_bytes}
 use Rattle.frame_join.specs.JoinStates.{JoinState, Represents}
 use Rattle.page_picture.specs.Page.{PageView}
-use Rattle.scan_frames.specs.Frames.{payload, pass_length, params_at, last_pass}
-use Rattle.device_api.specs.State.{DeviceState, AtRest, Between, Reading, page_of, steady_of, with_setup}
+use Rattle.scan_frames.specs.Frames.{has_picture, payload, pass_length, params_at, last_pass}
+use Rattle.device_api.specs.State.{DeviceState, AtRest, Between, Reading, page_of, params_of, next_pass}
+use Rattle.device_api.specs.State.{steady_of, with_setup}
 use Rattle.frame_join.specs.declared.join_stage.JoinFault.TheVariants.{Short as JoinShort}
 use Rattle.local_job.specs.FrameReading.{IsScanned}
+use Rattle.local_job.specs.ScanCauses.{ScanHasCause}
 use Rattle.scan_job.specs.Shelves.{Stock, ReturnedOutput}
 use Rattle.scan_job.specs.FileOutputs.{AreLeft, TakesBack, returned_output}
 use Rattle.local_job.specs.LocalPages.{IsFileOfFirstPage}
@@ -160,11 +163,42 @@ pub record JoinAndOutput : Type 0 where
   pub join : JoinState
   pub contents : Option (List ℕ)
 
+abbrev pub join_and_output : JoinState → Option (List ℕ) → JoinAndOutput
+join_and_output join contents = record { join = join; contents = contents }
+
+-- whichever frame the join is inside: this holds of what is under way
+abbrev pub IfInside : JoinAndOutput → (FrameUnderWay → Type 0) → Type 0
+IfInside was P = (first : Option (List ℕ)) (past : JoinHistory) (frame : Frame)
+    → JoinIsInside past frame first was.join was.contents → P (record { past = past; frame = frame; first = first })
+
+-- these bytes came into the frame under way, and the output took what was given
+abbrev pub HasTakenMore : FrameUnderWay → List ℕ → JoinAndOutput → Type 0
+HasTakenMore under bytes now =
+    FeedsJoin under.past (record under.frame { payload = under.frame.payload ++ bytes }) under.first now.join
+    now.contents
+
+-- the frame under way has room for these bytes
+abbrev pub HasRoomForMore : FrameUnderWay → List ℕ → Type 0
+HasRoomForMore under bytes = length under.frame.payload + length bytes ≤ most_bytes under.frame.params
+
+-- a frame of the pass that a scanner reads, before its first byte
+abbrev pub new_frame : DeviceState → Frame
+new_frame s = record { params = params_of s; order = s.setup.order; payload = [] }
+
 -- a frame has begun, on the scanner and in the join
 pub record FrameHasBegun (s : DeviceState) (pass : ℕ) (under : FrameUnderWay) (now : JoinAndOutput) : Type 0 where
   pub at : s.phase ≡ Reading pass 0
   pub inside : JoinIsInside under.past under.frame under.first now.join now.contents
   pub empty : under.frame.payload ≡ []
+
+-- whichever frame has begun: this holds of its pass, and of what was under way
+abbrev pub IfBegun : DeviceState → JoinAndOutput → (ℕ → FrameUnderWay → Type 0) → Type 0
+IfBegun s was P = (pass : ℕ) (under : FrameUnderWay) → FrameHasBegun s pass under was → P pass under
+
+-- what ends the scan in a frame has a cause, where the frame has room for all bytes of its pass
+abbrev pub FrameHasCause : Stop → DeviceState → DeviceState → ℕ → FrameUnderWay → Type 0
+FrameHasCause stop old new pass under = pass_length old.setup (page_of old) pass ≤ most_bytes under.frame.params
+    → ScanHasCause stop old new
 
 -- of the frame under way so many bytes came; they are the front of the pass's bytes where the page's source is steady
 pub record IsReadTo (s : DeviceState) (pass given : ℕ) (under : FrameUnderWay) (now : JoinAndOutput) : Type 0 where
@@ -205,6 +239,10 @@ pub record HasJoined (s : DeviceState) (pass : ℕ) (first : Option (List ℕ)) 
 abbrev pub IsAllOrNone : DeviceState → ℕ → ℕ → Type 0
 IsAllOrNone s pass given = (given ≡ pass_length s.setup (page_of s) pass) ⊎ ((given ≡ 0) × (s.setup.told ≡ Some Eof))
 
+-- of the frame under way all bytes of its pass came, or none, where `read-return-value` tells of its end
+abbrev pub IsReadThrough : DeviceState → ℕ → FrameUnderWay → JoinAndOutput → Type 0
+IsReadThrough s pass under now = (given : ℕ) × IsAllOrNone s pass given × IsReadTo s pass given under now
+
 -- the frame had all its bytes, and the output took what was given; the picture is whole or not
 pub record JoinsFrame (past : JoinHistory) (frame : Frame) (is_whole : Bool) (first : Option (List ℕ))
     (now : JoinAndOutput) : Type 0 where
@@ -219,12 +257,29 @@ pub record ScanState : Type 0 where
   pub join : JoinState
   pub contents : Option (List ℕ)
 
+abbrev pub scan_state : DeviceState → JoinState → Option (List ℕ) → ScanState
+scan_state device join contents = record { device = device; join = join; contents = contents }
+
+-- whatever the output held first: where the passes before the next one are joined, this holds of it
+abbrev pub IfJoined : ScanState → (Option (List ℕ) → Type 0) → Type 0
+IfJoined was P = (first : Option (List ℕ))
+    → HasJoined was.device (next_pass was.device.phase) first was.join was.contents → P first
+
+-- what ends the scan of a page of which the options mean a picture has a cause
+abbrev pub MeantHasCause : Stop → DeviceState → DeviceState → Type 0
+MeantHasCause stop old new = old.pages ≢ [] → has_picture old.setup (page_of old) ≡ true → ScanHasCause stop old new
+
 -- The pass of that number was read and joined: the picture is whole, its file went out and the scanner is at rest, or
 -- the scanner waits for the next pass.
 abbrev pub HasScannedPass : DeviceState → ℕ → Bool → Option (List ℕ) → ScanState → Type 0
 HasScannedPass s pass true first now = (now.device.phase ≡ AtRest false) × IsScanned s first now.contents
 HasScannedPass s pass false first now = (now.device.phase ≡ Between (pass + 1))
     × HasJoined s (pass + 1) first now.join now.contents
+
+-- the next pass was, behind those that are joined
+abbrev pub ScansNextPass : ScanState → Bool → ScanState → Type 0
+ScansNextPass was is_whole now =
+    IfJoined was (λ first. HasScannedPass was.device (next_pass was.device.phase) is_whole first now)
 
 -- where the end of a frame is refused: one that has all its bytes, by the output alone, and another is short
 abbrev pub FrameEndsAs : Bool → Stop → Type 0

@@ -45,6 +45,9 @@ pub record DeviceAndShelf : Type 0 where
   pub device : DeviceState
   pub stock : Option Stock
 
+abbrev pub with_shelf : DeviceState → Option Stock → DeviceAndShelf
+with_shelf device stock = record { device = device; stock = stock }
+
 -- **pages scanned (`AreScanned`)**: one file for each page: whole, and of the meaning of the options on the scanner's
 -- first page where its source is steady; the next is that of the scanner that the page before left.
 --

@@ -82,6 +82,9 @@ pub record DeviceAndOutput : Type 0 where
   pub device : DeviceState
   pub output : Option (List ℕ)
 
+abbrev pub with_file : DeviceState → Option (List ℕ) → DeviceAndOutput
+with_file device output = record { device = device; output = output }
+
 -- **done (`IsDone`), ended by (`IsEndedBy`), leaves no file (`LeavesNoFile`)**: the settings that the task puts are in
 -- force and reported, the task told and wrote what it should, and the scanner is left as after a reset, at rest and not
 -- cancelled, with the options of the settings; what ends a job: its size, a task that wants more than one file, the

@@ -1,15 +1,10 @@
-ghost use Rattle.std.specs.Prelude.{◌≡◌, ◌<◌, ◌≤◌, ◌+◌, ◌++◌, ◌⊎◌, Some, Option, List, ℕ, OnOk, OnErr, length, true};
-ghost use Rattle.page_picture.specs.Shows.{Frame};
-ghost use Rattle.frame_join.specs.FrameHistory.{JoinHistory};
-ghost use Rattle.frame_join.specs.AloneFrame.{most_bytes};
-ghost use Rattle.scan_frames.specs.Frames.{pass_length};
-ghost use Rattle.local_job.specs.Inside.{FeedsJoin, IsAllOrNone, FrameUnderWay, FrameHasBegun, JoinIsInside, IsReadTo};
+ghost use Rattle.std.specs.Prelude.{◌≡◌, ◌<◌, ◌⊎◌, Some, ℕ, OnOk, OnErr, length, true};
+ghost use Rattle.local_job.specs.Inside.{FrameHasCause, HasRoomForMore, HasTakenMore, IfBegun, IfInside, IsReadThrough, join_and_output};
 ghost use Rattle.scan_job.specs.FileOutputs.{StopsShort};
 ghost use Rattle.std.specs.Prelude.{◌≢◌, IfErr};
 ghost use Rattle.sane_fixed.specs.declared.status.Status.TheVariants.{Good, NoDocs};
-ghost use Rattle.device_api.specs.State.{Reading, after_pass, goes_to, page_of};
+ghost use Rattle.device_api.specs.State.{Reading, after_pass, goes_to};
 ghost use Rattle.local_job.specs.FrameReading.{IsRefusal, KeepsDevice};
-ghost use Rattle.local_job.specs.ScanCauses.{ScanHasCause};
 ghost use Rattle.scan_job.specs.Stops.{no_memory, failed_output};
 ghost use Rattle.scan_job.specs.declared.outcome.Why.TheVariants.{Sink};
 
@@ -33,23 +28,20 @@ fn take_piece<W: Outlet>(
     requires { 0 < length room.old }
     ensures room { length room.new ≡ length room.old }
     ensures becomes { (first : W) → W.Becomes first out.old → W.Becomes first out.new }
-    ensures taken { OnOk result ((first : Option (List ℕ)) (past : JoinHistory) (frame : Frame)
-        → JoinIsInside past frame first join.old (W.contents out.old)
-        → FeedsJoin past (record frame { payload = frame.payload ++ bytes.now }) first join.new
-        (W.contents out.new)) }
-    ensures short { OnErr result ((first : Option (List ℕ)) (past : JoinHistory) (frame : Frame)
-        → JoinIsInside past frame first join.old (W.contents out.old)
-        → StopsShort first (W.contents out.new)) }
+    ensures taken { OnOk result
+        (IfInside (join_and_output join.old (W.contents out.old)) (λ under.
+        HasTakenMore under bytes.now (join_and_output join.new (W.contents out.new)))) }
+    ensures short { OnErr result
+        (IfInside (join_and_output join.old (W.contents out.old)) (λ under.
+        StopsShort under.first (W.contents out.new))) }
     ensures refusal { IfErr result (λ stop. IsRefusal stop) }
     ensures output { IfErr result (λ stop. stop.why ≡ Sink
-        → (first : Option (List ℕ)) (past : JoinHistory) (frame : Frame)
-        → JoinIsInside past frame first join.old (W.contents out.old)
-        → outputs.new.failed ≡ true) }
+        → IfInside (join_and_output join.old (W.contents out.old)) (λ under.
+        outputs.new.failed ≡ true)) }
     // Bytes that the frame has room for are never too many.
-    ensures cause { IfErr result (λ stop. (first : Option (List ℕ)) (past : JoinHistory)
-        (frame : Frame) → JoinIsInside past frame first join.old (W.contents out.old)
-        → length frame.payload + length bytes.now ≤ most_bytes frame.params
-        → (stop ≡ no_memory) ⊎ (stop ≡ failed_output)) }
+    ensures cause { IfErr result (λ stop.
+        IfInside (join_and_output join.old (W.contents out.old)) (λ under.
+        HasRoomForMore under bytes.now → (stop ≡ no_memory) ⊎ (stop ≡ failed_output))) }
 {
     not_whole_before();
     join.feed(bytes);
@@ -77,16 +69,13 @@ pub fn read_frame<W: Outlet>(
     requires told { (state device.old).setup.told ≢ Some Good }
     ensures room { length room.new ≡ length room.old }
     ensures becomes { (first : W) → W.Becomes first out.old → W.Becomes first out.new }
-    ensures read { OnOk result ((pass : ℕ) (under : FrameUnderWay)
-        → FrameHasBegun (state device.old) pass under
-        (record { join = join.old; contents = W.contents out.old })
-        → (given : ℕ) × IsAllOrNone (state device.old) pass given
-        × IsReadTo (state device.old) pass given under
-        (record { join = join.new; contents = W.contents out.new })) }
-    ensures short { OnErr result ((pass : ℕ) (under : FrameUnderWay)
-        → FrameHasBegun (state device.old) pass under
-        (record { join = join.old; contents = W.contents out.old })
-        → StopsShort under.first (W.contents out.new)) }
+    ensures read { OnOk result
+        (IfBegun (state device.old) (join_and_output join.old (W.contents out.old)) (λ pass under.
+        IsReadThrough (state device.old) pass under
+        (join_and_output join.new (W.contents out.new)))) }
+    ensures short { OnErr result
+        (IfBegun (state device.old) (join_and_output join.old (W.contents out.old)) (λ pass under.
+        StopsShort under.first (W.contents out.new))) }
     ensures ended { OnOk result ((pass : ℕ)
         → (state device.old).phase ≡ Reading pass 0 → state device.new
         ≡ goes_to (state device.old) (after_pass (state device.old).setup pass)) }
@@ -96,17 +85,13 @@ pub fn read_frame<W: Outlet>(
     ensures untold { OnOk result ((pass : ℕ)
         → (state device.old).phase ≡ Reading pass 0 → (state device.old).setup.told ≢ Some NoDocs) }
     // Where the frame has room for the bytes of its pass.
-    ensures cause { IfErr result (λ stop. (pass : ℕ) (under : FrameUnderWay)
-        → FrameHasBegun (state device.old) pass under
-        (record { join = join.old; contents = W.contents out.old })
-        → pass_length (state device.old).setup (page_of (state device.old)) pass
-        ≤ most_bytes under.frame.params
-        → ScanHasCause stop (state device.old) (state device.new)) }
+    ensures cause { IfErr result (λ stop.
+        IfBegun (state device.old) (join_and_output join.old (W.contents out.old))
+        (FrameHasCause stop (state device.old) (state device.new))) }
     // What a read answers is never told as an output that failed.
-    ensures output { IfErr result (λ stop. stop.why ≡ Sink → (pass : ℕ) (under : FrameUnderWay)
-        → FrameHasBegun (state device.old) pass under
-        (record { join = join.old; contents = W.contents out.old })
-        → outputs.new.failed ≡ true) }
+    ensures output { IfErr result (λ stop. stop.why ≡ Sink
+        → IfBegun (state device.old) (join_and_output join.old (W.contents out.old)) (λ pass under.
+        outputs.new.failed ≡ true)) }
     ensures same { KeepsDevice (state device.old) (state device.new) }
 {
     not_whole_before();

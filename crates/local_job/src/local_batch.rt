@@ -7,6 +7,7 @@ ghost use Rattle.scan_job.specs.Outcomes.{IfDone, IfEnded, IsOver};
 ghost use Rattle.local_job.specs.FrameReading.{IsRefusal};
 ghost use Rattle.scan_job.specs.declared.outcome.Why.TheVariants.{Sink};
 ghost use Rattle.local_job.specs.LocalBatch.{pages_of_task, IsBatchDone, IsBatchEndedBy};
+ghost use Rattle.local_job.specs.LocalPages.{with_shelf};
 
 use crate::local_stop::bad_setting;
 use crate::pages::scan_pages;
@@ -48,12 +49,12 @@ fn do_batch<S: Shelf, T: Drop, F: FnOnce(&Reports) -> Result<T, NoMem> + Drop>(
     requires reset { state device.old ≡ after_reset (state device.old) }
     requires tell { F.IsAlwaysCallable tell }
     ensures done { IfOk result (λ done.
-        IsBatchDone job.now (record { device = state device.old; stock = S.stock shelf.old })
-        (record { device = state device.new; stock = S.stock shelf.new }) done.0) }
+        IsBatchDone job.now (with_shelf (state device.old) (S.stock shelf.old))
+        (with_shelf (state device.new) (S.stock shelf.new)) done.0) }
     ensures told { IfOk result (λ done. FnOnceReturnsAt F.FnOnce tell done.0 (Ok done.1)) }
     ensures stop { IfErr result (λ stop.
-        IsBatchEndedBy job.now (record { device = state device.old; stock = S.stock shelf.old })
-        (record { device = state device.new; stock = S.stock shelf.new }) stop) }
+        IsBatchEndedBy job.now (with_shelf (state device.old) (S.stock shelf.old))
+        (with_shelf (state device.new) (S.stock shelf.new)) stop) }
     ensures refusal { IfErr result (λ stop. IsRefusal stop) }
     ensures output { IfErr result (λ stop. stop.why ≡ Sink → outputs.new.failed ≡ true) }
 {
@@ -84,14 +85,22 @@ pub fn run_local_batch_with<S: Shelf, T: Drop, F: FnOnce(&Reports) -> Result<T, 
     tell: F,
 ) -> Result<(Reports, T), Stop>
     requires { F.IsAlwaysCallable tell }
-    // As `run_local_batch`.
+    /// Where `run_local_batch_with` is Done, its pages are those of the tray in their order, each scanned with the
+    /// settings in force, each file whole and of the meaning on its page (where the page's source is steady).
+    ///
+    /// The shelf kept them all, in order and numbered from 1; as many as were asked for, or fewer, at least one,
+    /// where no page was left.
+    /// Carried by: `done` of `run_local_batch_with`: `AreScanned`
     ensures done { IfOk result (λ done.
-        IsBatchDone job.now (record { device = state device.old; stock = S.stock shelf.old })
-        (record { device = state device.new; stock = S.stock shelf.new }) done.0) }
+        IsBatchDone job.now (with_shelf (state device.old) (S.stock shelf.old))
+        (with_shelf (state device.new) (S.stock shelf.new)) done.0) }
     ensures told { IfOk result (λ done. FnOnceReturnsAt F.FnOnce tell done.0 (Ok done.1)) }
+    /// Any other ending leaves the files of the pages that were finished, and at most one output more, which took no
+    /// whole file, and has its cause as a scan's; or the shelf refused the last page's output, and no other.
+    /// Carried by: `stop`, `refusal` of `run_local_batch_with`: `RefusesLast`, `EndsBehind`
     ensures stop { IfErr result (λ stop.
-        IsBatchEndedBy job.now (record { device = state device.old; stock = S.stock shelf.old })
-        (record { device = state device.new; stock = S.stock shelf.new }) stop) }
+        IsBatchEndedBy job.now (with_shelf (state device.old) (S.stock shelf.old))
+        (with_shelf (state device.new) (S.stock shelf.new)) stop) }
     ensures refusal { IfErr result (λ stop. IsRefusal stop) }
     /// A batch ends for its output only where it is noted, by then or before, that one failed: a write to it, or the
     /// shelf gave none, or refused it.
@@ -119,22 +128,14 @@ pub fn run_local_batch<S: Shelf>(
 ) -> Outcome
     // It is done, or has ended.
     ensures over { IsOver result }
-    /// Where `run_local_batch` is Done, its pages are those of the tray in their order, each scanned with the
-    /// settings in force, each file whole and of the meaning on its page (where the page's source is steady).
-    ///
-    /// The shelf kept them all, in order and numbered from 1; as many as were asked for, or fewer, at least one,
-    /// where no page was left.
-    /// Carried by: `done` of `run_local_batch`: `AreScanned`
+    // As `run_local_batch_with`.
     ensures done { IfDone result (λ reports.
-        IsBatchDone job.now (record { device = state device.old; stock = S.stock shelf.old })
-        (record { device = state device.new; stock = S.stock shelf.new }) reports) }
-    /// Any other ending leaves the files of the pages that were finished, and at most one output more, which took no
-    /// whole file, and has its cause as a scan's; or the shelf refused the last page's output, and no other.
-    /// Carried by: `ended`, `stop` of `run_local_batch`: `RefusesLast`, `EndsBehind`
+        IsBatchDone job.now (with_shelf (state device.old) (S.stock shelf.old))
+        (with_shelf (state device.new) (S.stock shelf.new)) reports) }
     ensures ended { IfEnded result (λ status why. (status ≢ Good) × (status ≢ Eof)) }
     ensures stop { IfEnded result (λ status why.
-        IsBatchEndedBy job.now (record { device = state device.old; stock = S.stock shelf.old })
-        (record { device = state device.new; stock = S.stock shelf.new })
+        IsBatchEndedBy job.now (with_shelf (state device.old) (S.stock shelf.old))
+        (with_shelf (state device.new) (S.stock shelf.new))
         (record { status = status; why = why })) }
     // The scanner is at rest.
     ensures rest { is_at_rest (state device.new).phase ≡ true }

@@ -4,7 +4,7 @@ ghost use Rattle.scan_frames.specs.Frames.{has_picture};
 ghost use Rattle.device_api.specs.State.{is_at_rest, page_of, state_at_rest, with_phase, AtRest};
 ghost use Rattle.local_job.specs.ScanCauses.{ScanHasCause};
 ghost use Rattle.local_job.specs.FrameReading.{IsRefusal, KeepsDevice};
-ghost use Rattle.local_job.specs.LocalPages.{AreScanned, StopsAt};
+ghost use Rattle.local_job.specs.LocalPages.{AreScanned, StopsAt, with_shelf};
 ghost use Rattle.local_job.specs.Inside.{FilesPage, LeavesPage};
 ghost use Rattle.local_job.specs.LocalStops.{stop_by_status};
 ghost use Rattle.scan_job.specs.declared.outcome.Why.TheVariants.{Sink};
@@ -103,14 +103,12 @@ fn scan_each<S: Shelf>(
     requires rest { is_at_rest (state device.old).phase ≡ true }
     requires piece { 0 < length piece.old }
     requires room { 0 < length room.old }
-    ensures done { OnOk result (AreScanned count (record {
-      device = state device.old;
-      stock
-          = S.stock shelf.old;
-    }) (record { device = state device.new; stock = S.stock shelf.new })) }
+    ensures done { OnOk result
+        (AreScanned count (with_shelf (state device.old) (S.stock shelf.old))
+        (with_shelf (state device.new) (S.stock shelf.new))) }
     ensures stop { IfErr result
-        (λ stop. StopsAt count (record { device = state device.old; stock = S.stock shelf.old })
-        (record { device = state device.new; stock = S.stock shelf.new }) stop) }
+        (λ stop. StopsAt count (with_shelf (state device.old) (S.stock shelf.old))
+        (with_shelf (state device.new) (S.stock shelf.new)) stop) }
     ensures refusal { IfErr result (λ stop. IsRefusal stop) }
     ensures output { IfErr result (λ stop. stop.why ≡ Sink → outputs.new.failed ≡ true) }
 {
@@ -135,14 +133,12 @@ pub fn scan_pages<S: Shelf>(
     outputs: &mut OutputTally,
 ) -> Result<(), Stop>
     requires { is_at_rest (state device.old).phase ≡ true }
-    ensures done { OnOk result (AreScanned count (record {
-      device = state device.old;
-      stock
-          = S.stock shelf.old;
-    }) (record { device = state device.new; stock = S.stock shelf.new })) }
+    ensures done { OnOk result
+        (AreScanned count (with_shelf (state device.old) (S.stock shelf.old))
+        (with_shelf (state device.new) (S.stock shelf.new))) }
     ensures stop { IfErr result
-        (λ stop. StopsAt count (record { device = state device.old; stock = S.stock shelf.old })
-        (record { device = state device.new; stock = S.stock shelf.new }) stop) }
+        (λ stop. StopsAt count (with_shelf (state device.old) (S.stock shelf.old))
+        (with_shelf (state device.new) (S.stock shelf.new)) stop) }
     ensures refusal { IfErr result (λ stop. IsRefusal stop) }
     ensures output { IfErr result (λ stop. stop.why ≡ Sink → outputs.new.failed ≡ true) }
 {

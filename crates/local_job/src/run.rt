@@ -6,7 +6,7 @@ ghost use Rattle.scan_job.specs.Outcomes.{IfDone, IfEnded, IsOver};
 ghost use Rattle.local_job.specs.FrameReading.{IsRefusal};
 ghost use Rattle.scan_job.specs.Stops.{no_memory};
 ghost use Rattle.scan_job.specs.declared.outcome.Why.TheVariants.{Sink};
-ghost use Rattle.local_job.specs.LocalRun.{settings_put, devices_reported, options_reported, IsDone, IsEndedBy, IsTakenJob, LeavesNoFile, ChangesDevice};
+ghost use Rattle.local_job.specs.LocalRun.{settings_put, devices_reported, options_reported, IsDone, IsEndedBy, IsTakenJob, LeavesNoFile, ChangesDevice, with_file};
 ghost use Rattle.local_job.specs.Inside.{KeepsPages};
 
 use crate::local_stop::bad_setting;
@@ -85,8 +85,8 @@ fn do_job<W: Write, T: Drop, F: FnOnce(&Reports) -> Result<T, NoMem> + Drop>(
     requires reset { state device.old ≡ after_reset (state device.old) }
     requires tell { F.IsAlwaysCallable tell }
     ensures done { IfOk result
-        (λ done. IsDone job.now (record { device = state device.old; output = W.contents out.old })
-        (record { device = state device.new; output = W.contents out.new }) done.0) }
+        (λ done. IsDone job.now (with_file (state device.old) (W.contents out.old))
+        (with_file (state device.new) (W.contents out.new)) done.0) }
     ensures told { IfOk result (λ done. FnOnceReturnsAt F.FnOnce tell done.0 (Ok done.1)) }
     ensures no_file { OnErr result (LeavesNoFile (W.contents out.old) (W.contents out.new)) }
     ensures refusal { IfErr result (λ stop. IsRefusal stop) }
@@ -125,18 +125,49 @@ pub fn run_local_with<W: Write, T: Drop, F: FnOnce(&Reports) -> Result<T, NoMem>
     tell: F,
 ) -> Result<(Reports, T), Stop>
     requires { F.IsAlwaysCallable tell }
-    // As `run_local`.
+    /// Where `run_local_with` answers Done its settings are in force, each reported with its option's kind, what its
+    /// text reads as, the admitted value nearest to that, and INEXACT just where they differ.
+    ///
+    /// A scan's output then took the whole file of a picture. It is exactly the meaning of the settings' scene on the
+    /// scanner's page where the page's source is steady.
+    ///
+    /// A list told the scanner and ignored the settings; a show told each option, with its value where it is active,
+    /// can be read and has one; these, and settings alone, wrote nothing.
+    ///
+    /// The scanner is left at rest, not cancelled, with the options of the settings.
+    /// Carried by: `done`, `rest` of `run_local_with`
     ensures done { IfOk result
-        (λ done. IsDone job.now (record { device = state device.old; output = W.contents out.old })
-        (record { device = state device.new; output = W.contents out.new }) done.0) }
+        (λ done. IsDone job.now (with_file (state device.old) (W.contents out.old))
+        (with_file (state device.new) (W.contents out.new)) done.0) }
     ensures told { IfOk result (λ done. FnOnceReturnsAt F.FnOnce tell done.0 (Ok done.1)) }
+    /// Any other ending has a status that is neither GOOD nor EOF, and the output took no whole file.
     ensures no_file { OnErr result (LeavesNoFile (W.contents out.old) (W.contents out.new)) }
     ensures refusal { IfErr result (λ stop. IsRefusal stop) }
     /// A job ends for its output only where it is noted that a write failed: with a tally in which nothing was noted
     /// before, neither a page that cannot be read nor what `read-return-value` names is told so.
     ensures output { IfErr result (λ stop. stop.why ≡ Sink → outputs.new.failed ≡ true) }
+    /// A job too large ends with INVAL (setting).
+    /// Carried by: `stop` of `run_local_with`: `size` of `IsEndedBy`
+    ///
+    /// A setting that fails ends the job with its own status and why, and settings that mean no picture with INVAL
+    /// (answer); both may also end for lack of memory.
+    /// Carried by: `stop` of `run_local_with`: `setting`, `no_picture` of `IsEndedBy`
+    ///
+    /// With its settings in force, a task other than a scan ends otherwise for lack of memory alone.
+    ///
+    /// A scan on a feeder whose tray is empty ends with NO_DOCS (answer), or for lack of memory.
+    ///
+    /// A scan of a picture ends otherwise for lack of memory, for its output, as short where `read-return-value` says
+    /// EOF, or with what `read-return-value` names, or IO_ERROR where a failure of the page's source was counted in
+    /// the job.
+    ///
+    /// A batch is no such job: it ends with INVAL (setting).
+    /// Carried by: `stop` of `run_local_with`: `size` of `IsEndedBy`
     ensures stop { IfErr result
         (λ stop. IsEndedBy (state device.old) job.now (state device.new) stop) }
+    /// The pages are those of before, but that a feeder lets go of the page that was scanned, and the reset at the
+    /// beginning of one under way.
+    /// Carried by: `runs` of `run_local_with`
     ensures runs { ChangesDevice (state device.old) (state device.new) }
     ensures rest { is_at_rest (state device.new).phase ≡ true }
 {
@@ -159,45 +190,14 @@ pub fn run_local<W: Write>(
 ) -> Outcome
     // It is done, or has ended.
     ensures over { IsOver result }
-    /// Where `run_local` answers Done its settings are in force, each reported with its option's kind, what its text
-    /// reads as, the admitted value nearest to that, and INEXACT just where they differ.
-    ///
-    /// A scan's output then took the whole file of a picture. It is exactly the meaning of the settings' scene on the
-    /// scanner's page where the page's source is steady.
-    ///
-    /// A list told the scanner and ignored the settings; a show told each option, with its value where it is active,
-    /// can be read and has one; these, and settings alone, wrote nothing.
-    ///
-    /// The scanner is left at rest, not cancelled, with the options of the settings.
-    /// Carried by: `done`, `rest` of `run_local`
+    // As `run_local_with`.
     ensures done { IfDone result (λ reports.
-        IsDone job.now (record { device = state device.old; output = W.contents out.old })
-        (record { device = state device.new; output = W.contents out.new }) reports) }
-    /// Any other ending has a status that is neither GOOD nor EOF, and the output took no whole file.
+        IsDone job.now (with_file (state device.old) (W.contents out.old))
+        (with_file (state device.new) (W.contents out.new)) reports) }
     ensures ended { IfEnded result (λ status why. (status ≢ Good)
         × (status ≢ Eof) × LeavesNoFile (W.contents out.old) (W.contents out.new)) }
-    /// A job too large ends with INVAL (setting).
-    /// Carried by: `stop` of `run_local`: `size` of `IsEndedBy`
-    ///
-    /// A setting that fails ends the job with its own status and why, and settings that mean no picture with INVAL
-    /// (answer); both may also end for lack of memory.
-    /// Carried by: `stop` of `run_local`: `setting`, `no_picture` of `IsEndedBy`
-    ///
-    /// With its settings in force, a task other than a scan ends otherwise for lack of memory alone.
-    ///
-    /// A scan on a feeder whose tray is empty ends with NO_DOCS (answer), or for lack of memory.
-    ///
-    /// A scan of a picture ends otherwise for lack of memory, for its output, as short where `read-return-value` says
-    /// EOF, or with what `read-return-value` names, or IO_ERROR where a failure of the page's source was counted in
-    /// the job.
-    ///
-    /// A batch is no such job: it ends with INVAL (setting).
-    /// Carried by: `stop` of `run_local`: `size` of `IsEndedBy`
     ensures stop { IfEnded result (λ status why. IsEndedBy (state device.old) job.now
         (state device.new) (record { status = status; why = why })) }
-    /// The pages are those of before, but that a feeder lets go of the page that was scanned, and the reset at the
-    /// beginning of one under way.
-    /// Carried by: `runs` of `run_local`
     ensures runs { ChangesDevice (state device.old) (state device.new) }
     ensures rest { is_at_rest (state device.new).phase ≡ true }
 {

@@ -1,7 +1,6 @@
 ghost use Rattle.std.specs.Prelude.{◌≡◌, ◌≢◌, ◌<◌, ◌⊎◌, true, false, Some, None, length, Option, List, ℕ, [], IfErr, OnOk, OnErr, IfOk};
 ghost use Rattle.std.specs.Io.KnownBytes.{Appends};
 ghost use Rattle.sane_fixed.specs.declared.status.Status.TheVariants.{Inval, NoDocs};
-ghost use Rattle.page_picture.specs.Shows.{Frame};
 ghost use Rattle.frame_join.specs.FrameHistory.{JoinHistory, empty_history, is_accepted, is_full};
 ghost use Rattle.frame_join.specs.JoinStates.{Represents};
 ghost use Rattle.scan_frames.specs.Frames.{has_picture};
@@ -12,8 +11,7 @@ ghost use Rattle.local_job.specs.LocalStops.{stop_by_status};
 ghost use Rattle.scan_job.specs.Stops.{no_memory};
 ghost use Rattle.scan_job.specs.declared.outcome.Why.TheVariants.{Sink};
 ghost use Rattle.local_job.specs.FrameReading.{IsRefusal, KeepsDevice, IsScanned};
-ghost use Rattle.local_job.specs.Inside.{JoinIsBetween, JoinIsInside, FrameEndsAs, JoinsFrame, HasJoined, HasScannedPass};
-ghost use Rattle.local_job.specs.ScanCauses.{ScanHasCause};
+ghost use Rattle.local_job.specs.Inside.{FrameEndsAs, IfInside, IfJoined, JoinIsBetween, JoinsFrame, MeantHasCause, ScansNextPass, join_and_output, new_frame, scan_state};
 
 use crate::drain::drain;
 use crate::frame_pieces::read_frame;
@@ -54,9 +52,8 @@ fn start_pass(alloc: Global, device: &mut dyn Device) -> Result<(), Stop>
         ≡ with_phase (state device.old) (Reading (next_pass (state device.old).phase) 0)) }
     ensures refusal { IfErr result (λ stop. IsRefusal stop) }
     ensures output { IfErr result (λ stop. stop.why ≢ Sink) }
-    ensures cause { IfErr result (λ stop. (state device.old).pages ≢ []
-        → has_picture (state device.old).setup (page_of (state device.old)) ≡ true
-        → ScanHasCause stop (state device.old) (state device.new)) }
+    ensures cause { IfErr result
+        (λ stop. MeantHasCause stop (state device.old) (state device.new)) }
     ensures same { KeepsDevice (state device.old) (state device.new) }
 {
     match device.start(alloc) {
@@ -68,13 +65,7 @@ fn start_pass(alloc: Global, device: &mut dyn Device) -> Result<(), Stop>
 /// Begins the frame of the pass that the scanner reads.
 fn begin_frame(alloc: Global, device: &dyn Device, join: &mut FrameJoin) -> Result<(), Stop>
     ensures begun { OnOk result ((past : JoinHistory) → JoinIsBetween past join.old
-        → Represents (record past {
-          under = Some (record {
-            params = params_of (state device.now);
-            order = (state device.now).setup.order;
-            payload = [];
-          });
-        }) join.new) }
+        → Represents (record past { under = Some (new_frame (state device.now)) }) join.new) }
     ensures limits { HasLimits (state device.now) }
     ensures refusal { IfErr result (λ stop. IsRefusal stop) }
     ensures output { IfErr result (λ stop. stop.why ≢ Sink) }
@@ -100,22 +91,21 @@ fn end_frame<W: Outlet>(
     requires { 0 < length room.old }
     ensures room { length room.new ≡ length room.old }
     ensures becomes { (first : W) → W.Becomes first out.old → W.Becomes first out.new }
-    ensures ended { IfOk result (λ is_whole. (first : Option (List ℕ)) (past : JoinHistory)
-        (frame : Frame) → JoinIsInside past frame first join.old (W.contents out.old)
-        → JoinsFrame past frame is_whole first
-        (record { join = join.new; contents = W.contents out.new })) }
-    ensures short { OnErr result ((first : Option (List ℕ)) (past : JoinHistory) (frame : Frame)
-        → JoinIsInside past frame first join.old (W.contents out.old)
-        → StopsShort first (W.contents out.new)) }
+    ensures ended { IfOk result (λ is_whole.
+        IfInside (join_and_output join.old (W.contents out.old)) (λ under.
+        JoinsFrame under.past under.frame is_whole under.first
+        (join_and_output join.new (W.contents out.new)))) }
+    ensures short { OnErr result
+        (IfInside (join_and_output join.old (W.contents out.old)) (λ under.
+        StopsShort under.first (W.contents out.new))) }
     ensures refusal { IfErr result (λ stop. IsRefusal stop) }
     ensures output { IfErr result (λ stop. stop.why ≡ Sink
-        → (first : Option (List ℕ)) (past : JoinHistory) (frame : Frame)
-        → JoinIsInside past frame first join.old (W.contents out.old)
-        → outputs.new.failed ≡ true) }
+        → IfInside (join_and_output join.old (W.contents out.old)) (λ under.
+        outputs.new.failed ≡ true)) }
     // A frame that has all its bytes is not refused, and another is short.
-    ensures cause { IfErr result (λ stop. (first : Option (List ℕ)) (past : JoinHistory)
-        (frame : Frame) → JoinIsInside past frame first join.old (W.contents out.old)
-        → FrameEndsAs (is_full frame) stop) }
+    ensures cause { IfErr result (λ stop.
+        IfInside (join_and_output join.old (W.contents out.old)) (λ under.
+        FrameEndsAs (is_full under.frame) stop)) }
 {
     not_whole_before();
     let is_whole = match join.end() {
@@ -152,13 +142,12 @@ fn scan_pass<W: Outlet>(
     ensures piece { length piece.new ≡ length piece.old }
     ensures room { length room.new ≡ length room.old }
     ensures becomes { (first : W) → W.Becomes first out.old → W.Becomes first out.new }
-    ensures scanned { IfOk result (λ is_whole. (first : Option (List ℕ)) → HasJoined
-        (state device.old) (next_pass (state device.old).phase) first join.old (W.contents out.old)
-        → HasScannedPass (state device.old) (next_pass (state device.old).phase) is_whole first
-        (record { device = state device.new; join = join.new; contents = W.contents out.new })) }
-    ensures short { OnErr result ((first : Option (List ℕ))
-        → HasJoined (state device.old) (next_pass (state device.old).phase) first join.old
-        (W.contents out.old) → StopsShort first (W.contents out.new)) }
+    ensures scanned { IfOk result (λ is_whole.
+        ScansNextPass (scan_state (state device.old) join.old (W.contents out.old)) is_whole
+        (scan_state (state device.new) join.new (W.contents out.new))) }
+    ensures short { OnErr result
+        (IfJoined (scan_state (state device.old) join.old (W.contents out.old)) (λ first.
+        StopsShort first (W.contents out.new))) }
     ensures some { OnOk result ((state device.old).pages ≢ []) }
     ensures picture { OnOk result (has_picture (state device.old).setup (page_of (state device.old))
         ≡ true) }
@@ -173,14 +162,12 @@ fn scan_pass<W: Outlet>(
     ensures untold { OnOk result ((state device.old).setup.told ≢ Some NoDocs) }
     ensures ended { OnOk result (is_reading (state device.new).phase ≡ false) }
     ensures refusal { IfErr result (λ stop. IsRefusal stop) }
-    ensures output { IfErr result (λ stop. stop.why ≡ Sink → (first : Option (List ℕ))
-        → HasJoined (state device.old) (next_pass (state device.old).phase) first join.old
-        (W.contents out.old) → outputs.new.failed ≡ true) }
-    ensures cause { IfErr result (λ stop. (first : Option (List ℕ))
-        → HasJoined (state device.old) (next_pass (state device.old).phase) first join.old
-        (W.contents out.old) → (state device.old).pages ≢ []
-        → has_picture (state device.old).setup (page_of (state device.old)) ≡ true
-        → ScanHasCause stop (state device.old) (state device.new)) }
+    ensures output { IfErr result (λ stop. stop.why ≡ Sink
+        → IfJoined (scan_state (state device.old) join.old (W.contents out.old)) (λ first.
+        outputs.new.failed ≡ true)) }
+    ensures cause { IfErr result (λ stop.
+        IfJoined (scan_state (state device.old) join.old (W.contents out.old)) (λ first.
+        MeantHasCause stop (state device.old) (state device.new))) }
     ensures well { OnOk result (state device.new
         ≡ goes_to (state device.old) (state device.new).phase) }
     ensures same { KeepsDevice (state device.old) (state device.new) }
@@ -226,9 +213,8 @@ pub fn scan_passes<W: Outlet>(
     ensures none { IfErr result (λ stop. (state device.old).pages ≢ []
         → has_picture (state device.old).setup (page_of (state device.old)) ≡ false
         → stop ≡ stop_by_status Inval) }
-    ensures cause { IfErr result (λ stop. (state device.old).pages ≢ []
-        → has_picture (state device.old).setup (page_of (state device.old)) ≡ true
-        → ScanHasCause stop (state device.old) (state device.new)) }
+    ensures cause { IfErr result
+        (λ stop. MeantHasCause stop (state device.old) (state device.new)) }
     ensures untold { OnOk result ((state device.old).setup.told ≢ Some NoDocs) }
     ensures rest { OnOk result (state device.new ≡ state_at_rest (state device.old) false) }
     ensures same { KeepsDevice (state device.old) (state device.new) }
@@ -262,9 +248,8 @@ pub fn scan_picture<W: Write>(
     ensures none { IfErr result (λ stop. (state device.old).pages ≢ []
         → has_picture (state device.old).setup (page_of (state device.old)) ≡ false
         → (stop ≡ no_memory) ⊎ (stop ≡ stop_by_status Inval)) }
-    ensures cause { IfErr result (λ stop. (state device.old).pages ≢ []
-        → has_picture (state device.old).setup (page_of (state device.old)) ≡ true
-        → ScanHasCause stop (state device.old) (state device.new)) }
+    ensures cause { IfErr result
+        (λ stop. MeantHasCause stop (state device.old) (state device.new)) }
     ensures rest { OnOk result (state device.new ≡ state_at_rest (state device.old) false) }
     ensures same { KeepsDevice (state device.old) (state device.new) }
 {

@@ -1,13 +1,12 @@
--- How a job over streams is over whose files go to a shelf.
-use Rattle.std.proofs.Common.{◌≡◌, ◌≢◌, ◌∙◌, ◌⊎◌, ◌≤◌, ◌+◌, ℕ, Bool, true, false, Option, Some, None, Ok, Err, Result, List, [], ◌∷◌, ◌++◌, length, refl, sym, ap, subst, append_assoc, inl, inr, arith, length-append}
-use Rattle.std.specs.Prelude.{All, IfOk, IfErr}
+-- How a job over streams is over, with the output of its last file under way, and a batch behind that.
+use Rattle.std.proofs.Common.{◌≡◌, ◌∙◌, ◌⊎◌, ◌≤◌, ◌+◌, ℕ, Bool, true, false, Option, Some, None, Ok, Err, Result, List, [], ◌∷◌, ◌++◌, length, refl, sym, ap, subst, append_assoc, inl, inr, arith, length-append}
+use Rattle.std.specs.Prelude.{All, IfErr}
 use Rattle.std.proofs.lemmas.List.{append-nil}
 use Rattle.std.proofs.lemmas.List.Elements.{All-append, All-nil, All-same}
 use Rattle.sane_fixed.specs.declared.status.Status.{Status}
 use Rattle.sane_fixed.specs.declared.status.Status.TheVariants as statuses
-use Rattle.netpbm.specs.Picture.{Picture}
 use Rattle.netpbm.specs.Pnm.{Denotes, IsWhole}
-use Rattle.page_picture.specs.Shows.{Frame, ShowsFrames}
+use Rattle.page_picture.specs.Shows.{Frame}
 use Rattle.frame_join.specs.declared.join_stage.JoinFault.{JoinFault}
 use Rattle.frame_join.specs.FrameHistory.{JoinHistory, IsJoined, is_joined, after_pull, answer_of_end, answer_by}
 use Rattle.frame_join.specs.JoinStates.{JoinState, Represents}
@@ -15,7 +14,6 @@ use Rattle.frame_join.proofs.JoinedLaws.{rests_silent}
 use Rattle.frame_join.proofs.StreamLaws.{nothing_is_not_whole}
 use Rattle.scan_job.specs.JobSize.{HasCount}
 use Rattle.scan_job.specs.Outcomes.{over_as}
-use Rattle.scan_job.specs.Shelves.{Stock, ReturnedOutput}
 use Rattle.scan_job.specs.declared.job.Job.{Job}
 use Rattle.scan_job.specs.declared.job.Task.{Task}
 use Rattle.scan_job.specs.declared.job.Task.TheVariants as tasks
@@ -24,26 +22,23 @@ use Rattle.scan_job.specs.declared.outcome.Outcome.TheVariants.{Running, Done, E
 use Rattle.scan_job.specs.declared.outcome.Why.{Why}
 use Rattle.scan_job.specs.declared.outcome.Why.TheVariants as whys
 use Rattle.scan_job.specs.declared.report.Reports.{Reports}
-use Rattle.scan_job.specs.Stops.{failed_output}
 use Rattle.scan_job.specs.declared.stop.Stop.{Stop}
 use Rattle.client_replies.specs.ProtocolStates.{ProtocolState, target_of, is_running, is_ended, scans, HistoryFits, FitsDone, FitsEnded, IsBetweenFrames}
 use Rattle.net_client.specs.ClientStates.{ClientState}
 use Rattle.net_jobs.specs.JobJournal.{JobMove, dialled_by, given_by}
-use Rattle.net_jobs.specs.Inside.{GivesAll, StopsAs, CallNotes, NotesMatch, HasTaken, IsFiling, TurnsOn, FallsShort, HasFiledShort, BatchCameDone, BatchCameEnded, BatchHasCome, closed_as, HasBatchRun}
+use Rattle.net_jobs.specs.Inside.{GivesAll, StopsAs, CallNotes, NotesMatch, HasTaken, HasTakenBack, HoldsNone, FillsShort, OutputIsUnderWay, SinkState, TurnsOn, FallsShort, HasFiledShort, CameDone, CameEnded, CameTo}
 use Rattle.net_jobs.specs.JobSteps.{MovesStopWithin, StepsGive}
-use Rattle.net_jobs.specs.JobTraces.{JobTrace}
-use Rattle.net_jobs.specs.RunPromises.{JobStreams, SeenStreams, RanWithTrace, ByMemory}
+use Rattle.net_jobs.specs.RunPromises.{ByMemory, IfReports, SeenStreams}
 use Rattle.net_jobs.specs.Links.{LinkViews, HasBrought}
 use Rattle.net_jobs.proofs.InvariantRecords.{GivenFiles, FullRunInvariant, turned_given}
 use Rattle.net_jobs.proofs.Asking.{asked_for}
 use Rattle.net_jobs.specs.Outputs.{files_text, page_outputs_from}
-use Rattle.scan_job.specs.FileOutputs.{TakesBack, GivesBack, refused_output}
-use Rattle.net_jobs.specs.Batches.{IsPageFile, MayScan, last_whole_page, pages_of, BatchDone, BatchEnded, KeepsAllPages, RefusesBatch, RefusesLastPage}
+use Rattle.scan_job.specs.FileOutputs.{refused_output}
+use Rattle.net_jobs.specs.Batches.{IsPageFile, MayScan, last_whole_page}
 use Rattle.net_jobs.proofs.FileNumbers.{IsFew, HasSome, counts}
-use Rattle.net_jobs.proofs.JobEnds.{NoneBefore, stops_over, HasRefusal, Leaves, all_written, ran_refuses, cause_of, followed, unopened, task_is, ran_by, ends_well}
+use Rattle.net_jobs.proofs.JobEnds.{NoneBefore, WholeShows, stops_over, HasRefusal, Leaves, all_written, ran_refuses, cause_of, followed, unopened, task_is, ran_by, ends_well}
 use Rattle.net_jobs.proofs.Steps.{LastDelivers, same_steps, same_stop, stops_within}
-use Rattle.net_jobs.proofs.Shelves.{given_back, none_back, none_kept, none_same, left_behind, outputs_more}
-use Rattle.net_jobs.proofs.Shelving.{Shut, OnShelf, Lying, PageIsTurned, shut_parted, ended_part, one_file, page_turned, from_here}
+use Rattle.net_jobs.proofs.Shelving.{Shut, Stored, Lying, PageIsTurned, shut_parted, ended_part, one_file, page_turned, from_here}
 
 -- ---- a join between frames has given nothing, if its picture is not whole
 
@@ -110,19 +105,10 @@ last_file (Ok true) page file = one_file page (file refl)
 last_file (Ok false) page file = All-nil IsPageFile
 last_file (Err fault) page file = All-nil IsPageFile
 
-files_append : (pages more : List JoinHistory) → files_text (pages ++ more) ≡ files_text pages ++ files_text more
-files_append [] more = refl
-files_append (page ∷ pages) more = ap (λ (l : List ℕ). page.given ++ l) (files_append pages more) ∙ sym (append_assoc page.given (files_text pages) (files_text more))
-
-last_text : (a : Result Bool JoinFault) (page : JoinHistory) → ((a ≡ Ok true → ⊥) → page.given ≡ []) → files_text (last_whole_page a page) ≡ page.given
-last_text (Ok true) page none = append-nil page.given
-last_text (Ok false) page none = sym (none (λ e. (let clash : Ok false ≡ Ok true = e in cc)))
-last_text (Err fault) page none = sym (none (λ e. (let clash : Err fault ≡ Ok true = e in cc)))
-
-pub came_done : {C R : Type 0} (views : LinkViews C) (left_of : R → Option (List ℕ)) (job : Job) (first : C) (coming0 : Option (List (List ℕ))) (before : Option Stock) (notes : CallNotes) (links : C) (coming : Option (List (List ℕ))) (stream : Option R) (c : ClientState) (now : Option Stock) (out : Option (Option (List ℕ))) (reports : Reports)
-    → HasCount job.task → ((past : JoinHistory) (join : JoinState) → Represents past join → IsJoined past → (p : Picture) × ShowsFrames past.ended p) → c.outcome ≡ Done reports
-    → Shut views left_of job first coming0 before notes true links coming stream c now out → BatchHasCome views job (record { links = first; coming = coming0; output = before }) (record { links = links; coming = coming; output = now }) out (Done reports) notes
-came_done views left_of job first coming0 before notes links coming stream c now out reports h shows done d =
+pub came_done : {C R : Type 0} (views : LinkViews C) (left_of : R → Option (List ℕ)) (job : Job) (first : C) (coming0 : Option (List (List ℕ))) (before : SinkState) (notes : CallNotes) (links : C) (coming : Option (List (List ℕ))) (stream : Option R) (c : ClientState) (now : SinkState) (reports : Reports)
+    → HasCount job.task → WholeShows → c.outcome ≡ Done reports
+    → Shut views left_of job first coming0 before notes true links coming stream c now → CameTo views job (record { links = first; coming = coming0; output = before }) (record { links = links; coming = coming; output = now }) (Done reports) notes
+came_done views left_of job first coming0 before notes links coming stream c now reports h shows done d =
     let s = d.stage in
     let f = followed left_of d.moves coming0 coming s.trace s.rest stream c s.history reports done s.stands in
     let l = unopened left_of coming0 coming s.trace.streams stream c s.history (ap is_running done) f.linked in
@@ -167,13 +153,10 @@ came_done views left_of job first coming0 before notes links coming stream c now
             (may_scan job.task (length s.trace.pages) s.trace.protocol.notes.file s.trace.protocol.history (subst (λ (q : JoinHistory). FitsDone job.task q) past_is fits) counted.few counted.number (counted.done reports told));
         files = All-append IsPageFile s.trace.pages (last_whole_page (answer_of_end s.trace.protocol.history) s.trace.protocol.history) (All-same IsPageFile s.trace.pages d.given.pages s.pages_is d.shelf.files)
             (subst (λ (q : JoinHistory). All IsPageFile (last_whole_page (answer_of_end q) q)) past_is (last_file (answer_of_end s.history) s.history file));
-        gave = files_append s.trace.pages (last_whole_page (answer_of_end s.trace.protocol.history) s.trace.protocol.history)
-            ∙ ap (λ (l : List ℕ). files_text s.trace.pages ++ l) (last_text (answer_of_end s.trace.protocol.history) s.trace.protocol.history
-            (λ unjoined. sym (ap (λ (q : JoinHistory). q.given) past_is) ∙ done_none job.task s.history c.join s.serves.stands fits (λ joined. unjoined (subst (λ (q : JoinHistory). IsJoined q) past_is joined)) (λ other. s.given_is ∙ d.shelf.none other)))
-            ∙ ap (λ (l : List JoinHistory). files_text l ++ s.trace.protocol.history.given) s.pages_is ∙ ap (λ (l : List ℕ). files_text d.given.pages ++ l) (sym (ap (λ (q : JoinHistory). q.given) past_is) ∙ s.given_is) ∙ d.gave;
-        taken = subst (λ (q : List JoinHistory). HasTaken before (page_outputs_from 1 q) now out (length q + 1) s.trace.protocol.history.given) (sym s.pages_is)
-            (subst (λ (t : List ℕ). HasTaken before (page_outputs_from 1 d.given.pages) now out (length d.given.pages + 1) t) (given_is ∙ ap (λ (q : JoinHistory). q.given) past_is) d.shelf.under_way.taken);
-        none = λ unjoined. d.shelf.under_way.asked (given_is ∙ done_none job.task s.history c.join s.serves.stands fits (λ joined. unjoined (subst (λ (q : JoinHistory). IsJoined q) past_is joined)) (λ other. s.given_is ∙ d.shelf.none other));
+        gave = ap (λ (l : List JoinHistory). files_text l ++ s.trace.protocol.history.given) s.pages_is ∙ ap (λ (l : List ℕ). files_text d.given.pages ++ l) (sym (ap (λ (q : JoinHistory). q.given) past_is) ∙ s.given_is) ∙ d.gave;
+        under_way = subst (λ (q : List JoinHistory). OutputIsUnderWay before (page_outputs_from 1 q) now (length q + 1) s.trace.protocol.history.given) (sym s.pages_is)
+            (subst (λ (t : List ℕ). OutputIsUnderWay before (page_outputs_from 1 d.given.pages) now (length d.given.pages + 1) t) (given_is ∙ ap (λ (q : JoinHistory). q.given) past_is) d.shelf.under_way);
+        none = λ unjoined. sym (ap (λ (q : JoinHistory). q.given) past_is) ∙ done_none job.task s.history c.join s.serves.stands fits (λ joined. unjoined (subst (λ (q : JoinHistory). IsJoined q) past_is joined)) (λ other. s.given_is ∙ d.shelf.none other);
         last = λ joined. subst (λ (q : JoinHistory). IsPageFile q) past_is (file (subst (λ (q : JoinHistory). IsJoined q) (sym past_is) joined));
       },
       d.notes_are,
@@ -187,10 +170,10 @@ gave_all pages given bytes was now same gave is = ap (λ (l : List JoinHistory).
 ended_fits : (outcome : Outcome) (status : Status) (why : Why) (task : Task) (v : ClientState) (past : JoinHistory) → outcome ≡ Ended status why → HistoryFits task outcome v.progress past → FitsEnded task past
 ended_fits outcome status why task v past e f = subst (λ (o : Outcome). HistoryFits task o v.progress past) e f
 
-pub came_ended : {L R : Type 0} {whole : Bool} (views : LinkViews L) (left_of : R → Option (List ℕ)) (job : Job) (first : L) (coming0 : Option (List (List ℕ))) (before : Option Stock) (notes : CallNotes) (links : L) (coming : Option (List (List ℕ))) (stream : Option R) (c : ClientState) (now : Option Stock) (out : Option (Option (List ℕ))) (status : Status) (why : Why)
+pub came_ended : {L R : Type 0} {whole : Bool} (views : LinkViews L) (left_of : R → Option (List ℕ)) (job : Job) (first : L) (coming0 : Option (List (List ℕ))) (before : SinkState) (notes : CallNotes) (links : L) (coming : Option (List (List ℕ))) (stream : Option R) (c : ClientState) (now : SinkState) (status : Status) (why : Why)
     → NoneBefore → c.outcome ≡ Ended status why
-    → Shut views left_of job first coming0 before notes whole links coming stream c now out → BatchHasCome views job (record { links = first; coming = coming0; output = before }) (record { links = links; coming = coming; output = now }) out (Ended status why) notes
-came_ended views left_of job first coming0 before notes links coming stream c now out status why law over d =
+    → Shut views left_of job first coming0 before notes whole links coming stream c now → CameTo views job (record { links = first; coming = coming0; output = before }) (record { links = links; coming = coming; output = now }) (Ended status why) notes
+came_ended views left_of job first coming0 before notes links coming stream c now status why law over d =
     let s = d.stage in
     let r = ran_by views left_of job (record { links = first; coming = coming0; output = before }) (record { links = links; coming = coming; output = now }) stream c d.given d.moves d.left d.fresh d.last d.is_fresh d.leads d.told d.calls s s.stands in
     let fits = ended_fits c.outcome status why c.target.task c s.history over s.serves.fits in (
@@ -208,16 +191,16 @@ came_ended views left_of job first coming0 before notes links coming stream c no
         behind = [];
         gave = gave_all r.ran.trace.pages d.given.pages d.given.bytes d.moves r.ran.moves r.pages_is d.gave r.moves_is;
         none_behind = λ other. refl;
-        shelf = inl (subst (λ (q : List JoinHistory). HasTaken before (page_outputs_from 1 q) now out (length q + 1) d.given.bytes) (sym r.pages_is) d.shelf.under_way.taken);
+        sink = inl (subst (λ (q : List JoinHistory). HasTaken before (page_outputs_from 1 q) now (length q + 1) d.given.bytes) (sym r.pages_is) d.shelf.under_way.taken);
         not_whole = subst (λ (t : List ℕ). IsWhole t → ⊥) s.given_is (λ w. law s.history c.join s.serves.stands (λ joined. ended_part c.target.task s.history fits joined w) w);
       },
       subst (λ (m : List JobMove). NotesMatch m notes) (sym r.moves_is) d.notes_are,
     )
 
 -- there was no memory for what was to be told
-came_untold : {L R : Type 0} {whole : Bool} (views : LinkViews L) (left_of : R → Option (List ℕ)) (job : Job) (first : L) (coming0 : Option (List (List ℕ))) (before : Option Stock) (notes : CallNotes) (links : L) (coming : Option (List (List ℕ))) (stream : Option R) (c : ClientState) (now : Option Stock) (out : Option (Option (List ℕ))) (reports : Reports)
-    → c.outcome ≡ Done reports → (d : Shut views left_of job first coming0 before notes whole links coming stream c now out) → (IsWhole d.given.bytes → ⊥) → BatchHasCome views job (record { links = first; coming = coming0; output = before }) (record { links = links; coming = coming; output = now }) out (Ended statuses.NoMem whys.Memory) notes
-came_untold views left_of job first coming0 before notes links coming stream c now out reports done d not_whole =
+came_untold : {L R : Type 0} {whole : Bool} (views : LinkViews L) (left_of : R → Option (List ℕ)) (job : Job) (first : L) (coming0 : Option (List (List ℕ))) (before : SinkState) (notes : CallNotes) (links : L) (coming : Option (List (List ℕ))) (stream : Option R) (c : ClientState) (now : SinkState) (reports : Reports)
+    → c.outcome ≡ Done reports → (d : Shut views left_of job first coming0 before notes whole links coming stream c now) → (IsWhole d.given.bytes → ⊥) → CameTo views job (record { links = first; coming = coming0; output = before }) (record { links = links; coming = coming; output = now }) (Ended statuses.NoMem whys.Memory) notes
+came_untold views left_of job first coming0 before notes links coming stream c now reports done d not_whole =
     let s = d.stage in
     let r = ran_by views left_of job (record { links = first; coming = coming0; output = before }) (record { links = links; coming = coming; output = now }) stream c d.given d.moves d.left d.fresh d.last d.is_fresh d.leads d.told d.calls s s.stands in (
       record {
@@ -233,36 +216,36 @@ came_untold views left_of job first coming0 before notes links coming stream c n
         behind = [];
         gave = gave_all r.ran.trace.pages d.given.pages d.given.bytes d.moves r.ran.moves r.pages_is d.gave r.moves_is;
         none_behind = λ other. refl;
-        shelf = inl (subst (λ (q : List JoinHistory). HasTaken before (page_outputs_from 1 q) now out (length q + 1) d.given.bytes) (sym r.pages_is) d.shelf.under_way.taken);
+        sink = inl (subst (λ (q : List JoinHistory). HasTaken before (page_outputs_from 1 q) now (length q + 1) d.given.bytes) (sym r.pages_is) d.shelf.under_way.taken);
         not_whole = not_whole;
       },
       subst (λ (m : List JobMove). NotesMatch m notes) (sym r.moves_is) d.notes_are,
     )
 
-stopped_by : {L R : Type 0} {whole : Bool} (views : LinkViews L) (left_of : R → Option (List ℕ)) (job : Job) (first : L) (coming0 : Option (List (List ℕ))) (before : Option Stock) (notes : CallNotes) (links : L) (coming : Option (List (List ℕ))) (stream : Option R) (c : ClientState) (now : Option Stock) (out : Option (Option (List ℕ))) (outcome : Outcome) (stop : Stop)
-    → NoneBefore → c.outcome ≡ outcome → StopsAs outcome stop → (d : Shut views left_of job first coming0 before notes whole links coming stream c now out) → (IsWhole d.given.bytes → ⊥)
-    → BatchHasCome views job (record { links = first; coming = coming0; output = before }) (record { links = links; coming = coming; output = now }) out (Ended stop.status stop.why) notes
-stopped_by views left_of job first coming0 before notes links coming stream c now out Running stop law over ends d not_whole = absurd ends
-stopped_by views left_of job first coming0 before notes links coming stream c now out (Done reports) stop law over ends d not_whole =
-    subst (λ (x : Stop). BatchHasCome views job (record { links = first; coming = coming0; output = before }) (record { links = links; coming = coming; output = now }) out (Ended x.status x.why) notes) (sym ends) (came_untold views left_of job first coming0 before notes links coming stream c now out reports over d not_whole)
-stopped_by views left_of job first coming0 before notes links coming stream c now out (Ended status why) stop law over ends d not_whole =
-    subst (λ (x : Stop). BatchHasCome views job (record { links = first; coming = coming0; output = before }) (record { links = links; coming = coming; output = now }) out (Ended x.status x.why) notes) (sym ends) (came_ended views left_of job first coming0 before notes links coming stream c now out status why law over d)
+stopped_by : {L R : Type 0} {whole : Bool} (views : LinkViews L) (left_of : R → Option (List ℕ)) (job : Job) (first : L) (coming0 : Option (List (List ℕ))) (before : SinkState) (notes : CallNotes) (links : L) (coming : Option (List (List ℕ))) (stream : Option R) (c : ClientState) (now : SinkState) (outcome : Outcome) (stop : Stop)
+    → NoneBefore → c.outcome ≡ outcome → StopsAs outcome stop → (d : Shut views left_of job first coming0 before notes whole links coming stream c now) → (IsWhole d.given.bytes → ⊥)
+    → CameTo views job (record { links = first; coming = coming0; output = before }) (record { links = links; coming = coming; output = now }) (Ended stop.status stop.why) notes
+stopped_by views left_of job first coming0 before notes links coming stream c now Running stop law over ends d not_whole = absurd ends
+stopped_by views left_of job first coming0 before notes links coming stream c now (Done reports) stop law over ends d not_whole =
+    subst (λ (x : Stop). CameTo views job (record { links = first; coming = coming0; output = before }) (record { links = links; coming = coming; output = now }) (Ended x.status x.why) notes) (sym ends) (came_untold views left_of job first coming0 before notes links coming stream c now reports over d not_whole)
+stopped_by views left_of job first coming0 before notes links coming stream c now (Ended status why) stop law over ends d not_whole =
+    subst (λ (x : Stop). CameTo views job (record { links = first; coming = coming0; output = before }) (record { links = links; coming = coming; output = now }) (Ended x.status x.why) notes) (sym ends) (came_ended views left_of job first coming0 before notes links coming stream c now status why law over d)
 
 -- a job that is over of which nothing is told
-pub came_stopped : {L R : Type 0} (views : LinkViews L) (left_of : R → Option (List ℕ)) (job : Job) (first : L) (coming0 : Option (List (List ℕ))) (before : Option Stock) (was notes : CallNotes) (then_ links : L) (coming : Option (List (List ℕ))) (stream : Option R) (c : ClientState) (now : Option Stock) (out : Option (Option (List ℕ))) (stop : Stop)
-    → NoneBefore → StopsAs c.outcome stop → Leaves views then_ was c.out links notes → Lying views left_of job first coming0 before was then_ coming stream c now out
-    → BatchHasCome views job (record { links = first; coming = coming0; output = before }) (record { links = links; coming = coming; output = now }) out (Ended stop.status stop.why) notes
-came_stopped views left_of job first coming0 before was notes then_ links coming stream c now out stop law ends leaves p =
-    let d = shut_parted views left_of job first coming0 before was notes then_ links coming stream c now out (stops_over c.outcome stop ends) leaves p.laid in
-    stopped_by views left_of job first coming0 before notes links coming stream c now out c.outcome stop law refl ends d.0 (subst (λ (g : GivenFiles). IsWhole g.bytes → ⊥) (sym d.1) p.not_whole)
+pub came_stopped : {L R : Type 0} (views : LinkViews L) (left_of : R → Option (List ℕ)) (job : Job) (first : L) (coming0 : Option (List (List ℕ))) (before : SinkState) (was notes : CallNotes) (then_ links : L) (coming : Option (List (List ℕ))) (stream : Option R) (c : ClientState) (now : SinkState) (stop : Stop)
+    → NoneBefore → StopsAs c.outcome stop → Leaves views then_ was c.out links notes → Lying views left_of job first coming0 before was then_ coming stream c now
+    → CameTo views job (record { links = first; coming = coming0; output = before }) (record { links = links; coming = coming; output = now }) (Ended stop.status stop.why) notes
+came_stopped views left_of job first coming0 before was notes then_ links coming stream c now stop law ends leaves p =
+    let d = shut_parted views left_of job first coming0 before was notes then_ links coming stream c now (stops_over c.outcome stop ends) leaves p.laid in
+    stopped_by views left_of job first coming0 before notes links coming stream c now c.outcome stop law refl ends d.0 (subst (λ (g : GivenFiles). IsWhole g.bytes → ⊥) (sym d.1) p.not_whole)
 
 -- ---- the shelf or an output did not take what it was to
 
-refused_next : {L R : Type 0} (views : LinkViews L) (left_of : R → Option (List ℕ)) (job : Job) (first : L) (coming0 : Option (List (List ℕ))) (before : Option Stock) (notes : CallNotes) (links : L) (coming : Option (List (List ℕ))) (stream : Option R) (new : ClientState) (now : Option Stock) (out : Option (Option (List ℕ))) (given : GivenFiles) (page : JoinHistory)
-    → (t : PageIsTurned views left_of job first coming0 given page notes links coming stream new) → MovesStopWithin t.going.fresh t.going.moves new → All IsPageFile given.pages → out ≡ None
-    → TakesBack before (page_outputs_from 1 given.pages ++ refused_output (length given.pages + 1) page.given ∷ []) now
-    → BatchHasCome views job (record { links = first; coming = coming0; output = before }) (record { links = links; coming = coming; output = now }) out (Ended statuses.IoError whys.Sink) notes
-refused_next views left_of job first coming0 before notes links coming stream new now out given page t stop files none refused =
+refused_next : {L R : Type 0} (views : LinkViews L) (left_of : R → Option (List ℕ)) (job : Job) (first : L) (coming0 : Option (List (List ℕ))) (before : SinkState) (notes : CallNotes) (links : L) (coming : Option (List (List ℕ))) (stream : Option R) (new : ClientState) (now : SinkState) (given : GivenFiles) (page : JoinHistory)
+    → (t : PageIsTurned views left_of job first coming0 given page notes links coming stream new) → MovesStopWithin t.going.fresh t.going.moves new → All IsPageFile given.pages → HoldsNone now
+    → HasTakenBack before (page_outputs_from 1 given.pages ++ refused_output (length given.pages + 1) page.given ∷ []) now
+    → CameTo views job (record { links = first; coming = coming0; output = before }) (record { links = links; coming = coming; output = now }) (Ended statuses.IoError whys.Sink) notes
+refused_next views left_of job first coming0 before notes links coming stream new now given page t stop files none refused =
     let g = t.going in
     let s = g.stage in
     let r = ran_by views left_of job (record { links = first; coming = coming0; output = before }) (record { links = links; coming = coming; output = now }) stream new (turned_given given page) g.moves g.left g.fresh new g.is_fresh g.leads g.told.told g.calls s s.stands in (
@@ -280,17 +263,17 @@ refused_next views left_of job first coming0 before notes links coming stream ne
         behind = [];
         gave = gave_all r.ran.trace.pages (given.pages ++ page ∷ []) [] g.moves r.ran.moves r.pages_is g.gave r.moves_is;
         none_behind = λ other. refl;
-        shelf = inr (none, refl, refl, record { shelved = given.pages; last = page; pages_are = r.pages_is; outputs = refused });
+        sink = inr (refl, refl, record { shelved = given.pages; last = page; pages_are = r.pages_is; outputs = refused; none = none });
       },
       subst (λ (m : List JobMove). NotesMatch m notes) (sym r.moves_is) g.notes_are,
     )
 
-sunk_by : {L R : Type 0} (views : LinkViews L) (left_of : R → Option (List ℕ)) (job : Job) (first : L) (coming0 : Option (List (List ℕ))) (before : Option Stock) (notes : CallNotes) (links : L) (coming : Option (List (List ℕ))) (stream : Option R) (c new : ClientState) (now : Option Stock) (out : Option (Option (List ℕ))) (given : GivenFiles) (gives : List JobMove)
-    → ((past : JoinHistory) (join : JoinState) → Represents past join → IsJoined past → (p : Picture) × ShowsFrames past.ended p) → scans job.task ≡ true → All IsPageFile given.pages
+sunk_by : {L R : Type 0} (views : LinkViews L) (left_of : R → Option (List ℕ)) (job : Job) (first : L) (coming0 : Option (List (List ℕ))) (before : SinkState) (notes : CallNotes) (links : L) (coming : Option (List (List ℕ))) (stream : Option R) (c new : ClientState) (now : SinkState) (given : GivenFiles) (gives : List JobMove)
+    → WholeShows → scans job.task ≡ true → All IsPageFile given.pages
     → (g : FullRunInvariant views left_of job first coming0 given notes links coming stream c) → is_ended c.outcome ≡ false → LastDelivers job.task g.fresh g.moves c given → GivesAll c gives new
-    → FallsShort g.stage.history.given (length given.pages + 1) before (page_outputs_from 1 given.pages) now out ⊎ TurnsOn g.stage.history c (length given.pages + 1) before (page_outputs_from 1 given.pages) (given_by gives) false new now out
-    → BatchHasCome views job (record { links = first; coming = coming0; output = before }) (record { links = links; coming = coming; output = now }) out (Ended statuses.IoError whys.Sink) notes
-sunk_by views left_of job first coming0 before notes links coming stream c new now out given gives shows scanning files g alive last all (inl short) =
+    → FallsShort g.stage.history.given (length given.pages + 1) before (page_outputs_from 1 given.pages) now ⊎ TurnsOn g.stage.history c (length given.pages + 1) before (page_outputs_from 1 given.pages) (given_by gives) false new now
+    → CameTo views job (record { links = first; coming = coming0; output = before }) (record { links = links; coming = coming; output = now }) (Ended statuses.IoError whys.Sink) notes
+sunk_by views left_of job first coming0 before notes links coming stream c new now given gives shows scanning files g alive last all (inl short) =
     let s = g.stage in
     let r = ran_by views left_of job (record { links = first; coming = coming0; output = before }) (record { links = links; coming = coming; output = now }) stream c given g.moves g.left g.fresh c g.is_fresh g.leads g.told.told g.calls s s.stands in (
       record {
@@ -308,162 +291,43 @@ sunk_by views left_of job first coming0 before notes links coming stream c new n
         gave = ap (λ (q : List JoinHistory). files_text q ++ (s.history.given ++ short.behind)) r.pages_is ∙ ap (λ (l : List ℕ). files_text given.pages ++ (l ++ short.behind)) s.given_is
             ∙ sym (append_assoc (files_text given.pages) given.bytes short.behind) ∙ ap (λ (l : List ℕ). l ++ short.behind) g.gave ∙ ap (λ (m : List JobMove). given_by m ++ short.behind) (sym r.moves_is);
         none_behind = λ other. absurd (other refl);
-        shelf = inl (subst (λ (q : List JoinHistory). HasTaken before (page_outputs_from 1 q) now out (length q + 1) (s.history.given ++ short.behind)) (sym r.pages_is) short.taken);
+        sink = inl (subst (λ (q : List JoinHistory). HasTaken before (page_outputs_from 1 q) now (length q + 1) (s.history.given ++ short.behind)) (sym r.pages_is) short.taken);
       },
       subst (λ (m : List JobMove). NotesMatch m notes) (sym r.moves_is) g.notes_are,
     )
-sunk_by views left_of job first coming0 before notes links coming stream c new now out given gives shows scanning files g alive last all (inr e) =
-    let t = page_turned views left_of job first coming0 before notes links coming stream c new now out given gives false shows g all e in
-    refused_next views left_of job first coming0 before notes links coming stream new now out given (after_pull (given_by gives) g.stage.history) t.0
+sunk_by views left_of job first coming0 before notes links coming stream c new now given gives shows scanning files g alive last all (inr e) =
+    let t = page_turned views left_of job first coming0 before notes links coming stream c new now given gives false shows g all e in
+    refused_next views left_of job first coming0 before notes links coming stream new now given (after_pull (given_by gives) g.stage.history) t.0
     (same_stop g.fresh t.0.going.fresh (gives ++ g.moves) t.0.going.moves new new t.2 t.1 refl (stops_within job.task g.fresh g.moves c given gives new all.are all.leads last)) files e.none e.taken
 
-sunk_at : {L R : Type 0} {was_whole : Bool} (views : LinkViews L) (left_of : R → Option (List ℕ)) (job : Job) (first : L) (coming0 : Option (List (List ℕ))) (before was : Option Stock) (notes : CallNotes) (links : L) (coming : Option (List (List ℕ))) (stream : Option R) (c old new : ClientState) (now : Option Stock) (under out : Option (Option (List ℕ))) (given : GivenFiles) (past : JoinHistory) (is_scanning b : Bool) (result : Bool)
-    → is_scanning ≡ b → is_scanning ≡ scans job.task → HasCount job.task → ((past : JoinHistory) (join : JoinState) → Represents past join → IsJoined past → (p : Picture) × ShowsFrames past.ended p)
-    → OnShelf was_whole job before was under given old past → (g : FullRunInvariant views left_of job first coming0 given notes links coming stream c) → is_ended c.outcome ≡ false → LastDelivers job.task g.fresh g.moves c given
+sunk_at : {L R : Type 0} {was_whole : Bool} (views : LinkViews L) (left_of : R → Option (List ℕ)) (job : Job) (first : L) (coming0 : Option (List (List ℕ))) (before was : SinkState) (notes : CallNotes) (links : L) (coming : Option (List (List ℕ))) (stream : Option R) (c old new : ClientState) (now : SinkState) (given : GivenFiles) (past : JoinHistory) (is_scanning b : Bool) (result : Bool)
+    → is_scanning ≡ b → is_scanning ≡ scans job.task → HasCount job.task → WholeShows
+    → Stored was_whole job before was given old past → (g : FullRunInvariant views left_of job first coming0 given notes links coming stream c) → is_ended c.outcome ≡ false → LastDelivers job.task g.fresh g.moves c given
     → result ≡ false → (is_scanning ≡ false → result ≡ true)
-    → (gives : List JobMove) × GivesAll c gives new
-    × ((before : Option Stock) (outputs : List ReturnedOutput) (k : ℕ) (q : JoinHistory) → IsFiling q c k before outputs was under → HasFiledShort q c k before outputs (given_by gives) new now out)
-    → BatchHasCome views job (record { links = first; coming = coming0; output = before }) (record { links = links; coming = coming; output = now }) out (Ended statuses.IoError whys.Sink) notes
-sunk_at views left_of job first coming0 before was notes links coming stream c old new now under out given past is_scanning true result e scanning h shows shelf g alive last fails none goes =
-    sunk_by views left_of job first coming0 before notes links coming stream c new now out given goes.0 shows (sym scanning ∙ e) shelf.files g alive last goes.1
-    (from_here views left_of job first coming0 before was notes links coming stream c old under given past (λ b outputs k q. HasFiledShort q c k b outputs (given_by goes.0) new now out) (sym scanning ∙ e) h shelf g goes.2)
-sunk_at views left_of job first coming0 before was notes links coming stream c old new now under out given past is_scanning false result e scanning h shows shelf g alive last fails none goes =
+    → FillsShort c was new now
+    → CameTo views job (record { links = first; coming = coming0; output = before }) (record { links = links; coming = coming; output = now }) (Ended statuses.IoError whys.Sink) notes
+sunk_at views left_of job first coming0 before was notes links coming stream c old new now given past is_scanning true result e scanning h shows shelf g alive last fails none goes =
+    sunk_by views left_of job first coming0 before notes links coming stream c new now given goes.0 shows (sym scanning ∙ e) shelf.files g alive last goes.1
+    (from_here views left_of job first coming0 before was notes links coming stream c old given past (λ b outputs k q. HasFiledShort q c k b outputs (given_by goes.0) new now) (sym scanning ∙ e) h shelf g goes.2)
+sunk_at views left_of job first coming0 before was notes links coming stream c old new now given past is_scanning false result e scanning h shows shelf g alive last fails none goes =
     absurd (let clash : true ≡ false = sym (none e) ∙ fails in cc)
 
-pub came_sunk : {L R : Type 0} {was_whole : Bool} (views : LinkViews L) (left_of : R → Option (List ℕ)) (job : Job) (first : L) (coming0 : Option (List (List ℕ))) (before was : Option Stock) (notes : CallNotes) (links : L) (coming : Option (List (List ℕ))) (stream : Option R) (c old new : ClientState) (now : Option Stock) (under out : Option (Option (List ℕ))) (given : GivenFiles) (past : JoinHistory) (is_scanning result : Bool)
-    → is_scanning ≡ scans job.task → HasCount job.task → ((past : JoinHistory) (join : JoinState) → Represents past join → IsJoined past → (p : Picture) × ShowsFrames past.ended p)
-    → OnShelf was_whole job before was under given old past → (g : FullRunInvariant views left_of job first coming0 given notes links coming stream c) → is_ended c.outcome ≡ false → LastDelivers job.task g.fresh g.moves c given
+pub came_sunk : {L R : Type 0} {was_whole : Bool} (views : LinkViews L) (left_of : R → Option (List ℕ)) (job : Job) (first : L) (coming0 : Option (List (List ℕ))) (before was : SinkState) (notes : CallNotes) (links : L) (coming : Option (List (List ℕ))) (stream : Option R) (c old new : ClientState) (now : SinkState) (given : GivenFiles) (past : JoinHistory) (is_scanning result : Bool)
+    → is_scanning ≡ scans job.task → HasCount job.task → WholeShows
+    → Stored was_whole job before was given old past → (g : FullRunInvariant views left_of job first coming0 given notes links coming stream c) → is_ended c.outcome ≡ false → LastDelivers job.task g.fresh g.moves c given
     → result ≡ false → (is_scanning ≡ false → result ≡ true)
-    → (gives : List JobMove) × GivesAll c gives new
-    × ((before : Option Stock) (outputs : List ReturnedOutput) (k : ℕ) (q : JoinHistory) → IsFiling q c k before outputs was under → HasFiledShort q c k before outputs (given_by gives) new now out)
-    → BatchHasCome views job (record { links = first; coming = coming0; output = before }) (record { links = links; coming = coming; output = now }) out (Ended statuses.IoError whys.Sink) notes
-came_sunk views left_of job first coming0 before was notes links coming stream c old new now under out given past is_scanning result scanning h shows shelf g alive last fails none goes =
-    sunk_at views left_of job first coming0 before was notes links coming stream c old new now under out given past is_scanning is_scanning result refl scanning h shows shelf g alive last fails none goes
+    → FillsShort c was new now
+    → CameTo views job (record { links = first; coming = coming0; output = before }) (record { links = links; coming = coming; output = now }) (Ended statuses.IoError whys.Sink) notes
+came_sunk views left_of job first coming0 before was notes links coming stream c old new now given past is_scanning result scanning h shows shelf g alive last fails none goes =
+    sunk_at views left_of job first coming0 before was notes links coming stream c old new now given past is_scanning is_scanning result refl scanning h shows shelf g alive last fails none goes
 
--- ---- the last output is given back
+-- ---- by the case of what a job came to
 
-last_back : (a : Result Bool JoinFault) (page : JoinHistory) (pages : List JoinHistory) (before was new : Option Stock) (out : Option (Option (List ℕ))) → HasTaken before (page_outputs_from 1 pages) was out (length pages + 1) page.given → ((a ≡ Ok true → ⊥) → out ≡ None)
-    → (a ≡ Ok true → page.given ≢ []) → GivesBack was out true new → TakesBack before (page_outputs_from 1 (pages ++ last_whole_page a page)) new
-last_back (Ok true) page pages before was new out taken none some back =
-    subst (λ (l : List ReturnedOutput). TakesBack before l new) (sym (outputs_more 1 pages page)) (given_back before was new (page_outputs_from 1 pages) (length pages + 1) page.given out true (some refl) taken back)
-last_back (Ok false) page pages before was new out taken none some back =
-    subst (λ (l : List JoinHistory). TakesBack before (page_outputs_from 1 l) new) (sym (append-nil pages)) (none_back before was new (page_outputs_from 1 pages) (length pages + 1) page.given out true (none (λ e. (let clash : Ok false ≡ Ok true = e in cc))) taken back)
-last_back (Err fault) page pages before was new out taken none some back =
-    subst (λ (l : List JoinHistory). TakesBack before (page_outputs_from 1 l) new) (sym (append-nil pages)) (none_back before was new (page_outputs_from 1 pages) (length pages + 1) page.given out true (none (λ e. (let clash : Err fault ≡ Ok true = e in cc))) taken back)
+pub came_ok : {L T : Type 0} (views : LinkViews L) (job : Job) (was now : SeenStreams L SinkState) (notes : CallNotes) (result : Result (Reports × T) Stop) → CameTo views job was now (over_as result) notes → IfReports result (CameDone views job was now)
+came_ok views job was now notes (Ok done) came = came.0
+came_ok views job was now notes (Err stop) came = tt
 
--- or refused
-last_refused : (a : Result Bool JoinFault) (page : JoinHistory) (pages : List JoinHistory) (before was new : Option Stock) (out : Option (Option (List ℕ))) → HasTaken before (page_outputs_from 1 pages) was out (length pages + 1) page.given → ((a ≡ Ok true → ⊥) → out ≡ None)
-    → (a ≡ Ok true → page.given ≢ []) → GivesBack was out false new → RefusesLastPage (pages ++ last_whole_page a page) before new
-last_refused (Ok true) page pages before was new out taken none some back =
-    record { shelved = pages; last = page; pages_are = refl; outputs = given_back before was new (page_outputs_from 1 pages) (length pages + 1) page.given out false (some refl) taken back }
-last_refused (Ok false) page pages before was new out taken none some back =
-    absurd (let clash : false ≡ true = none_kept was new out false (none (λ e. (let clash : Ok false ≡ Ok true = e in cc))) back in cc)
-last_refused (Err fault) page pages before was new out taken none some back =
-    absurd (let clash : false ≡ true = none_kept was new out false (none (λ e. (let clash : Err fault ≡ Ok true = e in cc))) back in cc)
-
-file_is_some : (page : JoinHistory) → IsPageFile page → page.given ≢ []
-file_is_some page f e = nothing_is_not_whole (subst (λ (t : List ℕ). IsWhole t) e (f.picture, f.file))
-
--- what a job did says nothing of its outputs
-abbrev with_output : {L : Type 0} (views : LinkViews L) (job : Job) (was now : SeenStreams L (Option Stock)) (new : Option Stock) → RanWithTrace views job was now → RanWithTrace views job was (record now { output = new })
-with_output views job was now new r = record {
-  moves = r.moves;
-  first = r.first;
-  last = r.last;
-  fresh = r.fresh;
-  leads = r.leads;
-  told = r.told;
-  rest = r.rest;
-  left = r.left;
-  trace = r.trace;
-  calls = r.calls;
-  did = r.did;
-  asked = r.asked;
-  wholes = r.wholes;
-  unread = r.unread;
-  begin = r.begin;
-  brought = r.brought;
-  few = r.few;
-}
-
-pub close_done : {L : Type 0} (views : LinkViews L) (job : Job) (was now : SeenStreams L (Option Stock)) (new : Option Stock) (out : Option (Option (List ℕ))) (reports : Reports) (is_taken : Bool)
-    → BatchCameDone views job was now out reports → GivesBack now.output out is_taken new → HasBatchRun views job was (record now { output = new }) (closed_as (Done reports) is_taken)
-close_done views job was now new out reports true d back = record {
-  ran = with_output views job was now new d.ran;
-  told = d.told;
-  last_told = d.last_told;
-  steps = d.steps;
-  went_out = d.went_out;
-  all = d.all;
-  read_all = d.read_all;
-  end_well = d.end_well;
-  count = d.count;
-  files = d.files;
-  gave = d.gave;
-  outputs = last_back (answer_of_end d.ran.trace.protocol.history) d.ran.trace.protocol.history d.ran.trace.pages was.output now.output new out d.taken d.none (λ joined. file_is_some d.ran.trace.protocol.history (d.last joined)) back;
-}
-close_done views job was now new out reports false d back = record {
-  ran = with_output views job was now new d.ran;
-  cause = inr (inr refl);
-  all = λ other. absurd (other refl);
-  refusal = λ e. cc;
-  last_told = inr (inr refl);
-  steps = λ told. absurd (let clash : Done reports ≡ Ended statuses.IoError whys.Sink = sym d.last_told ∙ told in cc);
-  sunk = λ sink other. inl d.steps;
-  pages = pages_of d.ran.trace;
-  finished = inr (refl, (reports, d.told));
-  files = d.files;
-  text = [];
-  not_whole = nothing_is_not_whole;
-  behind = [];
-  gave = ap (λ (l : List ℕ). l ++ []) d.gave;
-  none_behind = λ other. refl;
-  shelf = inr (refl, refl, last_refused (answer_of_end d.ran.trace.protocol.history) d.ran.trace.protocol.history d.ran.trace.pages was.output now.output new out d.taken d.none (λ joined. file_is_some d.ran.trace.protocol.history (d.last joined)) back);
-}
-
--- what the shelf has once the output under way was given back
-kept_or_refused : (trace : JobTrace) (text : List ℕ) (before was new : Option Stock) (out : Option (Option (List ℕ))) (stop : Stop) (is_taken : Bool) → GivesBack was out is_taken new
-    → HasTaken before (page_outputs_from 1 trace.pages) was out (length trace.pages + 1) text ⊎ ((out ≡ None) × (text ≡ []) × (stop ≡ failed_output) × RefusesLastPage trace.pages before was)
-    → ((trace.pages ≡ trace.pages) × KeepsAllPages trace.pages text before new) ⊎ ((stop ≡ failed_output) × (text ≡ []) × RefusesLastPage trace.pages before new)
-kept_or_refused trace text before was new out stop is_taken back (inl taken) =
-    let left = left_behind before was new (page_outputs_from 1 trace.pages) (length trace.pages + 1) text out is_taken taken back in
-    inl (refl, record { left = left.0; is_left = left.1; outputs = left.2 })
-kept_or_refused trace text before was new out stop is_taken back (inr refused) =
-    inr (refused.2, refused.1, subst (λ (o : Option Stock). RefusesLastPage trace.pages before o) (sym (none_same was new out is_taken refused.0 back)) refused.3)
-
-pub close_ended : {L : Type 0} (views : LinkViews L) (job : Job) (was now : SeenStreams L (Option Stock)) (new : Option Stock) (out : Option (Option (List ℕ))) (stop : Stop) (is_taken : Bool)
-    → BatchCameEnded views job was now out stop → GivesBack now.output out is_taken new → BatchEnded views job was (record now { output = new }) stop
-close_ended views job was now new out stop is_taken d back = record {
-  ran = with_output views job was now new d.ran;
-  cause = d.cause;
-  all = d.all;
-  refusal = d.refusal;
-  last_told = d.last_told;
-  steps = d.steps;
-  sunk = λ sink other. inr (d.sunk sink other);
-  pages = d.ran.trace.pages;
-  finished = inl refl;
-  files = d.files;
-  text = d.text;
-  not_whole = d.not_whole;
-  behind = d.behind;
-  gave = d.gave;
-  none_behind = d.none_behind;
-  shelf = kept_or_refused d.ran.trace d.text was.output now.output new out stop is_taken back d.shelf;
-}
-
-pub close : {L : Type 0} (views : LinkViews L) (job : Job) (was now : SeenStreams L (Option Stock)) (new : Option Stock) (out : Option (Option (List ℕ))) (outcome : Outcome) (notes : CallNotes) (is_taken : Bool)
-    → BatchHasCome views job was now out outcome notes → GivesBack now.output out is_taken new → HasBatchRun views job was (record now { output = new }) (closed_as outcome is_taken)
-close views job was now new out Running notes is_taken d back = absurd d
-close views job was now new out (Done reports) notes is_taken d back = close_done views job was now new out reports is_taken d.0 back
-close views job was now new out (Ended status why) notes is_taken d back = close_ended views job was now new out (record { status = status; why = why }) is_taken d.0 back
-
--- by the case of what a batch gave
-pub batch_ok : {L T : Type 0} (views : LinkViews L) (job : Job) (was now : SeenStreams L (Option Stock)) (result : Result (Reports × T) Stop) → HasBatchRun views job was now (over_as result) → IfOk result (λ done. BatchDone views job was now done.0)
-batch_ok views job was now (Ok done) run = run
-batch_ok views job was now (Err stop) run = tt
-
-pub batch_err : {L T C D S : Type 0} (views : LinkViews L) (job : Job) (was now : SeenStreams L (Option Stock)) (before behind : JobStreams C D S) (result : Result (Reports × T) Stop) → HasBatchRun views job was now (over_as result)
-    → IfErr result (λ stop. RefusesBatch job (Ended stop.status stop.why) before behind ⊎ BatchEnded views job was now stop)
-batch_err views job was now before behind (Ok done) run = tt
-batch_err views job was now before behind (Err stop) run = inr run
+pub came_err : {L T : Type 0} (Refused : Stop → Type 0) (views : LinkViews L) (job : Job) (was now : SeenStreams L SinkState) (notes : CallNotes) (result : Result (Reports × T) Stop) → CameTo views job was now (over_as result) notes
+    → IfErr result (λ stop. Refused stop ⊎ CameEnded views job was now stop)
+came_err Refused views job was now notes (Ok done) came = tt
+came_err Refused views job was now notes (Err stop) came = inr came.0

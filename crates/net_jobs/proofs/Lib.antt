@@ -17,5 +17,7 @@ pub mod FileNumbers
 pub mod Asking
 pub mod Shelving
 pub mod Batching
+pub mod BatchEnds
+pub mod SingleRuns
 pub mod Refusing
 pub mod OutputEnds

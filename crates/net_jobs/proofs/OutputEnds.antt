@@ -1,16 +1,10 @@
 -- That a job ends for its output only where that failed.
 use Rattle.std.proofs.Common.{◌≡◌, ◌≢◌, ◌∙◌, ◌⊎◌, ℕ, Bool, true, false, Option, Result, Ok, Err, List, inl, inr, ap, refl, sym, subst}
 use Rattle.std.specs.Prelude.{IfErr}
-use Rattle.std.specs.Io.KnownBytes.{Appends}
-use Rattle.sane_fixed.specs.declared.status.Status.TheVariants as statuses
 use Rattle.frame_join.specs.FrameHistory.{JoinHistory}
 use Rattle.scan_job.specs.JobSize.{HasCount}
 use Rattle.scan_job.specs.Outcomes.{IfEnded}
-use Rattle.scan_job.specs.Shelves.{Stock, ReturnedOutput}
 use Rattle.scan_job.specs.declared.job.Job.{Job}
-use Rattle.scan_job.specs.declared.job.JobFault.{JobFault}
-use Rattle.scan_job.specs.declared.job.JobFault.TheVariants.{TooManySettings, TextTooLong, NoMem, BadCount}
-use Rattle.scan_job.specs.declared.job.Task.TheVariants as tasks
 use Rattle.scan_job.specs.declared.outcome.Outcome.{Outcome}
 use Rattle.scan_job.specs.declared.outcome.Outcome.TheVariants.{Running, Done, Ended}
 use Rattle.scan_job.specs.declared.outcome.Why.TheVariants as whys
@@ -19,13 +13,12 @@ use Rattle.client_replies.specs.ProtocolStates.{ProtocolState, scans}
 use Rattle.net_client.specs.ClientStates.{ClientState}
 use Rattle.net_jobs.specs.JobJournal.{JobMove}
 use Rattle.net_jobs.specs.JobTraces.{JobTrace}
-use Rattle.net_jobs.specs.RunPromises.{EndsBy, ByLoss, ByMemory, ByGarble, ByLength, refused_as}
+use Rattle.net_jobs.specs.RunPromises.{EndsBy, ByLoss, ByMemory, ByGarble, ByLength}
 use Rattle.net_jobs.specs.Links.{LinkViews}
-use Rattle.net_jobs.specs.Inside.{CallNotes, HoldsGiven, IsFiling, StopsAs}
+use Rattle.net_jobs.specs.Inside.{CallNotes, FailsFor, SinkState, StopsAs, closed_as}
 use Rattle.net_jobs.proofs.InvariantRecords.{ClientFollowsTrace, Falls, FullRunInvariant, GivenFiles}
-use Rattle.net_jobs.proofs.JobEnds.{task_is}
 use Rattle.net_jobs.proofs.Refusing.{course_spares}
-use Rattle.net_jobs.proofs.Shelving.{OnShelf, from_here}
+use Rattle.net_jobs.proofs.Shelving.{Stored, from_here}
 
 -- ---- a client never ends for an output
 
@@ -57,31 +50,20 @@ told_spares views left_of job first coming0 given notes links coming stream c st
 
 -- ---- an output that did not take its file has failed
 
--- the output of a scan holds what was given
-pub holding : {C R : Type 0} (views : LinkViews C) (left_of : R → Option (List ℕ)) (job : Job) (first : C) (coming0 : Option (List (List ℕ))) (held was : Option (List ℕ)) (notes : CallNotes) (links : C) (coming : Option (List (List ℕ))) (stream : Option R) (c : ClientState) (given : GivenFiles)
-    → job.task ≡ tasks.Scan → Appends held was given.bytes → (g : FullRunInvariant views left_of job first coming0 given notes links coming stream c) → HoldsGiven g.stage.history c held was
-holding views left_of job first coming0 held was notes links coming stream c given scan taken g =
-    let s = g.stage in
-    record { scan = task_is c job s.target ∙ scan; serves = s.serves; taken = subst (λ (l : List ℕ). Appends held was l) (sym s.given_is) taken }
-
--- so do those of a batch's pages
-pub fails_by : {C R : Type 0} {was_whole : Bool} (views : LinkViews C) (left_of : R → Option (List ℕ)) (job : Job) (first : C) (coming0 : Option (List (List ℕ))) (before was : Option Stock) (notes : CallNotes) (links : C) (coming : Option (List (List ℕ))) (stream : Option R) (c old : ClientState) (under : Option (Option (List ℕ))) (given : GivenFiles) (past : JoinHistory) (is_scanning b result failed : Bool)
-    → is_scanning ≡ b → is_scanning ≡ scans job.task → HasCount job.task → OnShelf was_whole job before was under given old past → (g : FullRunInvariant views left_of job first coming0 given notes links coming stream c)
+pub fails_by : {C R : Type 0} {was_whole : Bool} (views : LinkViews C) (left_of : R → Option (List ℕ)) (job : Job) (first : C) (coming0 : Option (List (List ℕ))) (before was : SinkState) (notes : CallNotes) (links : C) (coming : Option (List (List ℕ))) (stream : Option R) (c old : ClientState) (given : GivenFiles) (past : JoinHistory) (is_scanning b result failed : Bool)
+    → is_scanning ≡ b → is_scanning ≡ scans job.task → HasCount job.task → Stored was_whole job before was given old past → (g : FullRunInvariant views left_of job first coming0 given notes links coming stream c)
     → result ≡ false → (is_scanning ≡ false → result ≡ true)
-    → ((before : Option Stock) (outputs : List ReturnedOutput) (k : ℕ) (q : JoinHistory) → IsFiling q c k before outputs was under → failed ≡ true) → failed ≡ true
-fails_by views left_of job first coming0 before was notes links coming stream c old under given past is_scanning true result failed e scanning h shelf g short none goes =
-    from_here views left_of job first coming0 before was notes links coming stream c old under given past (λ b outputs k q. failed ≡ true) (sym scanning ∙ e) h shelf g goes
-fails_by views left_of job first coming0 before was notes links coming stream c old under given past is_scanning false result failed e scanning h shelf g short none goes =
+    → FailsFor c was failed → failed ≡ true
+fails_by views left_of job first coming0 before was notes links coming stream c old given past is_scanning true result failed e scanning h shelf g short none goes =
+    from_here views left_of job first coming0 before was notes links coming stream c old given past (λ b outputs k q. failed ≡ true) (sym scanning ∙ e) h shelf g goes
+fails_by views left_of job first coming0 before was notes links coming stream c old given past is_scanning false result failed e scanning h shelf g short none goes =
     absurd (let clash : true ≡ false = sym (none e) ∙ short in cc)
 
 -- ---- a batch whose last output is given back
 
-taken_or_not : (is_taken was failed : Bool) → (is_taken ≡ false → failed ≡ true) → (is_taken ≡ true → failed ≡ was) → was ≡ true → failed ≡ true
-taken_or_not true was failed refused kept noted = kept refl ∙ noted
-taken_or_not false was failed refused kept noted = refused refl
-
-pub closed_output : {T : Type 0} (done result : Result T Stop) (is_taken was failed : Bool) → IfErr result (λ stop. (done ≡ Err stop) ⊎ (is_taken ≡ false)) → IfErr done (λ stop. stop.why ≡ whys.Sink → was ≡ true)
-    → (is_taken ≡ false → failed ≡ true) → (is_taken ≡ true → failed ≡ was) → IfErr result (λ stop. stop.why ≡ whys.Sink → failed ≡ true)
-closed_output done (Ok it) is_taken was failed by ends refused kept = tt
-closed_output {T} done (Err stop) is_taken was failed (inl is) ends refused kept = λ sink. taken_or_not is_taken was failed refused kept (subst (λ (r : Result T Stop). IfErr r (λ s. s.why ≡ whys.Sink → was ≡ true)) is ends sink)
-closed_output done (Err stop) is_taken was failed (inr is) ends refused kept = λ sink. refused is
+pub closed_output : {T : Type 0} (done : Result T Stop) (is_taken was failed : Bool) → IfErr done (λ stop. stop.why ≡ whys.Sink → was ≡ true)
+    → (is_taken ≡ false → failed ≡ true) → (is_taken ≡ true → failed ≡ was) → IfErr (closed_as done is_taken) (λ stop. stop.why ≡ whys.Sink → failed ≡ true)
+closed_output (Ok it) true was failed ends refused kept = tt
+closed_output (Ok it) false was failed ends refused kept = λ sink. refused refl
+closed_output (Err stop) true was failed ends refused kept = λ sink. kept refl ∙ ends sink
+closed_output (Err stop) false was failed ends refused kept = λ sink. refused refl

@@ -1,4 +1,4 @@
--- Between two turns of a job whose files go to a shelf.
+-- Between two turns of a job: how far it is, and what of its files is where they go.
 use Rattle.std.proofs.Common.{◌≡◌, ◌∙◌, ◌⊎◌, ◌+◌, ℕ, Bool, true, false, Option, Some, None, Ok, List, [], ◌∷◌, ◌++◌, length, take, drop, refl, sym, ap, subst, append_assoc, inl, inr}
 use Rattle.std.specs.Prelude.{All}
 use Rattle.std.proofs.lemmas.List.{append-nil, take-append-drop}
@@ -9,7 +9,7 @@ use Rattle.page_picture.specs.Shows.{ShowsFrames}
 use Rattle.frame_join.specs.FrameHistory.{JoinHistory, IsJoined, empty_history, after_pull}
 use Rattle.frame_join.specs.JoinStates.{JoinState, Represents}
 use Rattle.scan_job.specs.JobSize.{HasCount}
-use Rattle.scan_job.specs.Shelves.{Stock, ReturnedOutput}
+use Rattle.scan_job.specs.Shelves.{ReturnedOutput}
 use Rattle.scan_job.specs.declared.job.Job.{Job}
 use Rattle.scan_job.specs.declared.job.Task.{Task}
 use Rattle.scan_job.specs.declared.job.Task.TheVariants as tasks
@@ -25,12 +25,11 @@ use Rattle.net_client.specs.ClientStates.{ClientState, ClientRepresents, IsNewCl
 use Rattle.net_jobs.specs.JobTraces.{JobTrace, EventLeads, Turned}
 use Rattle.net_jobs.specs.JobSteps.{FileGoesOn, PageEnds}
 use Rattle.net_jobs.specs.JobJournal.{PortsAreTold, JobMove, MovesLead, Writes, Fails, given_by, bytes_written_by, heard_by, dialled_by, has_write_failed}
-use Rattle.net_jobs.specs.Inside.{GivesAll, CallNotes, NotesMatch, no_notes, HasTaken, OutputIsUnderWay, IsFiling, TurnsOn, HasFiled, GivesPage}
+use Rattle.net_jobs.specs.Inside.{GivesAll, CallNotes, NotesMatch, no_notes, HasTakenBack, HoldsNone, OutputIsUnderWay, IsFiling, SinkState, TurnsOn, Fills, HasFiled, GivesPage}
 use Rattle.net_jobs.specs.RunPromises.{EndsBy, ByLoss, ByMemory, ByGarble, ByLength}
 use Rattle.net_jobs.specs.Links.{LinkViews, Calls}
 use Rattle.net_jobs.proofs.InvariantRecords.{LinkMatchesTrace, ClientFollowsTrace, Falls, GivenFiles, no_files_given, RunInvariant, FullRunInvariant, turned_given, more_given}
 use Rattle.net_jobs.specs.Outputs.{files_text, page_outputs_from}
-use Rattle.scan_job.specs.FileOutputs.{TakesBack}
 use Rattle.net_jobs.specs.Batches.{IsPageFile}
 use Rattle.net_jobs.proofs.ToldPorts.{told_short, told_written}
 use Rattle.net_jobs.proofs.Tracing.{did_say}
@@ -38,34 +37,34 @@ use Rattle.net_jobs.proofs.KeepingInvariant.{following, asked_now, stage_on}
 use Rattle.net_jobs.proofs.DataLoop.{behind_some}
 use Rattle.net_jobs.proofs.RunInvariants.{none_open, stage_wrote, going_begun, gave_on}
 use Rattle.net_jobs.proofs.FileNumbers.{Counts, counts, is_turning_at}
-use Rattle.net_jobs.proofs.JobEnds.{NoneBefore, falls_short, Leaves, PartedBefore, PartsWhole, PartsShort, stage_gave_by, task_is, running_ends, turning_batch}
+use Rattle.net_jobs.proofs.JobEnds.{NoneBefore, WholeShows, falls_short, Leaves, PartedBefore, PartsWhole, PartsShort, stage_gave_by, task_is, running_ends, turning_batch}
 use Rattle.net_jobs.proofs.Pages.{has_turned, turning_fits}
 use Rattle.net_jobs.proofs.Steps.{AllGiven, AreStepsSoFar, LastDelivers, StepsBy, StepsSoFar, ended_not_done, running_not_done, steps_at, steps_given, steps_quiet, steps_still, steps_turned}
 use Rattle.net_jobs.proofs.Shelves.{begins_with_none, none_under_way, outputs_more}
 
--- what a shelf holds of a job's files: the pages that were turned, each whole, and what was given of the one under way
-pub record OnShelf (whole : Bool) (job : Job) (before now : Option Stock) (out : Option (Option (List ℕ))) (given : GivenFiles) (c : ClientState) (past : JoinHistory) : Type 0 where
-  pub under_way : OutputIsUnderWay before (page_outputs_from 1 given.pages) now out (length given.pages + 1) given.bytes
+-- what is stored of a job's files: the pages that were turned, each whole, and what was given of the one under way
+pub record Stored (whole : Bool) (job : Job) (before now : SinkState) (given : GivenFiles) (c : ClientState) (past : JoinHistory) : Type 0 where
+  pub under_way : OutputIsUnderWay before (page_outputs_from 1 given.pages) now (length given.pages + 1) given.bytes
   pub files : All IsPageFile given.pages
   pub none : scans job.task ≡ false → given.bytes ≡ []
   pub shown : whole ≡ true → scans job.task ≡ true → is_ended c.outcome ≡ false → IsJoined past → (p : Picture) → ShowsFrames past.ended p → Denotes given.bytes p
 
-pub record Laid {C R : Type 0} (views : LinkViews C) (left_of : R → Option (List ℕ)) (job : Job) (first : C) (coming0 : Option (List (List ℕ))) (before : Option Stock) (notes : CallNotes) (whole : Bool) (control : C) (coming : Option (List (List ℕ))) (stream : Option R) (c : ClientState) (now : Option Stock) (out : Option (Option (List ℕ))) : Type 0 where
+pub record Laid {C R : Type 0} (views : LinkViews C) (left_of : R → Option (List ℕ)) (job : Job) (first : C) (coming0 : Option (List (List ℕ))) (before : SinkState) (notes : CallNotes) (whole : Bool) (control : C) (coming : Option (List (List ℕ))) (stream : Option R) (c : ClientState) (now : SinkState) : Type 0 where
   pub given : GivenFiles
   pub going : FullRunInvariant views left_of job first coming0 given notes control coming stream c
   pub steps : StepsBy whole job.task going.fresh going.moves c given
-  pub shelf : OnShelf whole job before now out given c going.stage.history
+  pub shelf : Stored whole job before now given c going.stage.history
 
-pub laid_first : {C R : Type 0} (views : LinkViews C) (left_of : R → Option (List ℕ)) (job : Job) (control : C) (coming : Option (List (List ℕ))) (before : Option Stock) (out : Option (Option (List ℕ))) (c : ClientState) → IsNewClient job c → out ≡ None
-    → Laid views left_of job control coming before no_notes false control coming None c before out
-laid_first views left_of job control coming before out c f none =
+pub laid_first : {C R : Type 0} (views : LinkViews C) (left_of : R → Option (List ℕ)) (job : Job) (control : C) (coming : Option (List (List ℕ))) (before : SinkState) (c : ClientState) → IsNewClient job c → HoldsNone before
+    → Laid views left_of job control coming before no_notes false control coming None c before
+laid_first views left_of job control coming before c f none =
     let g = going_begun views left_of job control coming c f in
     record {
       given = no_files_given;
       going = g.0;
       steps = AllGiven g.2 (ended_not_done c.outcome Running (ap (λ (v : ClientState). v.outcome) f.value) tt);
       shelf = record {
-        under_way = record { taken = subst (λ (o : Option (Option (List ℕ))). HasTaken before [] before o 1 []) (sym none) (begins_with_none before 1); asked = λ e. none };
+        under_way = record { taken = begins_with_none before 1 none; asked = λ e. none };
         files = All-nil IsPageFile;
         none = λ other. refl;
         shown = λ w scanning alive joined. absurd (let clash : Ok false ≡ Ok true = subst (λ (q : JoinHistory). IsJoined q) g.1 joined in cc);
@@ -151,7 +150,7 @@ stage_turned left_of job moves read_ wrote left coming0 coming given stream c ne
 -- ---- a turn's end: what the job gave of its files
 
 -- the file of a page that is turned
-turned_file : (past : JoinHistory) (join : JoinState) (bytes : List ℕ) → ((past : JoinHistory) (join : JoinState) → Represents past join → IsJoined past → (p : Picture) × ShowsFrames past.ended p) → Represents past join → IsJoined past
+turned_file : (past : JoinHistory) (join : JoinState) (bytes : List ℕ) → WholeShows → Represents past join → IsJoined past
     → ((p : Picture) → ShowsFrames past.ended p → Denotes (past.given ++ bytes) p) → IsPageFile (after_pull bytes past)
 turned_file past join bytes shows stands joined denotes = let p = shows past join stands joined in record { picture = p.0; shows = p.1; file = denotes p.0 p.1 }
 
@@ -173,7 +172,7 @@ goes_out c was now gives turning turned (inl on) = absurd (let clash : true ≡ 
 goes_out c was now gives turning turned (inr ends) = ends
 
 -- a client that waits for its page's file to be taken does not go on with it once no bytes are left
-none_to_turn : (b : Bool) (c now : ClientState) (past : JoinHistory) (bytes : List ℕ) → turns c.outcome c.progress ≡ b → ((past : JoinHistory) (join : JoinState) → Represents past join → IsJoined past → (p : Picture) × ShowsFrames past.ended p) → ClientRepresents past c
+none_to_turn : (b : Bool) (c now : ClientState) (past : JoinHistory) (bytes : List ℕ) → turns c.outcome c.progress ≡ b → WholeShows → ClientRepresents past c
     → now ≡ record c { join = now.join } → ClientRepresents (after_pull bytes past) now → (is_ended c.outcome ≡ false → IsJoined past → (p : Picture) → ShowsFrames past.ended p → Denotes (past.given ++ bytes) p) → turns c.outcome c.progress ≡ false
 none_to_turn false c now past bytes e shows serves rest after denotes = e
 none_to_turn true c now past bytes e shows serves rest after denotes =
@@ -189,12 +188,12 @@ pub record PageIsTurned {C R : Type 0} (views : LinkViews C) (left_of : R → Op
   pub alive : is_ended now.outcome ≡ false
   pub file : IsPageFile page
 
-pub page_turned : {C R : Type 0} (views : LinkViews C) (left_of : R → Option (List ℕ)) (job : Job) (first : C) (coming0 : Option (List (List ℕ))) (before : Option Stock) (notes : CallNotes) (control : C) (coming : Option (List (List ℕ))) (stream : Option R) (c now : ClientState) (then_ : Option Stock) (out : Option (Option (List ℕ))) (given : GivenFiles) (gives : List JobMove) (kept : Bool)
-    → ((past : JoinHistory) (join : JoinState) → Represents past join → IsJoined past → (p : Picture) × ShowsFrames past.ended p)
+pub page_turned : {C R : Type 0} (views : LinkViews C) (left_of : R → Option (List ℕ)) (job : Job) (first : C) (coming0 : Option (List (List ℕ))) (before : SinkState) (notes : CallNotes) (control : C) (coming : Option (List (List ℕ))) (stream : Option R) (c now : ClientState) (then_ : SinkState) (given : GivenFiles) (gives : List JobMove) (kept : Bool)
+    → WholeShows
     → (g : FullRunInvariant views left_of job first coming0 given notes control coming stream c) → GivesAll c gives now
-    → (e : TurnsOn g.stage.history c (length given.pages + 1) before (page_outputs_from 1 given.pages) (given_by gives) kept now then_ out)
+    → (e : TurnsOn g.stage.history c (length given.pages + 1) before (page_outputs_from 1 given.pages) (given_by gives) kept now then_)
     → (t : PageIsTurned views left_of job first coming0 given (after_pull (given_by gives) g.stage.history) notes control coming stream now) × (t.going.moves ≡ gives ++ g.moves) × (t.going.fresh ≡ g.fresh)
-page_turned views left_of job first coming0 before notes control coming stream c now then_ out given gives kept shows g all e =
+page_turned views left_of job first coming0 before notes control coming stream c now then_ given gives kept shows g all e =
     let s = g.stage in
     let bytes : List ℕ = given_by gives in
     let says = behind_some c.out now.out (optional_request_text (request_for c.target c.notes.word (stages.Starting true))) e.client.text in
@@ -207,14 +206,14 @@ page_turned views left_of job first coming0 before notes control coming stream c
     let runs : is_running now.outcome ≡ true = ap (λ (v : ClientState). is_running v.outcome) e.client.rest ∙ turning_running c.outcome c.progress e.turning in
     (record { going = h.0; anew = h.1 ∙ t.1; alive = not_over now.outcome runs; file = turned_file s.history c.join bytes shows s.serves.stands fits.0 e.denotes }, h.2, h.3)
 
-pub laid_next : {C R : Type 0} (views : LinkViews C) (left_of : R → Option (List ℕ)) (job : Job) (first : C) (coming0 : Option (List (List ℕ))) (before : Option Stock) (notes : CallNotes) (control : C) (coming : Option (List (List ℕ))) (stream : Option R) (c now : ClientState) (then_ : Option Stock) (out : Option (Option (List ℕ))) (given : GivenFiles) (gives : List JobMove)
-    → ((past : JoinHistory) (join : JoinState) → Represents past join → IsJoined past → (p : Picture) × ShowsFrames past.ended p)
+pub laid_next : {C R : Type 0} (views : LinkViews C) (left_of : R → Option (List ℕ)) (job : Job) (first : C) (coming0 : Option (List (List ℕ))) (before : SinkState) (notes : CallNotes) (control : C) (coming : Option (List (List ℕ))) (stream : Option R) (c now : ClientState) (then_ : SinkState) (given : GivenFiles) (gives : List JobMove)
+    → WholeShows
     → scans job.task ≡ true → All IsPageFile given.pages → (g : FullRunInvariant views left_of job first coming0 given notes control coming stream c) → LastDelivers job.task g.fresh g.moves c given → GivesAll c gives now → GivesPage c gives now
-    → (e : TurnsOn g.stage.history c (length given.pages + 1) before (page_outputs_from 1 given.pages) (given_by gives) true now then_ out)
-    → Laid views left_of job first coming0 before notes true control coming stream now then_ out
-laid_next views left_of job first coming0 before notes control coming stream c now then_ out given gives shows scanning files g last all out_of e =
+    → (e : TurnsOn g.stage.history c (length given.pages + 1) before (page_outputs_from 1 given.pages) (given_by gives) true now then_)
+    → Laid views left_of job first coming0 before notes true control coming stream now then_
+laid_next views left_of job first coming0 before notes control coming stream c now then_ given gives shows scanning files g last all out_of e =
     let page : JoinHistory = after_pull (given_by gives) g.stage.history in
-    let turned = page_turned views left_of job first coming0 before notes control coming stream c now then_ out given gives true shows g all e in
+    let turned = page_turned views left_of job first coming0 before notes control coming stream c now then_ given gives true shows g all e in
     let t = turned.0 in
     let batch : is_batch job.task ≡ true = sym (ap is_batch (task_is c job g.stage.target)) ∙ turning_batch c.target.task c.outcome c.progress g.stage.history e.turning g.stage.serves.fits in
     let steps = steps_turned job.task g.fresh g.moves c given page gives now scanning batch (ap (λ (l : List ℕ). l ++ given_by gives) g.stage.given_is) last (goes_out c (record c { join = e.join }) now gives e.turning e.client out_of) in
@@ -224,9 +223,8 @@ laid_next views left_of job first coming0 before notes control coming stream c n
       steps = subst (λ (l : List JobMove). StepsSoFar t.going.fresh l now (turned_given given page)) (sym turned.1) (subst (λ (v : ClientState). StepsSoFar v (gives ++ g.moves) now (turned_given given page)) (sym turned.2) steps);
       shelf = record {
         under_way = record {
-          taken = subst (λ (o : Option (Option (List ℕ))). HasTaken before (page_outputs_from 1 (given.pages ++ page ∷ [])) then_ o (length (given.pages ++ page ∷ []) + 1) []) (sym e.none)
-              (none_under_way before then_ (page_outputs_from 1 (given.pages ++ page ∷ [])) (length (given.pages ++ page ∷ []) + 1)
-              (subst (λ (l : List ReturnedOutput). TakesBack before l then_) (sym (outputs_more 1 given.pages page)) e.taken));
+          taken = none_under_way before then_ (page_outputs_from 1 (given.pages ++ page ∷ [])) (length (given.pages ++ page ∷ []) + 1)
+              (subst (λ (l : List ReturnedOutput). HasTakenBack before l then_) (sym (outputs_more 1 given.pages page)) e.taken) e.none;
           asked = λ x. e.none;
         };
         files = All-append IsPageFile given.pages (page ∷ []) files (one_file page t.file);
@@ -235,12 +233,12 @@ laid_next views left_of job first coming0 before notes control coming stream c n
       };
     }
 
-pub laid_more : {C R : Type 0} (views : LinkViews C) (left_of : R → Option (List ℕ)) (job : Job) (first : C) (coming0 : Option (List (List ℕ))) (before : Option Stock) (notes : CallNotes) (control : C) (coming : Option (List (List ℕ))) (stream : Option R) (c now : ClientState) (then_ : Option Stock) (out : Option (Option (List ℕ))) (given : GivenFiles) (gives : List JobMove)
-    → ((past : JoinHistory) (join : JoinState) → Represents past join → IsJoined past → (p : Picture) × ShowsFrames past.ended p)
+pub laid_more : {C R : Type 0} (views : LinkViews C) (left_of : R → Option (List ℕ)) (job : Job) (first : C) (coming0 : Option (List (List ℕ))) (before : SinkState) (notes : CallNotes) (control : C) (coming : Option (List (List ℕ))) (stream : Option R) (c now : ClientState) (then_ : SinkState) (given : GivenFiles) (gives : List JobMove)
+    → WholeShows
     → scans job.task ≡ true → All IsPageFile given.pages → (g : FullRunInvariant views left_of job first coming0 given notes control coming stream c) → LastDelivers job.task g.fresh g.moves c given → GivesAll c gives now → GivesPage c gives now
-    → HasFiled g.stage.history c (length given.pages + 1) before (page_outputs_from 1 given.pages) (given_by gives) now then_ out
-    → Laid views left_of job first coming0 before notes true control coming stream now then_ out
-laid_more views left_of job first coming0 before notes control coming stream c now then_ out given gives shows scanning files g last all out_of (inl e) =
+    → HasFiled g.stage.history c (length given.pages + 1) before (page_outputs_from 1 given.pages) (given_by gives) now then_
+    → Laid views left_of job first coming0 before notes true control coming stream now then_
+laid_more views left_of job first coming0 before notes control coming stream c now then_ given gives shows scanning files g last all out_of (inl e) =
     let s = g.stage in
     let bytes : List ℕ = given_by gives in
     let serves = subst (λ (v : ClientState). ClientRepresents (after_pull bytes s.history) v) e.rest e.serves in
@@ -255,7 +253,7 @@ laid_more views left_of job first coming0 before notes control coming stream c n
       going = h.0;
       steps = subst (λ (l : List JobMove). StepsSoFar h.0.fresh l now (more_given given bytes)) (sym h.2) (subst (λ (v : ClientState). StepsSoFar v (gives ++ g.moves) now (more_given given bytes)) (sym h.3) steps);
       shelf = record {
-        under_way = subst (λ (l : List ℕ). OutputIsUnderWay before (page_outputs_from 1 given.pages) then_ out (length given.pages + 1) (l ++ bytes)) s.given_is e.under_way;
+        under_way = subst (λ (l : List ℕ). OutputIsUnderWay before (page_outputs_from 1 given.pages) then_ (length given.pages + 1) (l ++ bytes)) s.given_is e.under_way;
         files = files;
         none = λ other. absurd (let clash : true ≡ false = sym scanning ∙ other in cc);
         shown = λ w scan alive joined p shows.
@@ -263,14 +261,14 @@ laid_more views left_of job first coming0 before notes control coming stream c n
             (e.denotes (sym (ap (λ (v : ClientState). is_ended v.outcome) e.rest) ∙ alive) (subst (λ (q : JoinHistory). IsJoined q) past_is joined) p (subst (λ (q : JoinHistory). ShowsFrames q.ended p) past_is shows));
       };
     }
-laid_more views left_of job first coming0 before notes control coming stream c now then_ out given gives shows scanning files g last all out_of (inr e) =
-    laid_next views left_of job first coming0 before notes control coming stream c now then_ out given gives shows scanning files g last all out_of e
+laid_more views left_of job first coming0 before notes control coming stream c now then_ given gives shows scanning files g last all out_of (inr e) =
+    laid_next views left_of job first coming0 before notes control coming stream c now then_ given gives shows scanning files g last all out_of e
 
 -- one that writes nothing
-pub laid_none : {C R : Type 0} {was_whole : Bool} (views : LinkViews C) (left_of : R → Option (List ℕ)) (job : Job) (first : C) (coming0 : Option (List (List ℕ))) (before : Option Stock) (notes : CallNotes) (control : C) (coming : Option (List (List ℕ))) (stream : Option R) (c old : ClientState) (now : Option Stock) (out : Option (Option (List ℕ))) (given : GivenFiles) (past : JoinHistory)
-    → scans job.task ≡ false → OnShelf was_whole job before now out given old past → (g : FullRunInvariant views left_of job first coming0 given notes control coming stream c) → LastDelivers job.task g.fresh g.moves c given
-    → Laid views left_of job first coming0 before notes true control coming stream c now out
-laid_none views left_of job first coming0 before notes control coming stream c old now out given past other shelf g last = record {
+pub laid_none : {C R : Type 0} {was_whole : Bool} (views : LinkViews C) (left_of : R → Option (List ℕ)) (job : Job) (first : C) (coming0 : Option (List (List ℕ))) (before : SinkState) (notes : CallNotes) (control : C) (coming : Option (List (List ℕ))) (stream : Option R) (c old : ClientState) (now : SinkState) (given : GivenFiles) (past : JoinHistory)
+    → scans job.task ≡ false → Stored was_whole job before now given old past → (g : FullRunInvariant views left_of job first coming0 given notes control coming stream c) → LastDelivers job.task g.fresh g.moves c given
+    → Laid views left_of job first coming0 before notes true control coming stream c now
+laid_none views left_of job first coming0 before notes control coming stream c old now given past other shelf g last = record {
   given = given;
   going = g;
   steps = steps_still job.task g.fresh g.moves c given false other last (refl, (refl, refl));
@@ -280,7 +278,7 @@ laid_none views left_of job first coming0 before notes control coming stream c o
 -- ---- the end
 
 -- what a job that is over did, before its outcome is told
-pub record Shut {C R : Type 0} (views : LinkViews C) (left_of : R → Option (List ℕ)) (job : Job) (first : C) (coming0 : Option (List (List ℕ))) (before : Option Stock) (notes : CallNotes) (whole : Bool) (control : C) (coming : Option (List (List ℕ))) (stream : Option R) (c : ClientState) (now : Option Stock) (out : Option (Option (List ℕ))) : Type 0 where
+pub record Shut {C R : Type 0} (views : LinkViews C) (left_of : R → Option (List ℕ)) (job : Job) (first : C) (coming0 : Option (List (List ℕ))) (before : SinkState) (notes : CallNotes) (whole : Bool) (control : C) (coming : Option (List (List ℕ))) (stream : Option R) (c : ClientState) (now : SinkState) : Type 0 where
   pub given : GivenFiles
   pub moves : List JobMove
   pub left : List ℕ
@@ -296,10 +294,10 @@ pub record Shut {C R : Type 0} (views : LinkViews C) (left_of : R → Option (Li
   pub steps : (whole ≡ true) ⊎ (is_ended c.outcome ≡ true) → StepsSoFar fresh moves last given
   pub gave : files_text given.pages ++ given.bytes ≡ given_by moves
   pub all : has_write_failed moves ≡ false → left ≡ []
-  pub shelf : OnShelf whole job before now out given c stage.history
+  pub shelf : Stored whole job before now given c stage.history
 
-same_shelf : {whole : Bool} (job : Job) (before now : Option Stock) (out : Option (Option (List ℕ))) (given : GivenFiles) (c : ClientState) (past then_ : JoinHistory) → then_ ≡ past → OnShelf whole job before now out given c past → OnShelf whole job before now out given c then_
-same_shelf job before now out given c past then_ same s = record {
+same_shelf : {whole : Bool} (job : Job) (before now : SinkState) (given : GivenFiles) (c : ClientState) (past then_ : JoinHistory) → then_ ≡ past → Stored whole job before now given c past → Stored whole job before now given c then_
+same_shelf job before now given c past then_ same s = record {
   under_way = s.under_way;
   files = s.files;
   none = s.none;
@@ -307,10 +305,10 @@ same_shelf job before now out given c past then_ same s = record {
 }
 
 -- leave was taken of the daemon: the last bytes were written
-pub shut_parted : {C R : Type 0} {whole : Bool} (views : LinkViews C) (left_of : R → Option (List ℕ)) (job : Job) (first : C) (coming0 : Option (List (List ℕ))) (before : Option Stock) (was behind : CallNotes) (control then_ : C) (coming : Option (List (List ℕ))) (stream : Option R) (c : ClientState) (now : Option Stock) (out : Option (Option (List ℕ)))
-    → is_running c.outcome ≡ false → Leaves views control was c.out then_ behind → (d : Laid views left_of job first coming0 before was whole control coming stream c now out)
-    → (e : Shut views left_of job first coming0 before behind whole then_ coming stream c now out) × (e.given ≡ d.given)
-shut_parted {whole = whole} views left_of job first coming0 before was behind control then_ coming stream c now out over (PartedBefore up same notes) d = (
+pub shut_parted : {C R : Type 0} {whole : Bool} (views : LinkViews C) (left_of : R → Option (List ℕ)) (job : Job) (first : C) (coming0 : Option (List (List ℕ))) (before : SinkState) (was behind : CallNotes) (control then_ : C) (coming : Option (List (List ℕ))) (stream : Option R) (c : ClientState) (now : SinkState)
+    → is_running c.outcome ≡ false → Leaves views control was c.out then_ behind → (d : Laid views left_of job first coming0 before was whole control coming stream c now)
+    → (e : Shut views left_of job first coming0 before behind whole then_ coming stream c now) × (e.given ≡ d.given)
+shut_parted {whole = whole} views left_of job first coming0 before was behind control then_ coming stream c now over (PartedBefore up same notes) d = (
   record {
     given = d.given;
     moves = d.going.moves;
@@ -331,7 +329,7 @@ shut_parted {whole = whole} views left_of job first coming0 before was behind co
   },
   refl,
 )
-shut_parted {whole = whole} views left_of job first coming0 before was behind control then_ coming stream c now out over (PartsWhole up called notes) d =
+shut_parted {whole = whole} views left_of job first coming0 before was behind control then_ coming stream c now over (PartsWhole up called notes) d =
     let g = d.going in
     let s = stage_wrote left_of job g.moves (heard_by g.moves) (bytes_written_by g.moves) g.left c.out [] coming0 coming d.given stream c c (g.left_is up ∙ sym (append-nil c.out)) refl g.stage in
     let t = stage_on left_of job g.moves (Writes c.out ∷ g.moves) (heard_by g.moves) (bytes_written_by g.moves ++ c.out) [] coming0 coming d.given stream c refl (λ l. l) s.0 in (
@@ -351,11 +349,11 @@ shut_parted {whole = whole} views left_of job first coming0 before was behind co
         steps = λ either. steps_quiet g.fresh g.moves c (Writes c.out) (record c { out = [] }) d.given (steps_at whole job.task g.fresh g.moves c d.given d.steps either) (g.notes_are.write_failed ∙ up) tt (record { all = refl; new_is = refl });
         gave = g.gave;
         all = λ e. refl;
-        shelf = same_shelf job before now out d.given c g.stage.history t.0.history (t.1 ∙ s.1) d.shelf;
+        shelf = same_shelf job before now d.given c g.stage.history t.0.history (t.1 ∙ s.1) d.shelf;
       },
       refl,
     )
-shut_parted {whole = whole} views left_of job first coming0 before was behind control then_ coming stream c now out over (PartsShort up n short called notes) d =
+shut_parted {whole = whole} views left_of job first coming0 before was behind control then_ coming stream c now over (PartsShort up n short called notes) d =
     let g = d.going in
     let s = stage_wrote left_of job g.moves (heard_by g.moves) (bytes_written_by g.moves) g.left (take n c.out) (drop n c.out) coming0 coming d.given stream c c (g.left_is up ∙ sym (take-append-drop n c.out)) refl g.stage in
     let t = stage_on left_of job g.moves (Fails (take n c.out) ∷ g.moves) (heard_by g.moves) (bytes_written_by g.moves ++ take n c.out) (drop n c.out) coming0 coming d.given stream c refl (λ l. tt) s.0 in (
@@ -375,7 +373,7 @@ shut_parted {whole = whole} views left_of job first coming0 before was behind co
         steps = λ either. steps_quiet g.fresh g.moves c (Fails (take n c.out)) (record c { out = drop n c.out }) d.given (steps_at whole job.task g.fresh g.moves c d.given d.steps either) (g.notes_are.write_failed ∙ up) tt (falls_short c n over short);
         gave = g.gave;
         all = λ e. absurd (let clash : true ≡ false = e in cc);
-        shelf = same_shelf job before now out d.given c g.stage.history t.0.history (t.1 ∙ s.1) d.shelf;
+        shelf = same_shelf job before now d.given c g.stage.history t.0.history (t.1 ∙ s.1) d.shelf;
       },
       refl,
     )
@@ -383,56 +381,53 @@ shut_parted {whole = whole} views left_of job first coming0 before was behind co
 -- ---- a turn's end, whatever the task
 
 -- how far the job is before its files are filled, as the contract wants it
-under_way_at : {was_whole : Bool} (job : Job) (before was : Option Stock) (under : Option (Option (List ℕ))) (given : GivenFiles) (old : ClientState) (past then_ : JoinHistory) → then_.given ≡ given.bytes → OnShelf was_whole job before was under given old past
-    → OutputIsUnderWay before (page_outputs_from 1 given.pages) was under (length given.pages + 1) then_.given
-under_way_at job before was under given old past then_ given_is s = subst (λ (l : List ℕ). OutputIsUnderWay before (page_outputs_from 1 given.pages) was under (length given.pages + 1) l) (sym given_is) s.under_way
+under_way_at : {was_whole : Bool} (job : Job) (before was : SinkState) (given : GivenFiles) (old : ClientState) (past then_ : JoinHistory) → then_.given ≡ given.bytes → Stored was_whole job before was given old past
+    → OutputIsUnderWay before (page_outputs_from 1 given.pages) was (length given.pages + 1) then_.given
+under_way_at job before was given old past then_ given_is s = subst (λ (l : List ℕ). OutputIsUnderWay before (page_outputs_from 1 given.pages) was (length given.pages + 1) l) (sym given_is) s.under_way
 
 -- what a contract of this kind says of the file under way
-pub from_here : {C R : Type 0} {was_whole : Bool} (views : LinkViews C) (left_of : R → Option (List ℕ)) (job : Job) (first : C) (coming0 : Option (List (List ℕ))) (before was : Option Stock) (notes : CallNotes) (control : C) (coming : Option (List (List ℕ))) (stream : Option R) (c old : ClientState) (under : Option (Option (List ℕ))) (given : GivenFiles) (past : JoinHistory)
-    (Then : Option Stock → List ReturnedOutput → ℕ → JoinHistory → Type 0) → scans job.task ≡ true → HasCount job.task → OnShelf was_whole job before was under given old past → (g : FullRunInvariant views left_of job first coming0 given notes control coming stream c)
-    → ((before : Option Stock) (outputs : List ReturnedOutput) (k : ℕ) (q : JoinHistory) → IsFiling q c k before outputs was under → Then before outputs k q)
+pub from_here : {C R : Type 0} {was_whole : Bool} (views : LinkViews C) (left_of : R → Option (List ℕ)) (job : Job) (first : C) (coming0 : Option (List (List ℕ))) (before was : SinkState) (notes : CallNotes) (control : C) (coming : Option (List (List ℕ))) (stream : Option R) (c old : ClientState) (given : GivenFiles) (past : JoinHistory)
+    (Then : SinkState → List ReturnedOutput → ℕ → JoinHistory → Type 0) → scans job.task ≡ true → HasCount job.task → Stored was_whole job before was given old past → (g : FullRunInvariant views left_of job first coming0 given notes control coming stream c)
+    → ((before : SinkState) (outputs : List ReturnedOutput) (k : ℕ) (q : JoinHistory) → IsFiling q c k before outputs was → Then before outputs k q)
     → Then before (page_outputs_from 1 given.pages) (length given.pages + 1) g.stage.history
-from_here views left_of job first coming0 before was notes control coming stream c old under given past Then scanning h shelf g goes =
+from_here views left_of job first coming0 before was notes control coming stream c old given past Then scanning h shelf g goes =
     goes before (page_outputs_from 1 given.pages) (length given.pages + 1) g.stage.history (record {
       scanning = ap scans (task_is c job g.stage.target) ∙ scanning;
       number = λ alive. number_at left_of job g.moves (heard_by g.moves) (bytes_written_by g.moves) g.left coming0 coming given stream c h g.stage alive;
       serves = g.stage.serves;
-      under_way = under_way_at job before was under given old past g.stage.history g.stage.given_is shelf;
+      under_way = under_way_at job before was given old past g.stage.history g.stage.given_is shelf;
     })
 
-laid_by : {C R : Type 0} {was_whole : Bool} (views : LinkViews C) (left_of : R → Option (List ℕ)) (job : Job) (first : C) (coming0 : Option (List (List ℕ))) (before was : Option Stock) (notes : CallNotes) (control : C) (coming : Option (List (List ℕ))) (stream : Option R) (c old now : ClientState) (then_ : Option Stock) (under out : Option (Option (List ℕ))) (given : GivenFiles) (past : JoinHistory) (is_scanning b : Bool)
-    → is_scanning ≡ b → is_scanning ≡ scans job.task → HasCount job.task → ((past : JoinHistory) (join : JoinState) → Represents past join → IsJoined past → (p : Picture) × ShowsFrames past.ended p)
-    → OnShelf was_whole job before was under given old past → (g : FullRunInvariant views left_of job first coming0 given notes control coming stream c) → LastDelivers job.task g.fresh g.moves c given
-    → (is_scanning ≡ false → (now ≡ c) × (then_ ≡ was) × (out ≡ under))
-    → (is_scanning ≡ true → (gives : List JobMove) × GivesAll c gives now
-    × ((before : Option Stock) (outputs : List ReturnedOutput) (k : ℕ) (q : JoinHistory) → IsFiling q c k before outputs was under → GivesPage c gives now × HasFiled q c k before outputs (given_by gives) now then_ out))
-    → Laid views left_of job first coming0 before notes true control coming stream now then_ out
-laid_by views left_of job first coming0 before was notes control coming stream c old now then_ under out given past is_scanning true e scanning h shows shelf g last none goes =
+laid_by : {C R : Type 0} {was_whole : Bool} (views : LinkViews C) (left_of : R → Option (List ℕ)) (job : Job) (first : C) (coming0 : Option (List (List ℕ))) (before was : SinkState) (notes : CallNotes) (control : C) (coming : Option (List (List ℕ))) (stream : Option R) (c old now : ClientState) (then_ : SinkState) (given : GivenFiles) (past : JoinHistory) (is_scanning b : Bool)
+    → is_scanning ≡ b → is_scanning ≡ scans job.task → HasCount job.task → WholeShows
+    → Stored was_whole job before was given old past → (g : FullRunInvariant views left_of job first coming0 given notes control coming stream c) → LastDelivers job.task g.fresh g.moves c given
+    → (is_scanning ≡ false → (now ≡ c) × (then_ ≡ was))
+    → (is_scanning ≡ true → Fills c was now then_)
+    → Laid views left_of job first coming0 before notes true control coming stream now then_
+laid_by views left_of job first coming0 before was notes control coming stream c old now then_ given past is_scanning true e scanning h shows shelf g last none goes =
     let gives = goes e in
-    let went = from_here views left_of job first coming0 before was notes control coming stream c old under given past (λ b outputs k q. GivesPage c gives.0 now × HasFiled q c k b outputs (given_by gives.0) now then_ out) (sym scanning ∙ e) h shelf g gives.2 in
-    laid_more views left_of job first coming0 before notes control coming stream c now then_ out given gives.0 shows (sym scanning ∙ e) shelf.files g last gives.1 went.0 went.1
-laid_by views left_of job first coming0 before was notes control coming stream c old now then_ under out given past is_scanning false e scanning h shows shelf g last none goes =
+    let went = from_here views left_of job first coming0 before was notes control coming stream c old given past (λ b outputs k q. GivesPage c gives.0 now × HasFiled q c k b outputs (given_by gives.0) now then_) (sym scanning ∙ e) h shelf g gives.2 in
+    laid_more views left_of job first coming0 before notes control coming stream c now then_ given gives.0 shows (sym scanning ∙ e) shelf.files g last gives.1 went.0 went.1
+laid_by views left_of job first coming0 before was notes control coming stream c old now then_ given past is_scanning false e scanning h shows shelf g last none goes =
     let same = none e in
-    subst (λ (v : ClientState). Laid views left_of job first coming0 before notes true control coming stream v then_ out) (sym same.0)
-    (subst (λ (o : Option Stock). Laid views left_of job first coming0 before notes true control coming stream c o out) (sym same.1)
-    (subst (λ (o : Option (Option (List ℕ))). Laid views left_of job first coming0 before notes true control coming stream c was o) (sym same.2)
-    (laid_none views left_of job first coming0 before notes control coming stream c old was under given past (sym scanning ∙ e) shelf g last)))
+    subst (λ (v : ClientState). Laid views left_of job first coming0 before notes true control coming stream v then_) (sym same.0)
+    (subst (λ (o : SinkState). Laid views left_of job first coming0 before notes true control coming stream c o) (sym same.1)
+    (laid_none views left_of job first coming0 before notes control coming stream c old was given past (sym scanning ∙ e) shelf g last))
 
-pub laid_then : {C R : Type 0} {was_whole : Bool} (views : LinkViews C) (left_of : R → Option (List ℕ)) (job : Job) (first : C) (coming0 : Option (List (List ℕ))) (before was : Option Stock) (notes : CallNotes) (control : C) (coming : Option (List (List ℕ))) (stream : Option R) (c old now : ClientState) (then_ : Option Stock) (under out : Option (Option (List ℕ))) (given : GivenFiles) (past : JoinHistory) (is_scanning : Bool)
-    → is_scanning ≡ scans job.task → HasCount job.task → ((past : JoinHistory) (join : JoinState) → Represents past join → IsJoined past → (p : Picture) × ShowsFrames past.ended p)
-    → OnShelf was_whole job before was under given old past → (g : FullRunInvariant views left_of job first coming0 given notes control coming stream c) → LastDelivers job.task g.fresh g.moves c given
-    → (is_scanning ≡ false → (now ≡ c) × (then_ ≡ was) × (out ≡ under))
-    → (is_scanning ≡ true → (gives : List JobMove) × GivesAll c gives now
-    × ((before : Option Stock) (outputs : List ReturnedOutput) (k : ℕ) (q : JoinHistory) → IsFiling q c k before outputs was under → GivesPage c gives now × HasFiled q c k before outputs (given_by gives) now then_ out))
-    → Laid views left_of job first coming0 before notes true control coming stream now then_ out
-laid_then views left_of job first coming0 before was notes control coming stream c old now then_ under out given past is_scanning scanning h shows shelf g last none goes =
-    laid_by views left_of job first coming0 before was notes control coming stream c old now then_ under out given past is_scanning is_scanning refl scanning h shows shelf g last none goes
+pub laid_then : {C R : Type 0} {was_whole : Bool} (views : LinkViews C) (left_of : R → Option (List ℕ)) (job : Job) (first : C) (coming0 : Option (List (List ℕ))) (before was : SinkState) (notes : CallNotes) (control : C) (coming : Option (List (List ℕ))) (stream : Option R) (c old now : ClientState) (then_ : SinkState) (given : GivenFiles) (past : JoinHistory) (is_scanning : Bool)
+    → is_scanning ≡ scans job.task → HasCount job.task → WholeShows
+    → Stored was_whole job before was given old past → (g : FullRunInvariant views left_of job first coming0 given notes control coming stream c) → LastDelivers job.task g.fresh g.moves c given
+    → (is_scanning ≡ false → (now ≡ c) × (then_ ≡ was))
+    → (is_scanning ≡ true → Fills c was now then_)
+    → Laid views left_of job first coming0 before notes true control coming stream now then_
+laid_then views left_of job first coming0 before was notes control coming stream c old now then_ given past is_scanning scanning h shows shelf g last none goes =
+    laid_by views left_of job first coming0 before was notes control coming stream c old now then_ given past is_scanning is_scanning refl scanning h shows shelf g last none goes
 
 -- ---- a job whose last bytes are not given
 
 -- the shelf has what was given, and that of the file under way is no whole file
-pub record Lying {C R : Type 0} (views : LinkViews C) (left_of : R → Option (List ℕ)) (job : Job) (first : C) (coming0 : Option (List (List ℕ))) (before : Option Stock) (notes : CallNotes) (control : C) (coming : Option (List (List ℕ))) (stream : Option R) (c : ClientState) (now : Option Stock) (out : Option (Option (List ℕ))) : Type 0 where
-  pub laid : Laid views left_of job first coming0 before notes false control coming stream c now out
+pub record Lying {C R : Type 0} (views : LinkViews C) (left_of : R → Option (List ℕ)) (job : Job) (first : C) (coming0 : Option (List (List ℕ))) (before : SinkState) (notes : CallNotes) (control : C) (coming : Option (List (List ℕ))) (stream : Option R) (c : ClientState) (now : SinkState) : Type 0 where
+  pub laid : Laid views left_of job first coming0 before notes false control coming stream c now
   pub not_whole : IsWhole laid.given.bytes → ⊥
 
 pub ended_part : (task : Task) (past : JoinHistory) → FitsEnded task past → IsJoined past → IsWhole past.given → ⊥
@@ -447,30 +442,30 @@ running_short : {R : Type 0} (left_of : R → Option (List ℕ)) (job : Job) (mo
 running_short left_of job moves read_ wrote left coming0 coming given stream c law runs s =
     subst (λ (l : List ℕ). IsWhole l → ⊥) s.given_is (λ w. law s.history c.join s.serves.stands (λ joined. ended_part c.target.task s.history (running_ends c.outcome c.target.task c.progress s.history runs s.serves.fits) joined w) w)
 
-pub lying_first : {C R : Type 0} (views : LinkViews C) (left_of : R → Option (List ℕ)) (job : Job) (control : C) (coming : Option (List (List ℕ))) (before : Option Stock) (out : Option (Option (List ℕ))) (c : ClientState) → NoneBefore → IsNewClient job c → out ≡ None
-    → Lying views left_of job control coming before no_notes control coming None c before out
-lying_first views left_of job control coming before out c law f none =
-    let d = laid_first views left_of job control coming before out c f none in
+pub lying_first : {C R : Type 0} (views : LinkViews C) (left_of : R → Option (List ℕ)) (job : Job) (control : C) (coming : Option (List (List ℕ))) (before : SinkState) (c : ClientState) → NoneBefore → IsNewClient job c → HoldsNone before
+    → Lying views left_of job control coming before no_notes control coming None c before
+lying_first views left_of job control coming before c law f none =
+    let d = laid_first views left_of job control coming before c f none in
     record { laid = d; not_whole = running_short left_of job d.going.moves (heard_by d.going.moves) (bytes_written_by d.going.moves) d.going.left coming coming d.given None c law (ap (λ (v : ClientState). is_running v.outcome) f.value) d.going.stage }
 
-pub lying_fresh : {C R : Type 0} (views : LinkViews C) (left_of : R → Option (List ℕ)) (job : Job) (notes : CallNotes) (control : C) (coming : Option (List (List ℕ))) (before : Option Stock) (out : Option (Option (List ℕ))) (c : ClientState) → notes ≡ no_notes → NoneBefore → IsNewClient job c → out ≡ None
-    → Lying views left_of job control coming before notes control coming None c before out
-lying_fresh views left_of job notes control coming before out c fresh law f none =
-    subst (λ (n : CallNotes). Lying views left_of job control coming before n control coming None c before out) (sym fresh) (lying_first views left_of job control coming before out c law f none)
+pub lying_fresh : {C R : Type 0} (views : LinkViews C) (left_of : R → Option (List ℕ)) (job : Job) (notes : CallNotes) (control : C) (coming : Option (List (List ℕ))) (before : SinkState) (c : ClientState) → notes ≡ no_notes → NoneBefore → IsNewClient job c → HoldsNone before
+    → Lying views left_of job control coming before notes control coming None c before
+lying_fresh views left_of job notes control coming before c fresh law f none =
+    subst (λ (n : CallNotes). Lying views left_of job control coming before n control coming None c before) (sym fresh) (lying_first views left_of job control coming before c law f none)
 
 -- a turn in which the shelf took what was given, and the job runs on
-pub lying_gave : {C R : Type 0} (views : LinkViews C) (left_of : R → Option (List ℕ)) (job : Job) (first : C) (coming0 : Option (List (List ℕ))) (before : Option Stock) (notes : CallNotes) (control : C) (coming : Option (List (List ℕ))) (stream : Option R) (c : ClientState) (now : Option Stock) (out : Option (Option (List ℕ))) → NoneBefore → is_running c.outcome ≡ true
-    → Laid views left_of job first coming0 before notes true control coming stream c now out → Lying views left_of job first coming0 before notes control coming stream c now out
-lying_gave views left_of job first coming0 before notes control coming stream c now out law runs d = record {
+pub lying_gave : {C R : Type 0} (views : LinkViews C) (left_of : R → Option (List ℕ)) (job : Job) (first : C) (coming0 : Option (List (List ℕ))) (before : SinkState) (notes : CallNotes) (control : C) (coming : Option (List (List ℕ))) (stream : Option R) (c : ClientState) (now : SinkState) → NoneBefore → is_running c.outcome ≡ true
+    → Laid views left_of job first coming0 before notes true control coming stream c now → Lying views left_of job first coming0 before notes control coming stream c now
+lying_gave views left_of job first coming0 before notes control coming stream c now law runs d = record {
   laid = record { given = d.given; going = d.going; steps = AllGiven d.steps (running_not_done c.outcome runs); shelf = record { under_way = d.shelf.under_way; files = d.shelf.files; none = d.shelf.none; shown = λ w. absurd (let clash : false ≡ true = w in cc) } };
   not_whole = running_short left_of job d.going.moves (heard_by d.going.moves) (bytes_written_by d.going.moves) d.going.left coming0 coming d.given stream c law runs d.going.stage;
 }
 
 -- one in which nothing was given
-pub lying_went : {C R : Type 0} (views : LinkViews C) (left_of : R → Option (List ℕ)) (job : Job) (first : C) (coming0 : Option (List (List ℕ))) (before : Option Stock) (notes then_ : CallNotes) (control next : C) (coming come : Option (List (List ℕ))) (stream behind : Option R) (c new : ClientState) (now : Option Stock) (out : Option (Option (List ℕ)))
-    → (p : Lying views left_of job first coming0 before notes control coming stream c now out) → (g : FullRunInvariant views left_of job first coming0 p.laid.given then_ next come behind new) → AreStepsSoFar job.task g.fresh g.moves new p.laid.given
-    → Lying views left_of job first coming0 before then_ next come behind new now out
-lying_went views left_of job first coming0 before notes then_ control next coming come stream behind c new now out p g s = record {
+pub lying_went : {C R : Type 0} (views : LinkViews C) (left_of : R → Option (List ℕ)) (job : Job) (first : C) (coming0 : Option (List (List ℕ))) (before : SinkState) (notes then_ : CallNotes) (control next : C) (coming come : Option (List (List ℕ))) (stream behind : Option R) (c new : ClientState) (now : SinkState)
+    → (p : Lying views left_of job first coming0 before notes control coming stream c now) → (g : FullRunInvariant views left_of job first coming0 p.laid.given then_ next come behind new) → AreStepsSoFar job.task g.fresh g.moves new p.laid.given
+    → Lying views left_of job first coming0 before then_ next come behind new now
+lying_went views left_of job first coming0 before notes then_ control next coming come stream behind c new now p g s = record {
   laid = record { given = p.laid.given; going = g; steps = s; shelf = record { under_way = p.laid.shelf.under_way; files = p.laid.shelf.files; none = p.laid.shelf.none; shown = λ w. absurd (let clash : false ≡ true = w in cc) } };
   not_whole = p.not_whole;
 }

@@ -26,7 +26,8 @@ use Rattle.net_jobs.specs.JobSteps.{MovesAreSteps, MovesStopWithin, StepsGive}
 use Rattle.net_jobs.specs.Links.{LinkViews}
 use Rattle.net_jobs.specs.Outputs.{files_text, page_outputs_from}
 use Rattle.scan_job.specs.FileOutputs.{TakesBack, AreLeft, refused_output}
-use Rattle.net_jobs.specs.RunPromises.{JobStreams, SeenStreams, RanWithTrace, HasEndingCause, IsToldAs, refused_as}
+use Rattle.net_jobs.specs.RunPromises.{JobStreams, SeenStreams, StreamViews, RanWithTrace, HasEndingCause, IsToldAs}
+use Rattle.net_jobs.specs.RunPromises.{refused_as, seen}
 
 -- what was given of a page is a whole file, that of the picture that its frames show
 pub record IsPageFile (page : JoinHistory) : Type 0 where
@@ -129,3 +130,15 @@ pub record RefusesBatch {C D S : Type 0} (job : Job) (outcome : Outcome) (was no
   pub why : ((fault : JobFault) × HasJobFault job (Some fault) × (outcome ≡ refused_as fault))
       ⊎ (outcome ≡ Ended statuses.NoMem whys.Memory)
   pub same : now ≡ was
+
+-- **Runs, stops (`RunsBatch`, `StopsBatch`)**: the same of a job whose files go to a shelf, as `RunsJob` and `StopsJob`
+-- of one output.
+abbrev pub RunsBatch : {C D S : Type 0} → StreamViews C D S (Option Stock) → Job → JobStreams C D S → JobStreams C D S
+    → Reports → Type 0
+RunsBatch views job was now reports =
+    BatchDone views.links job (seen views.coming views.output was) (seen views.coming views.output now) reports
+
+abbrev pub StopsBatch : {C D S : Type 0} → StreamViews C D S (Option Stock) → Job → JobStreams C D S → JobStreams C D S
+    → Stop → Type 0
+StopsBatch views job was now stop = RefusesBatch job (Ended stop.status stop.why) was now
+    ⊎ BatchEnded views.links job (seen views.coming views.output was) (seen views.coming views.output now) stop

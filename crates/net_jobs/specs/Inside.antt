@@ -20,9 +20,8 @@ use Rattle.frame_join.specs.FrameHistory.{JoinHistory, IsJoined, after_pull, emp
 use Rattle.scan_job.specs.Shelves.{Stock, ReturnedOutput}
 use Rattle.frame_join.specs.JoinStates.{JoinState}
 use Rattle.scan_job.specs.declared.report.Reports.{Reports}
-use Rattle.scan_job.specs.FileOutputs.{TakesBack, returned_output}
+use Rattle.scan_job.specs.FileOutputs.{TakesBack, refused_output, returned_output}
 use Rattle.client_replies.specs.declared.progress.Link.TheVariants as links
-use Rattle.scan_job.specs.declared.job.Task.TheVariants as tasks
 use Rattle.sane_fixed.specs.declared.status.Status.TheVariants as statuses
 use Rattle.scan_job.specs.declared.outcome.Why.TheVariants as whys
 use Rattle.net_jobs.specs.declared.calls.Loss.{Loss}
@@ -36,8 +35,8 @@ use Rattle.net_jobs.specs.JobTraces.TraceEvent.{Opened}
 use Rattle.net_jobs.specs.declared.calls.CallTally.{CallTally}
 use Rattle.net_jobs.specs.declared.running.DataStream.{DataStream}
 use Rattle.net_jobs.specs.Links.{JobLinks, LinkViews, Called, DialBrings}
-use Rattle.net_jobs.specs.RunPromises.{SeenStreams, RanDone, RanEnded, RanWithTrace, HasEndingCause, IsToldAs}
-use Rattle.net_jobs.specs.Batches.{BatchDone, BatchEnded, IsPageFile, MayScan, RefusesLastPage, pages_of}
+use Rattle.net_jobs.specs.RunPromises.{SeenStreams, RanWithTrace, HasEndingCause, IsToldAs}
+use Rattle.net_jobs.specs.Batches.{IsPageFile, MayScan, pages_of}
 use Rattle.net_jobs.specs.Outputs.{files_text, page_outputs_from}
 
 -- ---- what a call on a connection comes to, by the result that the stream gave
@@ -268,23 +267,7 @@ pub record NotesMatch (moves : List JobMove) (notes : CallNotes) : Type 0 where
   pub loss : loss_of moves ≡ notes.loss
   pub write_failed : has_write_failed moves ≡ notes.write_failed
 
--- how a job is over, with a journal that tells what the tally of its calls does
-abbrev pub HasRunNoted : {L : Type 0} → LinkViews L → Job → SeenStreams L (Option (List ℕ))
-    → SeenStreams L (Option (List ℕ)) → Outcome → CallNotes → Type 0
-HasRunNoted views job was now Running notes = ⊥
-HasRunNoted views job was now (Done reports) notes = (run : RanDone views job was now reports)
-    × NotesMatch run.ran.moves notes
-HasRunNoted views job was now (Ended status why) notes =
-    (run : RanEnded views job was now (record { status = status; why = why })) × NotesMatch run.ran.moves notes
-
 -- ---- how a job is over
-
--- how a job over streams is over
-abbrev pub HasRun : {L : Type 0} → LinkViews L → Job → SeenStreams L (Option (List ℕ)) → SeenStreams L (Option (List ℕ))
-    → Outcome → Type 0
-HasRun views job was now Running = ⊥
-HasRun views job was now (Done reports) = RanDone views job was now reports
-HasRun views job was now (Ended status why) = RanEnded views job was now (record { status = status; why = why })
 
 -- why nothing is told of a job that is over: it has ended so, or there was no memory for what is told
 abbrev pub StopsAs : Outcome → Stop → Type 0
@@ -292,141 +275,154 @@ StopsAs Running stop = ⊥
 StopsAs (Done reports) stop = stop ≡ no_memory
 StopsAs (Ended status why) stop = stop ≡ record { status = status; why = why }
 
--- ---- the bytes of a scan's file on their way to the output
+-- ---- where a job's files go, and their bytes on the way there
 
--- **Holds what was given** (`HoldsGiven`): a scan's client stands for what was told to it and given, and the output
--- took what was given, behind what it held first.
-pub record HoldsGiven (past : JoinHistory) (client : ClientState) (first contents : Option (List ℕ)) : Type 0 where
-  pub scan : client.target.task ≡ tasks.Scan
-  pub serves : ClientRepresents past client
-  pub taken : Appends first contents past.given
+-- what is known of where they go: of one output what it holds; or of a shelf what was put on it, and of the output
+-- under way, if there is one, what it holds
+pub data SinkState : Type 0 where
+  OneOutput : Option (List ℕ) → SinkState
+  OnShelf : Option Stock → Option (Option (List ℕ)) → SinkState
 
--- **Drained** (`IsDrainedTo`, `StopsBehind`): the output took all that was given of the file, which denotes the frames'
--- picture once that is whole; or it took a text that is no whole file.
---
--- these bytes more were given, the output took all that were given so far, and once the picture is whole they denote it
-pub record IsDrainedTo (past : JoinHistory) (old : ClientState) (first : Option (List ℕ)) (bytes : List ℕ)
-    (new : ClientState) (contents : Option (List ℕ)) : Type 0 where
-  pub serves : ClientRepresents (after_pull bytes past) new
-  pub rest : new ≡ record old { join = new.join }
-  pub taken : Appends first contents (past.given ++ bytes)
-  pub denotes : is_ended old.outcome ≡ false → IsJoined past → (p : Picture) → ShowsFrames past.ended p
-      → Denotes (past.given ++ bytes) p
-
--- the output took what was given, and then not all: no whole file
-pub record StopsBehind (given : List ℕ) (first contents : Option (List ℕ)) : Type 0 where
-  pub behind : List ℕ
-  pub taken : Appends first contents (given ++ behind)
-  pub not_whole : IsWhole (given ++ behind) → ⊥
-
--- ---- the bytes of a batch's files on their way to the outputs of a shelf
-
--- it was asked for under that number, and took these bytes; there is none before the first of them
+-- an output was asked for under that number, and took these bytes; there is none before the first of them
 abbrev pub HoldsOutput : Option (Option (List ℕ)) → ℕ → ℕ → List ℕ → Type 0
 HoldsOutput None number k bytes = bytes ≡ []
 HoldsOutput (Some contents) number k bytes = (number ≡ k) × (contents ≡ Some bytes)
 
 -- where it is known what a shelf took: these outputs were taken back since, and one is under way
-abbrev pub HasTaken : Option Stock → List ReturnedOutput → Option Stock → Option (Option (List ℕ)) → ℕ → List ℕ → Type 0
-HasTaken None outputs now out k bytes = ⊤
-HasTaken (Some old) outputs None out k bytes = ⊥
-HasTaken (Some old) outputs (Some now) out k bytes = (now.taken ≡ old.taken ++ outputs)
+abbrev pub HasShelved : Option Stock → List ReturnedOutput → Option Stock → Option (Option (List ℕ)) → ℕ → List ℕ
+    → Type 0
+HasShelved None outputs now out k bytes = ⊤
+HasShelved (Some old) outputs None out k bytes = ⊥
+HasShelved (Some old) outputs (Some now) out k bytes = (now.taken ≡ old.taken ++ outputs)
     × HoldsOutput out now.number k bytes
 
--- and it was asked for at the first
-pub record OutputIsUnderWay (before : Option Stock) (outputs : List ReturnedOutput) (now : Option Stock)
-    (out : Option (Option (List ℕ))) (k : ℕ) (bytes : List ℕ) : Type 0 where
-  pub taken : HasTaken before outputs now out k bytes
-  pub asked : bytes ≡ [] → out ≡ None
+-- **Has taken, under way (`HasTaken`, `OutputIsUnderWay`)**: these outputs were given back since, and the one under
+-- way took these bytes, and was asked for at the first; one output that is never given back took them.
+abbrev pub HasTaken : SinkState → List ReturnedOutput → SinkState → ℕ → List ℕ → Type 0
+HasTaken (OneOutput was) outputs (OneOutput now) k bytes = outputs ≡ [] → Appends was now bytes
+HasTaken (OnShelf was under) outputs (OnShelf now out) k bytes = HasShelved was outputs now out k bytes
+HasTaken was outputs now k bytes = ⊥
 
--- **Takes more, takes a front** (`TakesMore`, `TakesFront`): whatever the output under way took before, it took these
--- bytes more, or only a proper front of them.
-abbrev pub TakesMore : Option Stock → Option (Option (List ℕ)) → Option Stock → Option (Option (List ℕ)) → ℕ → List ℕ
-    → Type 0
-TakesMore was out now new k bytes = (before : Option Stock) (outputs : List ReturnedOutput) (had : List ℕ)
-    → HasTaken before outputs was out k had → HasTaken before outputs now new k (had ++ bytes)
+-- no output of a shelf is under way
+abbrev pub HoldsNone : SinkState → Type 0
+HoldsNone (OneOutput contents) = ⊤
+HoldsNone (OnShelf stock out) = out ≡ None
 
--- or only a proper front of them
-abbrev pub TakesFront : Option Stock → Option (Option (List ℕ)) → Option Stock → Option (Option (List ℕ)) → ℕ → List ℕ
-    → Type 0
-TakesFront was out now new k bytes =
-    (before : Option Stock) (outputs : List ReturnedOutput) (had : List ℕ) → HasTaken before outputs was out k had
-    → (n : ℕ) × (n < length bytes) × HasTaken before outputs now new k (had ++ take n bytes)
+-- these outputs were given back since; one output never is
+abbrev pub HasTakenBack : SinkState → List ReturnedOutput → SinkState → Type 0
+HasTakenBack (OneOutput was) outputs (OneOutput now) = outputs ≢ []
+HasTakenBack (OnShelf was under) outputs (OnShelf now out) = TakesBack was outputs now
+HasTakenBack was outputs now = ⊥
+
+pub record OutputIsUnderWay (before : SinkState) (outputs : List ReturnedOutput) (now : SinkState) (k : ℕ)
+    (bytes : List ℕ) : Type 0 where
+  pub taken : HasTaken before outputs now k bytes
+  pub asked : bytes ≡ [] → HoldsNone now
+
+-- **Takes more, takes a front, ends a file** (`TakesMore`, `TakesFront`, `EndsFile`): whatever the output under way
+-- took before, it took these bytes more, or only a proper front of them; or it was given back with what it took, and
+-- kept or refused, and none is under way.
+abbrev pub TakesMore : SinkState → SinkState → ℕ → List ℕ → Type 0
+TakesMore was now k bytes = (before : SinkState) (outputs : List ReturnedOutput) (had : List ℕ)
+    → HasTaken before outputs was k had → HasTaken before outputs now k (had ++ bytes)
+
+abbrev pub TakesFront : SinkState → SinkState → ℕ → List ℕ → Type 0
+TakesFront was now k bytes =
+    (before : SinkState) (outputs : List ReturnedOutput) (had : List ℕ) → HasTaken before outputs was k had
+    → (n : ℕ) × (n < length bytes) × HasTaken before outputs now k (had ++ take n bytes)
+
+abbrev pub EndsFile : SinkState → Bool → SinkState → Type 0
+EndsFile was kept now =
+    (before : SinkState) (outputs : List ReturnedOutput) (k : ℕ) (text : List ℕ) → text ≢ []
+    → HasTaken before outputs was k text
+    → HasTakenBack before (outputs ++ returned_output k text kept ∷ []) now × HoldsNone now
 
 -- ---- how a batch is over
 
--- the outcome of a job whose last output was given back, and taken or refused
-abbrev pub closed_as : Outcome → Bool → Outcome
-closed_as (Done reports) false = Ended statuses.IoError whys.Sink
-closed_as outcome is_taken = outcome
+-- what a job came to whose last output was given back, and taken or refused
+abbrev pub closed_as : {T : Type 0} → Result T Stop → Bool → Result T Stop
+closed_as (Ok done) false = Err failed_output
+closed_as done is_taken = done
 
--- how such a job is over
-abbrev pub HasBatchRun : {L : Type 0} → LinkViews L → Job → SeenStreams L (Option Stock) → SeenStreams L (Option Stock)
-    → Outcome → Type 0
-HasBatchRun views job was now Running = ⊥
-HasBatchRun views job was now (Done reports) = BatchDone views job was now reports
-HasBatchRun views job was now (Ended status why) = BatchEnded views job was now (record { status = status; why = why })
-
--- ---- files and pages of a batch
+-- ---- the files and pages of a job
 
 -- **Filing, filed, filed short** (`IsFiling`, `HasFiled`, `HasFiledShort`): a client that scans stands for what was
 -- told to it and given, and the output of the file under way, by its number, took what was given of that; then all that
 -- the client gave was taken, and it goes on with its file or turned to the next page; or an output fell short, or the
 -- shelf refused the one that was given back as the client turned.
-pub record IsFiling (past : JoinHistory) (client : ClientState) (k : ℕ) (before : Option Stock)
-    (outputs : List ReturnedOutput) (now : Option Stock) (out : Option (Option (List ℕ))) : Type 0 where
+pub record IsFiling (past : JoinHistory) (client : ClientState) (k : ℕ) (before : SinkState)
+    (outputs : List ReturnedOutput) (now : SinkState) : Type 0 where
   pub scanning : scans client.target.task ≡ true
   pub number : is_ended client.outcome ≡ false → client.notes.file ≡ k
   pub serves : ClientRepresents past client
-  pub under_way : OutputIsUnderWay before outputs now out k past.given
+  pub under_way : OutputIsUnderWay before outputs now k past.given
 
 -- the client gave these bytes of its file, not the last ones of a page, and the output took them
-pub record PageGoesOn (past : JoinHistory) (old : ClientState) (k : ℕ) (before : Option Stock)
-    (outputs : List ReturnedOutput) (bytes : List ℕ) (new : ClientState) (after : Option Stock)
-    (out : Option (Option (List ℕ))) : Type 0 where
+pub record PageGoesOn (past : JoinHistory) (old : ClientState) (k : ℕ) (before : SinkState)
+    (outputs : List ReturnedOutput) (bytes : List ℕ) (new : ClientState) (after : SinkState) : Type 0 where
   pub serves : ClientRepresents (after_pull bytes past) new
   pub rest : new ≡ record old { join = new.join }
-  pub under_way : OutputIsUnderWay before outputs after out k (past.given ++ bytes)
+  pub under_way : OutputIsUnderWay before outputs after k (past.given ++ bytes)
   pub denotes : is_ended old.outcome ≡ false → IsJoined past → (p : Picture) → ShowsFrames past.ended p
       → Denotes (past.given ++ bytes) p
 
 -- the client gave the last bytes of a page's file and turned to the next page, and the file's output was given back,
--- which the shelf kept or refused
-pub record TurnsOn (past : JoinHistory) (old : ClientState) (k : ℕ) (before : Option Stock)
-    (outputs : List ReturnedOutput) (bytes : List ℕ) (kept : Bool) (new : ClientState) (after : Option Stock)
-    (out : Option (Option (List ℕ))) : Type 0 where
+-- which was kept or refused
+pub record TurnsOn (past : JoinHistory) (old : ClientState) (k : ℕ) (before : SinkState)
+    (outputs : List ReturnedOutput) (bytes : List ℕ) (kept : Bool) (new : ClientState) (after : SinkState)
+    : Type 0 where
   pub turning : turns old.outcome old.progress ≡ true
   pub whole : IsWhole (past.given ++ bytes)
   pub denotes : (p : Picture) → ShowsFrames past.ended p → Denotes (past.given ++ bytes) p
   pub join : JoinState
   pub client : TurnsPage (record old { join = join }) new
   pub serves : ClientRepresents empty_history new
-  pub taken : TakesBack before (outputs ++ returned_output k (past.given ++ bytes) kept ∷ []) after
-  pub none : out ≡ None
+  pub taken : HasTakenBack before (outputs ++ returned_output k (past.given ++ bytes) kept ∷ []) after
+  pub none : HoldsNone after
 
 -- an output could not be had, or did not take all bytes behind those that were given before: what it took is no whole
 -- file
-pub record FallsShort (given : List ℕ) (k : ℕ) (before : Option Stock) (outputs : List ReturnedOutput)
-    (after : Option Stock) (out : Option (Option (List ℕ))) : Type 0 where
+pub record FallsShort (given : List ℕ) (k : ℕ) (before : SinkState) (outputs : List ReturnedOutput)
+    (after : SinkState) : Type 0 where
   pub behind : List ℕ
-  pub taken : HasTaken before outputs after out k (given ++ behind)
+  pub taken : HasTaken before outputs after k (given ++ behind)
   pub not_whole : IsWhole (given ++ behind) → ⊥
 
 -- all that was given was taken: the client goes on with its file, or it turned to the next page
-abbrev pub HasFiled : JoinHistory → ClientState → ℕ → Option Stock → List ReturnedOutput → List ℕ → ClientState
-    → Option Stock → Option (Option (List ℕ)) → Type 0
-HasFiled past old k before outputs bytes new after out = PageGoesOn past old k before outputs bytes new after out
-    ⊎ TurnsOn past old k before outputs bytes true new after out
+abbrev pub HasFiled : JoinHistory → ClientState → ℕ → SinkState → List ReturnedOutput → List ℕ → ClientState
+    → SinkState → Type 0
+HasFiled past old k before outputs bytes new after = PageGoesOn past old k before outputs bytes new after
+    ⊎ TurnsOn past old k before outputs bytes true new after
 
 -- not all was: an output fell short, or the shelf refused the one that was given back as the client turned to the next
 -- page
-abbrev pub HasFiledShort : JoinHistory → ClientState → ℕ → Option Stock → List ReturnedOutput → List ℕ → ClientState
-    → Option Stock → Option (Option (List ℕ)) → Type 0
-HasFiledShort past old k before outputs bytes new after out = FallsShort past.given k before outputs after out
-    ⊎ TurnsOn past old k before outputs bytes false new after out
+abbrev pub HasFiledShort : JoinHistory → ClientState → ℕ → SinkState → List ReturnedOutput → List ℕ → ClientState
+    → SinkState → Type 0
+HasFiledShort past old k before outputs bytes new after = FallsShort past.given k before outputs after
+    ⊎ TurnsOn past old k before outputs bytes false new after
 
-pub record BatchCameDone {L : Type 0} (views : LinkViews L) (job : Job) (was now : SeenStreams L (Option Stock))
-    (out : Option (Option (List ℕ))) (reports : Reports) : Type 0 where
+-- **Fills, fills short, fails (`Fills`, `FillsShort`, `FailsFor`)**: a client gave bytes of its files, and whatever
+-- file was under way, all of them were taken, or not all were; or then it is noted that an output failed.
+abbrev pub Fills : ClientState → SinkState → ClientState → SinkState → Type 0
+Fills old was new now = (gives : List JobMove) × GivesAll old gives new
+    × ((before : SinkState) (outputs : List ReturnedOutput) (k : ℕ) (past : JoinHistory)
+    → IsFiling past old k before outputs was
+    → GivesPage old gives new × HasFiled past old k before outputs (given_by gives) new now)
+
+abbrev pub FillsShort : ClientState → SinkState → ClientState → SinkState → Type 0
+FillsShort old was new now = (gives : List JobMove) × GivesAll old gives new
+    × ((before : SinkState) (outputs : List ReturnedOutput) (k : ℕ) (past : JoinHistory)
+    → IsFiling past old k before outputs was → HasFiledShort past old k before outputs (given_by gives) new now)
+
+abbrev pub FailsFor : ClientState → SinkState → Bool → Type 0
+FailsFor old was failed = (before : SinkState) (outputs : List ReturnedOutput) (k : ℕ) (past : JoinHistory)
+    → IsFiling past old k before outputs was → failed ≡ true
+
+-- ---- how a job's client came to its end, with the output of the last file under way
+
+-- it is done: the outputs of the pages that were turned were given back, and that of the last one took its file
+pub record CameDone {L : Type 0} (views : LinkViews L) (job : Job) (was now : SeenStreams L SinkState)
+    (reports : Reports) : Type 0 where
   pub ran : RanWithTrace views job was now
   pub told : ran.trace.protocol.outcome ≡ Done reports
   pub last_told : ran.last.outcome ≡ Done reports
@@ -437,15 +433,24 @@ pub record BatchCameDone {L : Type 0} (views : LinkViews L) (job : Job) (was now
   pub end_well : EndWell ran.did.events
   pub count : MayScan job.task (length (pages_of ran.trace))
   pub files : All IsPageFile (pages_of ran.trace)
-  pub gave : files_text (pages_of ran.trace) ≡ given_by ran.moves
-  pub taken
-      : HasTaken was.output (page_outputs_from 1 ran.trace.pages) now.output out (length ran.trace.pages
-      + 1) ran.trace.protocol.history.given
-  pub none : (IsJoined ran.trace.protocol.history → ⊥) → out ≡ None
+  pub gave : files_text ran.trace.pages ++ ran.trace.protocol.history.given ≡ given_by ran.moves
+  pub under_way : OutputIsUnderWay was.output (page_outputs_from 1 ran.trace.pages) now.output
+      (length ran.trace.pages + 1) ran.trace.protocol.history.given
+  pub none : (IsJoined ran.trace.protocol.history → ⊥) → ran.trace.protocol.history.given ≡ []
   pub last : IsJoined ran.trace.protocol.history → IsPageFile ran.trace.protocol.history
 
-pub record BatchCameEnded {L : Type 0} (views : LinkViews L) (job : Job) (was now : SeenStreams L (Option Stock))
-    (out : Option (Option (List ℕ))) (stop : Stop) : Type 0 where
+-- the outputs of these pages were given back, of which the last was refused
+pub record LastIsRefused (pages : List JoinHistory) (before after : SinkState) : Type 0 where
+  pub shelved : List JoinHistory
+  pub last : JoinHistory
+  pub pages_are : pages ≡ shelved ++ last ∷ []
+  pub outputs : HasTakenBack before (page_outputs_from 1 shelved ++ refused_output (length shelved + 1) last.given ∷ [])
+      after
+  pub none : HoldsNone after
+
+-- it has ended otherwise
+pub record CameEnded {L : Type 0} (views : LinkViews L) (job : Job) (was now : SeenStreams L SinkState) (stop : Stop)
+    : Type 0 where
   pub ran : RanWithTrace views job was now
   pub cause : HasEndingCause ran.moves ran.trace.protocol ran.rest (Ended stop.status stop.why)
   pub all : stop.why ≢ whys.Sink → has_write_failed ran.moves ≡ false → ran.left ≡ []
@@ -461,14 +466,14 @@ pub record BatchCameEnded {L : Type 0} (views : LinkViews L) (job : Job) (was no
       → (s : MovesAreSteps ran.first ran.moves ran.last) × StepsGive s.steps ran.trace.pages text
   pub sunk : stop.why ≡ whys.Sink → (ran.last.outcome ≡ Ended stop.status stop.why → ⊥)
       → MovesStopWithin ran.first ran.moves ran.last
-  pub shelf : HasTaken was.output (page_outputs_from 1 ran.trace.pages) now.output out (length ran.trace.pages + 1) text
-      ⊎ ((out ≡ None) × (text ≡ []) × (stop ≡ failed_output) × RefusesLastPage ran.trace.pages was.output now.output)
+  pub sink : HasTaken was.output (page_outputs_from 1 ran.trace.pages) now.output (length ran.trace.pages + 1) text
+      ⊎ ((text ≡ []) × (stop ≡ failed_output) × LastIsRefused ran.trace.pages was.output now.output)
 
-abbrev pub BatchHasCome : {L : Type 0} → LinkViews L → Job → SeenStreams L (Option Stock) → SeenStreams L (Option Stock)
-    → Option (Option (List ℕ)) → Outcome → CallNotes → Type 0
-BatchHasCome views job was now out Running notes = ⊥
-BatchHasCome views job was now out (Done reports) notes = (run : BatchCameDone views job was now out reports)
+-- with a journal that tells what the tally of its calls does
+abbrev pub CameTo : {L : Type 0} → LinkViews L → Job → SeenStreams L SinkState → SeenStreams L SinkState → Outcome
+    → CallNotes → Type 0
+CameTo views job was now Running notes = ⊥
+CameTo views job was now (Done reports) notes = (run : CameDone views job was now reports)
     × NotesMatch run.ran.moves notes
-BatchHasCome views job was now out (Ended status why) notes =
-    (run : BatchCameEnded views job was now out (record { status = status; why = why }))
-    × NotesMatch run.ran.moves notes
+CameTo views job was now (Ended status why) notes =
+    (run : CameEnded views job was now (record { status = status; why = why })) × NotesMatch run.ran.moves notes

@@ -1,5 +1,6 @@
 -- What is promised of a job over streams.
 use Rattle.std.specs.Prelude.{ℕ, ◌+◌, ◌≡◌, ◌≢◌, ◌<◌, ◌≤◌, ◌⊎◌, true, false, Option, Some, List, [], ◌∷◌, ◌++◌, length}
+use Rattle.std.specs.Prelude.{Result, IfOk}
 use Rattle.std.specs.Io.KnownBytes.{Appends}
 use Rattle.sane_fixed.specs.declared.status.Status.TheVariants as statuses
 use Rattle.netpbm.specs.Picture.{Picture}
@@ -20,6 +21,7 @@ use Rattle.scan_job.specs.declared.job.Task.TheVariants as tasks
 use Rattle.scan_job.specs.declared.outcome.Outcome.{Outcome}
 use Rattle.scan_job.specs.declared.outcome.Outcome.TheVariants.{Done, Ended}
 use Rattle.scan_job.specs.declared.outcome.Why.TheVariants as whys
+use Rattle.scan_job.specs.Outcomes.{IfEnded}
 use Rattle.scan_job.specs.declared.report.Reports.{Reports}
 use Rattle.scan_job.specs.declared.stop.Stop.{Stop}
 use Rattle.net_jobs.specs.JobJournal.{JobMove, MovesLead, PortsAreTold, bytes_written_by, heard_by, given_by}
@@ -53,6 +55,17 @@ seen coming holds s = record {
   coming = coming s.dial;
   output = holds s.output;
 }
+
+-- what is seen of a job's streams: its links, the bytes of the data connections that are to come, and what the output
+-- holds, or the shelf
+pub record StreamViews (C D W O : Type 0) : Type 0 where
+  pub links : LinkViews (JobLinks C D)
+  pub coming : D → Option (List (List ℕ))
+  pub output : W → O
+
+abbrev pub stream_views : {C D W O : Type 0} → LinkViews (JobLinks C D) → (D → Option (List (List ℕ))) → (W → O)
+    → StreamViews C D W O
+stream_views links coming output = record { links = links; coming = coming; output = output }
 
 -- ---- what a job did
 
@@ -173,3 +186,23 @@ IsRefused job outcome =
 pub record RefusesJob {C D W : Type 0} (job : Job) (outcome : Outcome) (was now : JobStreams C D W) : Type 0 where
   pub why : IsRefused job outcome
   pub same : now ≡ was
+
+-- **Runs, stops (`RunsJob`, `StopsJob`; `IfReports`, `IfStops`)**: what passed over the streams of a job, as far as it
+-- is seen: it ran until it was done, with these reports; or it stopped so, refused before it touched a stream, or
+-- behind what passed over them. Of what a call gave this holds: of the reports, where it gave them; or of how the job
+-- ended, where it ended otherwise.
+abbrev pub RunsJob : {C D W : Type 0} → StreamViews C D W (Option (List ℕ)) → Job → JobStreams C D W
+    → JobStreams C D W → Reports → Type 0
+RunsJob views job was now reports =
+    RanDone views.links job (seen views.coming views.output was) (seen views.coming views.output now) reports
+
+abbrev pub StopsJob : {C D W : Type 0} → StreamViews C D W (Option (List ℕ)) → Job → JobStreams C D W
+    → JobStreams C D W → Stop → Type 0
+StopsJob views job was now stop = RefusesJob job (Ended stop.status stop.why) was now
+    ⊎ RanEnded views.links job (seen views.coming views.output was) (seen views.coming views.output now) stop
+
+abbrev pub IfReports : {T E : Type 0} → Result (Reports × T) E → (Reports → Type 0) → Type 0
+IfReports result Holds = IfOk result (λ done. Holds done.0)
+
+abbrev pub IfStops : Outcome → (Stop → Type 0) → Type 0
+IfStops outcome Holds = IfEnded outcome (λ status why. Holds (record { status = status; why = why }))

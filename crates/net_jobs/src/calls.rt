@@ -3,14 +3,13 @@
 //! No clause of `Read` and `Write` tells that a call failed. So the methods below, of which each makes one call and notes its
 //! result, are the only ones that call a connection of a job, or ask for one; what the loop tells its client of a loss is
 //! bound to these notes by its contracts.
-ghost use Rattle.std.specs.Prelude.{◌≡◌, ◌<◌, ◌≤◌, ◌+◌, ◌^◌, ℕ, ◌||◌, not, true, false, length, take, None, Some, IfOk, OnErr, IsTrue};
+ghost use Rattle.std.specs.Prelude.{◌≡◌, ◌+◌, ◌^◌, true, false, None, Some, IfOk, OnErr};
 ghost use Rattle.std.specs.Io.{ReadsAtMost, WritesAtMost};
-ghost use Rattle.std.specs.Io.KnownBytes.{Appends, ReadConsumes, WriteAppends};
+ghost use Rattle.std.specs.Io.KnownBytes.{ReadConsumes, WriteAppends};
 ghost use Rattle.net_jobs.specs.Inside.{loss_by_read};
 
 use crate::dial::{Dial, DialFault};
-use byte_output::{OutputTally, fails_to_write, put};
-use scan_job::{Shelf, ShelfFault};
+use byte_output::{OutputTally, fails_to_write};
 use std::io::{self, ErrorKind, Read, Write};
 
 /// The most reads of a job, with the interrupted calls on its control connection that are made again; and the most turns
@@ -35,7 +34,7 @@ pub enum Loss {
 pub struct CallTally {
     reads: u64,
     turns: u64,
-    output: OutputTally,
+    pub(crate) output: OutputTally,
     loss: Option<Loss>,
     write_failed: bool,
 }
@@ -53,8 +52,6 @@ fn loss_by_read(got: &io::Result<usize>) -> Option<Loss>
 }
 
 impl CallTally {
-    ghost use Rattle.std.specs.Result.{is_err};
-    ghost use Rattle.scan_job.specs.Shelves.{OpensOutput, Shelves, IsEmpty, IsNewOutput};
     ghost use Rattle.byte_output.specs.Writes.{fails_to_write};
     ghost use Rattle.net_jobs.specs.Inside.{loss_by_read, loss_by_dial};
     ghost use Rattle.net_jobs.specs.Links.{DialBrings, with_port};
@@ -179,44 +176,5 @@ impl CallTally {
         ensures { result ≡ self.now.write_failed }
     {
         self.write_failed
-    }
-
-    /// Writes bytes of a file to its output. Says whether this took them all.
-    pub fn put<W: Write>(&mut self, out: &mut W, bytes: &[u8]) -> bool
-        ensures whole { IsTrue result
-            → Appends (W.contents out.old) (W.contents out.new) bytes.now }
-        ensures front { result ≡ false → (n : ℕ) × (n < length bytes.now)
-            × Appends (W.contents out.old) (W.contents out.new) (take n bytes.now) }
-        ensures failed { result ≡ false → self.new.output.failed ≡ true }
-        ensures kept { result ≡ true → self.new.output.failed ≡ self.old.output.failed }
-        ensures rest { self.new ≡ record self.old { output = self.new.output } }
-        ensures again { self.new.output.again ≤ self.old.output.again }
-    {
-        put(out, bytes, &mut self.output)
-    }
-
-    /// Asks a shelf for the output of the file of that number.
-    pub fn open<S: Shelf>(&mut self, shelf: &mut S, number: u32) -> Result<S::Out, ShelfFault>
-        ensures stock { OpensOutput (S.stock shelf.old) number (S.stock shelf.new) }
-        ensures empty { IfOk result (λ out. IsEmpty (S.Out.contents out)) }
-        ensures new { IfOk result (λ out. IsNewOutput (S.stock shelf.new) (S.Out.contents out)) }
-        ensures told { self.new.output ≡ record self.old.output {
-          failed = is_err result || self.old.output.failed;
-        } }
-        ensures rest { self.new ≡ record self.old { output = self.new.output } }
-    {
-        self.output.open(shelf, number)
-    }
-
-    /// Gives a shelf an output back. Says whether it kept it.
-    pub fn close<S: Shelf>(&mut self, shelf: &mut S, out: S::Out) -> bool
-        ensures stock { Shelves
-            (S.stock shelf.old) (S.Out.contents out) result (S.stock shelf.new) }
-        ensures told { self.new.output ≡ record self.old.output {
-          failed = not result || self.old.output.failed;
-        } }
-        ensures rest { self.new ≡ record self.old { output = self.new.output } }
-    {
-        self.output.close(shelf, out)
     }
 }

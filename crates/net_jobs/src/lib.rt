@@ -7,6 +7,7 @@ mod dial;
 mod lies;
 mod net_batch;
 mod running;
+mod sink;
 
 pub use dial::{Dial, DialFault};
 pub use lies::a_told_port_is_no_lie;

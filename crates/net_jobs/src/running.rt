@@ -1,27 +1,29 @@
-ghost use Rattle.std.specs.Prelude.{◌≡◌, ◌<◌, ◌≤◌, ◌↔◌, ◌⊎◌, if◌then◌else◌, ℕ, [], true, false, not, Some, None, Ok, List, Option, IsTrue, IfOk, IfErr, take, length};
+ghost use Rattle.std.specs.Prelude.{◌≡◌, ◌<◌, ◌≤◌, ◌⊎◌, if◌then◌else◌, ℕ, [], true, false, not, Some, None, Ok, List, Option, IsTrue, IfOk, IfErr, take, length};
 ghost use Rattle.std.specs.Fn.{FnOnceReturnsAt};
 ghost use Rattle.std.specs.Io.KnownBytes.{Appends, Consumes};
 ghost use Rattle.scan_job.specs.declared.job.Job.{Job as JobValue};
-ghost use Rattle.scan_job.specs.declared.job.Task.TheVariants as tasks;
+ghost use Rattle.scan_job.specs.JobSize.{HasCount};
 ghost use Rattle.scan_job.specs.declared.outcome.Outcome.TheVariants.{Done, Ended};
 ghost use Rattle.scan_job.specs.declared.outcome.Why.TheVariants.{Sink};
 ghost use Rattle.scan_job.specs.declared.report.Reports.{Reports as ReportsValue};
-ghost use Rattle.scan_job.specs.Outcomes.{IfDone, IfEnded, IsOver, over_as};
-ghost use Rattle.frame_join.specs.FrameHistory.{JoinHistory};
-ghost use Rattle.client_replies.specs.ProtocolStates.{is_running, is_receiving, is_batch, wanted_port};
+ghost use Rattle.scan_job.specs.Outcomes.{IfDone, IsOver, over_as};
+ghost use Rattle.client_replies.specs.ProtocolStates.{is_running, is_receiving, scans, wanted_port};
 ghost use Rattle.net_client.specs.ClientStates.{HasEarlyReply, IsNewClient};
 ghost use Rattle.net_client.specs.ToldPorts.{port_told};
-ghost use Rattle.net_jobs.specs.JobJournal.{JobMove, given_by};
-ghost use Rattle.net_jobs.specs.JobSteps.{FileRunsOut};
-ghost use Rattle.net_jobs.specs.Inside.{AreOfTurn, HoldsGiven, IfOpenLiesWithin, LiesWithin, ahead_of, left_ahead, read_ahead, IsDrainedTo, StopsBehind, StopsAs, DialsOrLoses, HasRunNoted, HearsOrLoses, IsLost, KeepsNotes, KeepsReads, KeepsWrites, MovesAll, TakesLeave, TakesOrLoses, loop_state, no_notes, notes_of, turns_to_go};
+ghost use Rattle.net_jobs.specs.JobJournal.{JobMove};
+ghost use Rattle.net_jobs.specs.Batches.{RefusesBatch};
+ghost use Rattle.net_jobs.specs.Inside.{AreOfTurn, IfOpenLiesWithin, LiesWithin, ahead_of, left_ahead, read_ahead, StopsAs, DialsOrLoses, HearsOrLoses, IsLost, KeepsNotes, KeepsReads, KeepsWrites, MovesAll, TakesLeave, TakesOrLoses, loop_state, no_notes, notes_of, turns_to_go};
+ghost use Rattle.net_jobs.specs.Inside.{CameDone, CameEnded, CameTo, FailsFor, Fills, FillsShort, HoldsNone};
 ghost use Rattle.net_jobs.specs.Links.{IsTold, views_of, with_port};
-ghost use Rattle.net_jobs.specs.RunPromises.{RanDone, RanEnded, RefusesJob, refused_as, seen, streams};
+ghost use Rattle.net_jobs.specs.RunPromises.{RunsJob, StopsJob, IfReports, IfStops, refused_as, seen, stream_views, streams};
 
 use crate::calls::CallTally;
 use crate::dial::Dial;
+use crate::sink::{FileSink, SingleSink};
 use byte_output::OutputTally;
 use frame_join::{no_file_is_endless, no_front_is_whole, not_whole_before, whole_shows};
 use net_client::{Client, Link};
+use netpbm::no_whole_prefix;
 use sane_fixed::{NoMem, Status};
 use scan_job::{Job, JobFault, Outcome, Reports, Stop, Task, Why};
 use std::alloc::{AllocError, Global};
@@ -29,7 +31,7 @@ use std::io::{ErrorKind, Read, Write};
 use std::mem;
 
 /// More than a file has bytes.
-pub(crate) const MOST_PULLS: u64 = 1 << 40;
+const MOST_PULLS: u64 = 1 << 40;
 
 /// The most bytes that are read or written at once: a record of saned, at most 65,483 bytes, comes in one read.
 const PIECE: usize = 131_072;
@@ -46,7 +48,7 @@ pub(crate) struct DataStream<R: Drop> {
 }
 
 /// Room for a piece.
-pub(crate) fn piece(alloc: Global) -> Result<Vec<u8>, AllocError>
+fn piece(alloc: Global) -> Result<Vec<u8>, AllocError>
     ensures { IfOk result (λ v. length v.items ≡ 131072) }
 {
     vec![in alloc; 0u8; PIECE]
@@ -67,12 +69,13 @@ pub(crate) fn stop_of_fault(fault: JobFault) -> Stop
     }
 }
 
-fn is_scan(task: Task) -> bool
-    ensures { result ≡ true ↔ task ≡ tasks.Scan }
+/// Whether a task scans pages.
+fn is_scanning(task: Task) -> bool
+    ensures { result ≡ scans task }
 {
     match task {
-        Task::Scan => true,
-        Task::List | Task::Show | Task::SetOnly | Task::Batch(_) => false,
+        Task::Scan | Task::Batch(_) => true,
+        Task::List | Task::Show | Task::SetOnly => false,
     }
 }
 
@@ -335,7 +338,7 @@ fn looks_again(client: &Client, has_looked: &mut bool) -> bool
 
 /// A turn of a job that runs: takes bytes of the data connection of its frame, looks again at what came before it was asked
 /// for, or exchanges with the daemon. Says whether something came, unless the job is over.
-pub(crate) fn go_on<C: Read + Write, D: Dial>(
+fn go_on<C: Read + Write, D: Dial>(
     client: &mut Client,
     control: &mut C,
     dial: &mut D,
@@ -382,72 +385,76 @@ pub(crate) fn go_on<C: Read + Write, D: Dial>(
     exchange(client, control, dial, stream, ahead, room, tally)
 }
 
-/// Writes all bytes of a scan's file that may go out. Says whether the output took them; if not, what it took in all is no
-/// whole file.
-fn drain<W: Write>(client: &mut Client, room: &mut [u8], out: &mut W, tally: &mut CallTally) -> bool
-    requires { 0 < length room.old }
-    ensures room { length room.new ≡ length room.old }
-    ensures calls { KeepsNotes tally.old tally.new }
-    ensures outcome { client.new.outcome ≡ client.old.outcome }
-    // `first` is what the output held before the file, and `past` what the client was told and gave.
-    ensures drained { result ≡ true
-        → (gives : List JobMove) × FileRunsOut client.old gives client.new
-        × ((first : Option (List ℕ)) (past : JoinHistory)
-        → HoldsGiven past client.old first (W.contents out.old) → IsDrainedTo past
-        client.old first (given_by gives) client.new (W.contents out.new)) }
-    ensures short { result ≡ false → (first : Option (List ℕ)) (past : JoinHistory)
-        → HoldsGiven past client.old first (W.contents out.old)
-        → StopsBehind past.given first (W.contents out.new) }
-    ensures failed { result ≡ false → (first : Option (List ℕ)) (past : JoinHistory)
-        → HoldsGiven past client.old first (W.contents out.old) → tally.new.output.failed ≡ true }
-{
-    no_file_is_endless();
-    no_front_is_whole();
-    for _i in 0..MOST_PULLS {
-        let n = client.take_file(room);
-        if n == 0 {
-            return true;
-        }
-        if !tally.put(out, &room[..n]) {
-            return false;
-        }
-    }
-    false
-}
-
-/// Writes the bytes of a scan's file that may go out; nothing of any other job.
-fn give<W: Write>(
+/// Writes all bytes of the file that may go out, but none behind the last byte of a page that another is to follow; then its
+/// output is given back. Says whether all this was taken.
+fn drain<T, K: FileSink<T>>(
     client: &mut Client,
-    is_scan: bool,
     room: &mut [u8],
-    out: &mut W,
+    to: &mut T,
+    sink: &mut K,
     tally: &mut CallTally,
 ) -> bool
     requires { 0 < length room.old }
     ensures room { length room.new ≡ length room.old }
     ensures calls { KeepsNotes tally.old tally.new }
     ensures outcome { client.new.outcome ≡ client.old.outcome }
-    ensures none { is_scan ≡ false
-        → (result ≡ true) × (client.new ≡ client.old) × (W.contents out.new ≡ W.contents out.old) }
-    ensures drained { is_scan ≡ true
-        → result ≡ true → (gives : List JobMove) × FileRunsOut client.old gives client.new
-        × ((first : Option (List ℕ)) (past : JoinHistory)
-        → HoldsGiven past client.old first (W.contents out.old) → IsDrainedTo past
-        client.old first (given_by gives) client.new (W.contents out.new)) }
-    ensures short { result ≡ false → (first : Option (List ℕ)) (past : JoinHistory)
-        → HoldsGiven past client.old first (W.contents out.old)
-        → StopsBehind past.given first (W.contents out.new) }
-    ensures failed { result ≡ false → (first : Option (List ℕ)) (past : JoinHistory)
-        → HoldsGiven past client.old first (W.contents out.old) → tally.new.output.failed ≡ true }
+    ensures drained { result ≡ true
+        → Fills client.old (K.state to.old sink.old) client.new (K.state to.new sink.new) }
+    ensures short { result ≡ false
+        → FillsShort client.old (K.state to.old sink.old) client.new (K.state to.new sink.new) }
+    ensures failed { result ≡ false
+        → FailsFor client.old (K.state to.old sink.old) tally.new.output.failed }
 {
-    if !is_scan {
+    no_file_is_endless();
+    no_front_is_whole();
+    no_whole_prefix();
+    for _i in 0..MOST_PULLS {
+        let number = client.file_number();
+        let is_page = client.is_turning();
+        let n = client.take_file(room);
+        if n == 0 {
+            return true;
+        }
+        if !sink.take(to, number, &room[..n], &mut tally.output) {
+            return false;
+        }
+        if is_page && !client.is_turning() {
+            return sink.end_file(to, &mut tally.output);
+        }
+    }
+    false
+}
+
+/// Writes the bytes of the files of a job that scans; nothing of any other job.
+fn fill<T, K: FileSink<T>>(
+    client: &mut Client,
+    is_scanning: bool,
+    room: &mut [u8],
+    to: &mut T,
+    sink: &mut K,
+    tally: &mut CallTally,
+) -> bool
+    requires { 0 < length room.old }
+    ensures room { length room.new ≡ length room.old }
+    ensures calls { KeepsNotes tally.old tally.new }
+    ensures outcome { client.new.outcome ≡ client.old.outcome }
+    ensures none { is_scanning ≡ false → (result ≡ true)
+        × (client.new ≡ client.old) × (K.state to.new sink.new ≡ K.state to.old sink.old) }
+    ensures drained { is_scanning ≡ true → result ≡ true
+        → Fills client.old (K.state to.old sink.old) client.new (K.state to.new sink.new) }
+    ensures short { result ≡ false
+        → FillsShort client.old (K.state to.old sink.old) client.new (K.state to.new sink.new) }
+    ensures failed { result ≡ false
+        → FailsFor client.old (K.state to.old sink.old) tally.new.output.failed }
+{
+    if !is_scanning {
         return true;
     }
-    drain(client, room, out, tally)
+    drain(client, room, to, sink, tally)
 }
 
 /// What is to be told of a job that is over, if it is done.
-pub(crate) fn told_of<T: Drop, F: FnOnce(&Reports) -> Result<T, NoMem> + Drop>(
+fn told_of<T: Drop, F: FnOnce(&Reports) -> Result<T, NoMem> + Drop>(
     outcome: &Outcome,
     tell: F,
 ) -> Result<T, Stop>
@@ -470,7 +477,7 @@ pub(crate) fn told_of<T: Drop, F: FnOnce(&Reports) -> Result<T, NoMem> + Drop>(
 }
 
 /// Takes leave of a daemon: writes what a job that is over sends last, where no write failed before, and gives its outcome.
-pub(crate) fn part<C: Write>(
+fn part<C: Write>(
     client: Client,
     control: &mut C,
     room: &mut [u8],
@@ -491,35 +498,37 @@ pub(crate) fn part<C: Write>(
 }
 
 /// Runs a client to its end. The last bytes of the file of a job that is done go out once what is to be told of it is there.
-fn run_client<C, D, W, T, F>(
+/// What is open of the files then stays so.
+fn run_client<C, D, T, K, U, F>(
     mut client: Client,
     control: &mut C,
     dial: &mut D,
-    out: &mut W,
-    is_scan: bool,
+    to: &mut T,
+    sink: &mut K,
+    is_scanning: bool,
     ahead: &mut [u8],
     room: &mut [u8],
     tally: &mut CallTally,
     tell: F,
-) -> Result<(Reports, T), Stop>
+) -> Result<(Reports, U), Stop>
 where
     C: Read + Write,
     D: Dial,
-    W: Write,
-    T: Drop,
-    F: FnOnce(&Reports) -> Result<T, NoMem> + Drop,
+    K: FileSink<T>,
+    U: Drop,
+    F: FnOnce(&Reports) -> Result<U, NoMem> + Drop,
     requires room { 4096 ≤ length room.old }
     requires new { notes_of tally.old ≡ no_notes }
     requires tell { F.IsAlwaysCallable tell }
-    ensures ran { (job : JobValue) → IsNewClient job client → is_batch job.task ≡ false
-        → (is_scan ≡ true ↔ job.task ≡ tasks.Scan)
-        → HasRunNoted (views_of C.remaining C.contents D.ports D.prepared) job
-        (seen D.coming W.contents (streams control.old dial.old out.old))
-        (seen D.coming W.contents (streams control.new dial.new out.new))
+    ensures came { (job : JobValue) → IsNewClient job client → HasCount job.task
+        → is_scanning ≡ scans job.task → HoldsNone (K.state to.old sink.old)
+        → CameTo (views_of C.remaining C.contents D.ports D.prepared) job
+        (seen D.coming (λ it. K.state it sink.old) (streams control.old dial.old to.old))
+        (seen D.coming (λ it. K.state it sink.new) (streams control.new dial.new to.new))
         (over_as result) (notes_of tally.new) }
     // It ends for its output only where that failed.
-    ensures output { (job : JobValue) → IsNewClient job client → is_batch job.task ≡ false
-        → (is_scan ≡ true ↔ job.task ≡ tasks.Scan)
+    ensures output { (job : JobValue) → IsNewClient job client → HasCount job.task
+        → is_scanning ≡ scans job.task → HoldsNone (K.state to.old sink.old)
         → IfErr result (λ stop. stop.why ≡ Sink → tally.new.output.failed ≡ true) }
     ensures told { IfOk result (λ done. FnOnceReturnsAt F.FnOnce tell done.0 (Ok done.1)) }
 {
@@ -538,12 +547,12 @@ where
             &mut has_looked,
             tally,
         );
-        if came && !client.is_over() && !give(&mut client, is_scan, room, out, tally) {
+        if came && !client.is_over() && !fill(&mut client, is_scanning, room, to, sink, tally) {
             return Err(Stop::failed_output());
         }
     }
     let told = told_of(client.outcome(), tell);
-    if told.is_ok() && !give(&mut client, is_scan, room, out, tally) {
+    if told.is_ok() && !fill(&mut client, is_scanning, room, to, sink, tally) {
         return Err(Stop::failed_output());
     }
     let outcome = part(client, control, room, tally);
@@ -552,6 +561,64 @@ where
         unreachable!()
     };
     Ok((reports, told))
+}
+
+/// Does a job whose files go to a sink, as `run_job_with` and `run_batch_with` do it. What is open of the files then stays so.
+pub(crate) fn run_to<C, D, T, K, U, F>(
+    alloc: Global,
+    job: Job,
+    control: &mut C,
+    dial: &mut D,
+    to: &mut T,
+    sink: &mut K,
+    outputs: &mut OutputTally,
+    tell: F,
+) -> Result<(Reports, U), Stop>
+where
+    C: Read + Write,
+    D: Dial,
+    K: FileSink<T>,
+    U: Drop,
+    F: FnOnce(&Reports) -> Result<U, NoMem> + Drop,
+    requires tell { F.IsAlwaysCallable tell }
+    requires count { HasCount job.task }
+    requires none { HoldsNone (K.state to.old sink.old) }
+    ensures done { IfReports result (CameDone
+        (views_of C.remaining C.contents D.ports D.prepared) job
+        (seen D.coming (λ it. K.state it sink.old) (streams control.old dial.old to.old))
+        (seen D.coming (λ it. K.state it sink.new) (streams control.new dial.new to.new))) }
+    // A job that is refused, or finds no memory for its buffers, touches nothing.
+    ensures ended { IfErr result (λ stop. (RefusesBatch job (Ended stop.status stop.why)
+        (streams control.old dial.old to.old) (streams control.new dial.new to.new)
+        × (sink.new ≡ sink.old))
+        ⊎ CameEnded (views_of C.remaining C.contents D.ports D.prepared) job
+        (seen D.coming (λ it. K.state it sink.old) (streams control.old dial.old to.old))
+        (seen D.coming (λ it. K.state it sink.new) (streams control.new dial.new to.new)) stop) }
+    ensures output { IfErr result (λ stop. stop.why ≡ Sink → outputs.new.failed ≡ true) }
+    ensures told { IfOk result (λ done. FnOnceReturnsAt F.FnOnce tell done.0 (Ok done.1)) }
+{
+    let mut ahead = piece(alloc)?;
+    let mut room = piece(alloc)?;
+    let is_scanning = is_scanning(job.task);
+    let client = match Client::new(alloc, job) {
+        Ok(client) => client,
+        Err((fault, _job)) => return Err(stop_of_fault(fault)),
+    };
+    let mut tally = CallTally::new(mem::replace(outputs, OutputTally::new()));
+    let done = run_client(
+        client,
+        control,
+        dial,
+        to,
+        sink,
+        is_scanning,
+        ahead.as_mut_slice(),
+        room.as_mut_slice(),
+        &mut tally,
+        tell,
+    );
+    *outputs = tally.into_output();
+    done
 }
 
 /// Does a job as `run_job` does it, and makes of its reports what is to be told of it, by `tell`: before the last bytes of its
@@ -573,18 +640,70 @@ where
     T: Drop,
     F: FnOnce(&Reports) -> Result<T, NoMem> + Drop,
     requires tell { F.IsAlwaysCallable tell }
-    // As `run_job`.
-    ensures done { IfOk result (λ done. RanDone
-        (views_of C.remaining C.contents D.ports D.prepared) job
-        (seen D.coming W.contents (streams control.old dial.old out.old))
-        (seen D.coming W.contents (streams control.new dial.new out.new)) done.0) }
+    /// What `run_job_with` did is one journal of moves, each with what the client's own contracts have it make of the
+    /// client, from the new client to the last. By its moves the control connection took the bytes written and gave
+    /// the pieces heard, the ports were asked for, and the output took what was given.
+    /// Carried by: `done`, `ended` of `run_job_with`
+    ///
+    /// Its moves are steps: a piece that comes has 1 to 4,096 bytes, behind each the file goes out until the client
+    /// gives none, and nothing is done behind a write that failed. So it is where the job is Done, and where it is
+    /// told as the client ended.
+    /// Carried by: `done`, `ended` of `run_job_with`: `steps`
+    ///
+    /// Those of `run_batch_with` are such steps too, and behind the last bytes of a page's file the client turns to
+    /// its next page. The files that went out by them are those of the pages that were turned and of the one under way.
+    /// Carried by: `done`, `ended` of `run_batch_with`: `steps`; `StepsGive`
+    ///
+    /// What it wrote to the control connection is a front of the greeting and of what the client's rules send for the
+    /// replies that it read, in their order; and all of it, with CLOSE and EXIT, where no write failed, unless the
+    /// output ended the job.
+    /// Carried by: `done`, `ended` of `run_job_with`
+    ///
+    /// The ports that it asked for are those that its START replies named, in their order, but for the last where the
+    /// job ended before.
+    /// Carried by: `done`, `ended` of `run_job_with`
+    ///
+    /// What makes the data connections is told beforehand of no port but that which START's reply named, right behind
+    /// the request for the frame's parameters and before they are told; and of a frame's at most once.
+    /// Carried by: `done`, `ended` of `run_job_with`: `PreparesPort` of its moves, and `PortsAreTold`
+    ///
+    /// Each data connection began with the records of a frame that ended, but for at most one that was let go within
+    /// its frame.
+    /// Carried by: `done`, `ended` of `run_job_with`
+    ///
+    /// A job that is Done is so by `client_replies` for these replies and frames, and each frame ended with EOF.
+    ///
+    /// The output of a scan that is Done took the file of the picture that the frames show; that of any other job
+    /// nothing.
+    ensures done { IfReports result (RunsJob
+        (stream_views (views_of C.remaining C.contents D.ports D.prepared) D.coming W.contents) job
+        (streams control.old dial.old out.old) (streams control.new dial.new out.new)) }
     // A job that is refused, or finds no memory for its buffers, touches no stream.
-    ensures ended { IfErr result (λ stop.
-        RefusesJob job (Ended stop.status stop.why)
-        (streams control.old dial.old out.old) (streams control.new dial.new out.new)
-        ⊎ RanEnded (views_of C.remaining C.contents D.ports D.prepared) job
-        (seen D.coming W.contents (streams control.old dial.old out.old))
-        (seen D.coming W.contents (streams control.new dial.new out.new)) stop) }
+    /// Where an output failed they are steps up to the last piece that came: of its file not all went out that was
+    /// given, and nothing more was done. A batch whose last output is refused as it is given back did steps alone.
+    /// Carried by: `ended` of `run_job_with`, `run_batch_with`: `sunk`; `MovesStopWithin`
+    ///
+    /// A job that ends otherwise does so by `client_replies` for these replies and frames, or for one of five causes:
+    /// a lost connection, out of memory, bytes that begin no reply, more bytes of a frame than were told, or an
+    /// output that did not take its file; so a full disk is never told as a short frame.
+    ///
+    /// It is lost only by a move that tells why: a write or a read that failed, a stream at its end, a dial that
+    /// failed, or 2^40 reads or turns that are used up.
+    ///
+    /// The output of a job that ends otherwise took no whole file.
+    ///
+    /// One that is refused touches no stream.
+    ///
+    /// What went out is what the client gave, the files of the pages and what was given of the one under way, and
+    /// only where an output failed bytes more behind that.
+    /// Carried by: `ended` of `run_job_with`, `run_batch_with`: `gave`, `none_behind`
+    ///
+    /// What is told is the client's last outcome, but where there was no memory for what is told of a job that was
+    /// done, or an output failed.
+    /// Carried by: `ended` of `run_job_with`, `run_batch_with`: `last_told`
+    ensures ended { IfErr result (StopsJob
+        (stream_views (views_of C.remaining C.contents D.ports D.prepared) D.coming W.contents) job
+        (streams control.old dial.old out.old) (streams control.new dial.new out.new)) }
     /// A job ends for its output only where it is noted, by then or before, that a write to it failed.
     ensures output { IfErr result (λ stop. stop.why ≡ Sink → outputs.new.failed ≡ true) }
     ensures told { IfOk result (λ done. FnOnceReturnsAt F.FnOnce tell done.0 (Ok done.1)) }
@@ -595,27 +714,16 @@ where
             why: Why::Setting,
         });
     }
-    let mut ahead = piece(alloc)?;
-    let mut room = piece(alloc)?;
-    let is_scan = is_scan(job.task);
-    let client = match Client::new(alloc, job) {
-        Ok(client) => client,
-        Err((fault, _job)) => return Err(stop_of_fault(fault)),
-    };
-    let mut tally = CallTally::new(mem::replace(outputs, OutputTally::new()));
-    let done = run_client(
-        client,
+    run_to(
+        alloc,
+        job,
         control,
         dial,
         out,
-        is_scan,
-        ahead.as_mut_slice(),
-        room.as_mut_slice(),
-        &mut tally,
+        &mut SingleSink,
+        outputs,
         tell,
-    );
-    *outputs = tally.into_output();
-    done
+    )
 }
 
 /// Does a job over a control connection, the data connections that are dialed, and an output, which is not flushed. A
@@ -631,77 +739,17 @@ pub fn run_job<C: Read + Write, D: Dial, W: Write>(
     dial: &mut D,
     out: &mut W,
 ) -> Outcome
-    ensures over { IsOver result }
-    /// What `run_job` did is one journal of moves, each with what the client's own contracts have it make of the
-    /// client, from the new client to the last. By its moves the control connection took the bytes written and gave
-    /// the pieces heard, the ports were asked for, and the output took what was given.
-    /// Carried by: `done`, `ended` of `run_job`
-    ///
-    /// Its moves are steps: a piece that comes has 1 to 4,096 bytes, behind each the file goes out until the client
-    /// gives none, and nothing is done behind a write that failed. So it is where the job is Done, and where it is
-    /// told as the client ended.
-    /// Carried by: `done`, `ended` of `run_job`: `steps`
-    ///
-    /// Those of `run_batch` are such steps too, and behind the last bytes of a page's file the client turns to its
-    /// next page. The files that went out by them are those of the pages that were turned and of the one under way.
-    /// Carried by: `done`, `ended` of `run_batch`: `steps`; `StepsGive`
-    ///
-    /// What it wrote to the control connection is a front of the greeting and of what the client's rules send for the
-    /// replies that it read, in their order; and all of it, with CLOSE and EXIT, where no write failed, unless the
-    /// output ended the job.
-    /// Carried by: `done`, `ended` of `run_job`
-    ///
-    /// The ports that it asked for are those that its START replies named, in their order, but for the last where the
-    /// job ended before.
-    /// Carried by: `done`, `ended` of `run_job`
-    ///
-    /// What makes the data connections is told beforehand of no port but that which START's reply named, right behind
-    /// the request for the frame's parameters and before they are told; and of a frame's at most once.
-    /// Carried by: `done`, `ended` of `run_job`: `PreparesPort` of its moves, and `PortsAreTold`
-    ///
-    /// Each data connection began with the records of a frame that ended, but for at most one that was let go within
-    /// its frame.
-    /// Carried by: `done`, `ended` of `run_job`
-    ///
-    /// A job that is Done is so by `client_replies` for these replies and frames, and each frame ended with EOF.
-    ///
-    /// The output of a scan that is Done took the file of the picture that the frames show; that of any other job
-    /// nothing.
-    ensures done { IfDone result (λ reports. RanDone
-        (views_of C.remaining C.contents D.ports D.prepared) job
-        (seen D.coming W.contents (streams control.old dial.old out.old))
-        (seen D.coming W.contents (streams control.new dial.new out.new)) reports) }
-    /// Where an output failed they are steps up to the last piece that came: of its file not all went out that was
-    /// given, and nothing more was done. A batch whose last output is refused as it is given back did steps alone.
-    /// Carried by: `ended` of `run_job`, `run_batch`: `sunk`; `MovesStopWithin`
-    ///
-    /// A job that ends otherwise does so by `client_replies` for these replies and frames, or for one of five causes:
-    /// a lost connection, out of memory, bytes that begin no reply, more bytes of a frame than were told, or an
-    /// output that did not take its file; so a full disk is never told as a short frame.
-    ///
-    /// It is lost only by a move that tells why: a write or a read that failed, a stream at its end, a dial that
-    /// failed, or 2^40 reads or turns that are used up.
-    ///
-    /// The output of a job that ends otherwise took no whole file.
-    ///
-    /// One that is refused touches no stream.
-    ///
-    /// What went out is what the client gave, the files of the pages and what was given of the one under way, and
-    /// only where an output failed bytes more behind that.
-    /// Carried by: `ended` of `run_job`, `run_batch`: `gave`, `none_behind`
-    ///
-    /// What is told is the client's last outcome, but where there was no memory for what is told of a job that was
-    /// done, or an output failed.
-    /// Carried by: `ended` of `run_job`, `run_batch`: `last_told`
-    ///
-    /// Both are over when they return.
+    /// `run_job` and `run_batch` are over when they return.
     /// Carried by: `over` of `run_job`, `run_batch`
-    ensures ended { IfEnded result (λ status why. RefusesJob job (Ended status why)
-        (streams control.old dial.old out.old) (streams control.new dial.new out.new)
-        ⊎ RanEnded (views_of C.remaining C.contents D.ports D.prepared) job
-        (seen D.coming W.contents (streams control.old dial.old out.old))
-        (seen D.coming W.contents (streams control.new dial.new out.new))
-        (record { status = status; why = why })) }
+    ensures over { IsOver result }
+    // As `run_job_with`.
+    ensures done { IfDone result (RunsJob
+        (stream_views (views_of C.remaining C.contents D.ports D.prepared) D.coming W.contents) job
+        (streams control.old dial.old out.old) (streams control.new dial.new out.new)) }
+    // As `run_job_with`.
+    ensures ended { IfStops result (StopsJob
+        (stream_views (views_of C.remaining C.contents D.ports D.prepared) D.coming W.contents) job
+        (streams control.old dial.old out.old) (streams control.new dial.new out.new)) }
 {
     let mut outputs = OutputTally::new();
     match run_job_with(alloc, job, control, dial, out, &mut outputs, |_| Ok(())) {

@@ -4,10 +4,10 @@
 ghost use Rattle.std.specs.Prelude.{◌≡◌, ◌≢◌, IfErr, OnErr, OnOk, true};
 ghost use Rattle.std.specs.Process.{exit_status as code_of};
 ghost use Rattle.config_pages.specs.InputTexts.{input_texts};
+ghost use Rattle.scanimage_cli.specs.CallStreams.{held};
 ghost use Rattle.scanimage_cli.specs.Ending.{IsFailure, IsOfOutput, ending_line, exit_status};
 ghost use Rattle.scanimage_cli.specs.Printing.{TakesOrFails};
-ghost use Rattle.scanimage_cli.specs.Programs.{standard_streams};
-ghost use Rattle.scanimage_cli.specs.Whole.{HasEndedAs, HasRunFor};
+ghost use Rattle.scanimage_cli.specs.Whole.{EndsAs, RunsFor};
 
 use config_pages::{HostInputs, Inputs, scanners};
 use dispatch::Registry;
@@ -35,10 +35,10 @@ fn run<I: Inputs, O: Write, E: Write>(
     err: &mut E,
     outputs: &mut OutputTally,
 ) -> Result<(), Ending>
-    ensures done { OnOk result (HasRunFor
+    ensures done { OnOk result (RunsFor
         (input_texts (I.standard_text inputs.now) (I.file_text inputs.now)) words.now
-        (standard_streams (O.contents out.old) (E.contents err.old) outputs.old.failed)
-        (standard_streams (O.contents out.new) (E.contents err.new) outputs.new.failed)) }
+        (held O.contents out.old out.new) (held E.contents err.old err.new)
+        (outputs.old.failed, outputs.new.failed)) }
     ensures output { IfErr result (λ ending. IsOfOutput ending → outputs.new.failed ≡ true) }
     ensures silent { OnErr result (E.contents err.new ≡ E.contents err.old) }
     ensures failed { IfErr result IsFailure }
@@ -86,18 +86,17 @@ fn exit_code<I: Inputs, O: Write, E: Write>(
     /// Where the exit status is 0, what the words of the command line ask for is done: on the device of that name among the
     /// scanners of the config's lines, or on a daemon of the host and port that they name, with the password in their file; of
     /// both files where the inputs tell their texts.
-    /// Carried by: `well` of the private `exit_code`, `done` of the private `run`: `HasRunFor`
-    ensures well { code_of result ≡ 0 → HasRunFor
+    /// Carried by: `well` of the private `exit_code`, `done` of the private `run`: `RunsFor`, `HasRunFor`
+    ensures well { code_of result ≡ 0 → RunsFor
         (input_texts (I.standard_text inputs.now) (I.file_text inputs.now)) words.now
-        (standard_streams (O.contents out.old) (E.contents err.old) outputs.old.failed)
-        (standard_streams (O.contents out.new) (E.contents err.new) outputs.new.failed) }
+        (held O.contents out.old out.new) (held E.contents err.old err.new)
+        (outputs.old.failed, outputs.new.failed) }
     /// Any other exit status is that of an ending, whose line is told on standard error, and nothing else, unless that failed;
     /// and one that names an output comes only where it is noted that one failed.
-    /// Carried by: `otherwise` of the private `exit_code`, `output` of the private `run`: `HasEndedAs`
-    ensures otherwise { code_of result ≢ 0 → HasEndedAs (code_of result)
-        (standard_streams (O.contents out.old) (E.contents err.old) outputs.old.failed)
-        (standard_streams (O.contents out.new) (E.contents err.new) outputs.new.failed)
-        errors.new.failed }
+    /// Carried by: `otherwise` of the private `exit_code`, `output` of the private `run`: `EndsAs`, `HasEndedAs`
+    ensures otherwise { code_of result ≢ 0 → EndsAs (code_of result)
+        (held O.contents out.old out.new) (held E.contents err.old err.new)
+        (outputs.old.failed, outputs.new.failed) errors.new.failed }
 {
     match run(rt, inputs, words, out, err, outputs) {
         Ok(()) => ExitCode::from(0),

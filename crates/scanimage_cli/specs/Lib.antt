@@ -9,6 +9,7 @@ pub mod CutOptions
 pub mod OptionTable
 pub mod RoundedLines
 pub mod Doing
+pub mod CallStreams
 pub mod NetDoing
 pub mod Printing
 pub mod Programs

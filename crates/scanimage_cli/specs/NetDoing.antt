@@ -1,13 +1,14 @@
 -- What doing a job on a daemon comes to: what it prints, what passed over its streams, and how it ends otherwise.
-use Rattle.std.specs.Prelude.{ℕ, ◌≡◌, ◌⊎◌, Option, List}
+use Rattle.std.specs.Prelude.{ℕ, ◌≡◌, Option, List}
 use Rattle.scan_job.specs.Shelves.{Stock}
 use Rattle.scan_job.specs.declared.job.Job.{Job}
-use Rattle.scan_job.specs.declared.outcome.Outcome.TheVariants.{Ended}
 use Rattle.scan_job.specs.declared.report.Reports.{Reports}
 use Rattle.scan_job.specs.declared.stop.Stop.{Stop}
-use Rattle.net_jobs.specs.Batches.{BatchDone, BatchEnded, RefusesBatch}
-use Rattle.net_jobs.specs.Links.{JobLinks, LinkViews}
-use Rattle.net_jobs.specs.RunPromises.{JobStreams, SeenStreams, RanDone, RanEnded, RefusesJob, seen}
+use Rattle.net_jobs.specs.Batches.{BatchDone, StopsBatch}
+use Rattle.net_jobs.specs.Links.{LinkViews, views_of}
+use Rattle.net_jobs.specs.RunPromises.{JobStreams, SeenStreams, StreamViews, RanDone, StopsJob, seen, stream_views}
+use Rattle.net_jobs.specs.RunPromises.{streams}
+use Rattle.scanimage_cli.specs.CallStreams.{DialledPorts, HeldOutput, PassedControl}
 use Rattle.scanimage_cli.specs.DeviceList.{net_prefix}
 use Rattle.scanimage_cli.specs.Ending.{ended_by}
 use Rattle.scanimage_cli.specs.Printing.{Prints}
@@ -19,20 +20,9 @@ pub record HostJob : Type 0 where
   pub host : List ℕ
   pub job : Job
 
--- what is seen of a job's streams: its links, the bytes of the data connections that are to come, and what the output
--- holds, or the shelf
-pub record StreamViews (C D W O : Type 0) : Type 0 where
-  pub links : LinkViews (JobLinks C D)
-  pub coming : D → Option (List (List ℕ))
-  pub output : W → O
-
-abbrev pub stream_views : {C D W O : Type 0} → LinkViews (JobLinks C D) → (D → Option (List (List ℕ))) → (W → O)
-    → StreamViews C D W O
-stream_views links coming output = record { links = links; coming = coming; output = output }
-
--- **doing a job over the net (`DoesNetJob`, `EndsNetJob`, `DoesNetBatch`, `EndsNetBatch`)**: the same of what passed
--- over the streams of a job that a host does (`HostJob`), as far as it is seen (`StreamViews`); one that stopped may
--- have touched none.
+-- **doing a job over the net (`NetJobIsDone`, `NetJobEnds`, `NetBatchIsDone`, `NetBatchEnds`; `DoesNetJob`,
+-- `EndsNetJob`, `DoesNetBatch`, `EndsNetBatch`)**: the same of what passed over the streams of a job that a host does
+-- (`HostJob`), as far as it is seen (`StreamViews`); one that stopped may have touched none.
 --
 -- the job is done over its streams, its file at the output, and what its reports come to is to be printed
 pub record DoesNetJob {L : Type 0} (views : LinkViews L) (asked : HostJob) (was now : SeenStreams L (Option (List ℕ)))
@@ -46,8 +36,7 @@ pub record EndsNetJob {C D W : Type 0} (views : StreamViews C D W (Option (List 
     (was now : JobStreams C D W) (ending : Ending) : Type 0 where
   pub stop : Stop
   pub told : ending ≡ ended_by stop
-  pub reason : RefusesJob job (Ended stop.status stop.why) was now
-      ⊎ RanEnded views.links job (seen views.coming views.output was) (seen views.coming views.output now) stop
+  pub reason : StopsJob views job was now stop
 
 -- the batch is done over its streams, its pages on the shelf, and what its reports come to is to be printed
 pub record DoesNetBatch {L : Type 0} (views : LinkViews L) (asked : HostJob) (was now : SeenStreams L (Option Stock))
@@ -61,5 +50,34 @@ pub record EndsNetBatch {C D S : Type 0} (views : StreamViews C D S (Option Stoc
     (was now : JobStreams C D S) (ending : Ending) : Type 0 where
   pub stop : Stop
   pub told : ending ≡ ended_by stop
-  pub reason : RefusesBatch job (Ended stop.status stop.why) was now
-      ⊎ BatchEnded views.links job (seen views.coming views.output was) (seen views.coming views.output now) stop
+  pub reason : StopsBatch views job was now stop
+
+-- ---- the same of a call, stream by stream
+
+abbrev pub NetJobIsDone : {C D W : Type 0} → List ℕ → Job → PassedControl C → DialledPorts D
+    → HeldOutput W (Option (List ℕ)) → Printout → Type 0
+NetJobIsDone host job control dial output =
+    DoesNetJob (views_of control.remaining control.contents dial.ports dial.prepared)
+    (record { host = host; job = job }) (seen dial.coming output.contents (streams control.was dial.was output.was))
+    (seen dial.coming output.contents (streams control.now dial.now output.now))
+
+abbrev pub NetJobEnds : {C D W : Type 0} → Job → PassedControl C → DialledPorts D → HeldOutput W (Option (List ℕ))
+    → Ending → Type 0
+NetJobEnds job control dial output =
+    EndsNetJob
+    (stream_views (views_of control.remaining control.contents dial.ports dial.prepared) dial.coming output.contents)
+    job (streams control.was dial.was output.was) (streams control.now dial.now output.now)
+
+abbrev pub NetBatchIsDone : {C D S : Type 0} → List ℕ → Job → PassedControl C → DialledPorts D
+    → HeldOutput S (Option Stock) → Printout → Type 0
+NetBatchIsDone host job control dial shelf =
+    DoesNetBatch (views_of control.remaining control.contents dial.ports dial.prepared)
+    (record { host = host; job = job }) (seen dial.coming shelf.contents (streams control.was dial.was shelf.was))
+    (seen dial.coming shelf.contents (streams control.now dial.now shelf.now))
+
+abbrev pub NetBatchEnds : {C D S : Type 0} → Job → PassedControl C → DialledPorts D → HeldOutput S (Option Stock)
+    → Ending → Type 0
+NetBatchEnds job control dial shelf =
+    EndsNetBatch
+    (stream_views (views_of control.remaining control.contents dial.ports dial.prepared) dial.coming shelf.contents)
+    job (streams control.was dial.was shelf.was) (streams control.now dial.now shelf.now)

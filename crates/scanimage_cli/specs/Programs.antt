@@ -6,7 +6,10 @@ use Rattle.netpbm.specs.Pnm.{Denotes}
 use Rattle.page_picture.specs.Shows.{ShowsFrames}
 use Rattle.sane_fixed.specs.declared.device_info.DeviceInfo.{DeviceInfo}
 use Rattle.device_api.specs.State.{DeviceState}
-use Rattle.dispatch.specs.Table.{Table, listed_infos, unplug_answer}
+use Rattle.dispatch.specs.Table.{Table, listed_infos, table, unplug_answer}
+use Rattle.dispatch.specs.declared.table.place.Place.{Place}
+use Rattle.config_pages.specs.ScannerStates.{scanner_state}
+use Rattle.config_pages.specs.declared.scanner.Scanner.{Scanner}
 use Rattle.scan_job.specs.declared.job.Job.{Job}
 use Rattle.scan_job.specs.declared.job.Task.TheVariants.{List as ListTask, Scan}
 use Rattle.scan_job.specs.declared.outcome.Outcome.TheVariants.{Done}
@@ -15,6 +18,7 @@ use Rattle.client_replies.specs.ProtocolStates.{target_of}
 use Rattle.net_jobs.specs.Batches.{MayScan, pages_of, IsPageFile}
 use Rattle.net_jobs.specs.JobTraces.{JobTrace, TraceEvent, EventsLead, initial_trace}
 use Rattle.local_job.specs.LocalRun.{DeviceAndOutput}
+use Rattle.scanimage_cli.specs.CallStreams.{HeldOutput}
 use Rattle.scanimage_cli.specs.DeviceList.{device_lines, net_prefix}
 use Rattle.scanimage_cli.specs.Doing.{DoesJob, DoesBatch}
 use Rattle.scanimage_cli.specs.Host.{IsAddressOf}
@@ -35,6 +39,16 @@ pub record StandardStreams : Type 0 where
 abbrev pub standard_streams : Option (List ℕ) → Option (List ℕ) → Bool → StandardStreams
 standard_streams out err failed = record { out = out; err = err; failed = failed }
 
+-- the same before a call, and behind it: of standard output, of standard error, and of whether it is noted that an
+-- output failed
+abbrev pub streams_before : {O E : Type 0} → HeldOutput O (Option (List ℕ)) → HeldOutput E (Option (List ℕ))
+    → Bool × Bool → StandardStreams
+streams_before out err failed = standard_streams (out.contents out.was) (err.contents err.was) failed.0
+
+abbrev pub streams_behind : {O E : Type 0} → HeldOutput O (Option (List ℕ)) → HeldOutput E (Option (List ℕ))
+    → Bool × Bool → StandardStreams
+streams_behind out err failed = standard_streams (out.contents out.now) (err.contents err.now) failed.1
+
 -- the job of a plan, with this password
 pub record IsJobOf (plan : JobPlan) (password : List ℕ) (job : Job) : Type 0 where
   pub user : job.user ≡ plan.user
@@ -47,6 +61,13 @@ pub record AskedHere : Type 0 where
   pub device : Option (List ℕ)
   pub plan : JobPlan
   pub password : List ℕ
+
+abbrev pub asked_here : Option (List ℕ) → JobPlan → List ℕ → AskedHere
+asked_here device plan password = record { device = device; plan = plan; password = password }
+
+-- the table of the scanners of a config
+abbrev pub scanner_table : List (Place Scanner) → Table
+scanner_table registry = table scanner_state registry
 
 -- the device is the named one, or the first that is listed
 abbrev pub IsDeviceNamed : Option (List ℕ) → List DeviceInfo → List ℕ → Type 0
@@ -81,13 +102,19 @@ pub record HasDoneHere (table : Table) (asked : AskedHere) (was now : StandardSt
   pub printed_out : Appends behind now.out printed.table.items
   pub rounded : TakesOrFails was.err now.err printed.rounded.items now.failed
 
--- **done by the program (`IsDoneHere`, `HasDoneHere`, `IsJobOf`, `DoesPlanned`)**: a list prints a line for each device
--- that is listed, in order, and nothing on standard error; anything else is the job of the plan, with the password, on
--- the device that is named, or the first, its file where the plan has it go.
+-- **done by the program (`EndsWellHere`, `IsDoneHere`, `HasDoneHere`, `IsJobOf`, `DoesPlanned`)**: a list prints a line
+-- for each device that is listed, in order, and nothing on standard error; anything else is the job of the plan, with
+-- the password, on the device that is named, or the first, its file where the plan has it go.
 pub record IsDoneHere (table : Table) (asked : AskedHere) (was now : StandardStreams) : Type 0 where
   pub list : asked.plan.task ≡ ListTask
       → Appends was.out now.out (device_lines [] (listed_infos table)) × (now.err ≡ was.err)
   pub job : asked.plan.task ≢ ListTask → HasDoneHere table asked was now
+
+-- the same of a call
+abbrev pub EndsWellHere : {O E : Type 0} → Table → AskedHere → HeldOutput O (Option (List ℕ))
+    → HeldOutput E (Option (List ℕ)) → Bool × Bool → Type 0
+EndsWellHere table asked out err failed =
+    IsDoneHere table asked (streams_before out err failed) (streams_behind out err failed)
 
 -- a job's one file: the text that was written is the whole file of the picture that the frames show, or nothing, where
 -- the job is no scan
@@ -122,15 +149,18 @@ pub record AskedThere : Type 0 where
   pub plan : JobPlan
   pub password : List ℕ
 
+abbrev pub asked_there : Remote → JobPlan → List ℕ → AskedThere
+asked_there remote plan password = record { remote = remote; plan = plan; password = password }
+
 -- the control connection was made to the host's address and the port that is asked
 pub record IsConnectedTo (remote : Remote) (control : ControlConnection) : Type 0 where
   pub address : IsAddressOf remote.host control.address
   pub port : control.port ≡ remote.port
 
--- **done at a host (`IsDoneThere`, `RanThere`, `IsConnectedTo`)**: the job of the plan, with the password, for the
--- device that is asked for there, done by the client's rules over a connection to the host and port that are asked, its
--- file where the plan has it go; behind it its list or table is printed, and the lines of its rounded settings on
--- standard error.
+-- **done at a host (`EndsWellThere`, `IsDoneThere`, `RanThere`, `IsConnectedTo`)**: the job of the plan, with the
+-- password, for the device that is asked for there, done by the client's rules over a connection to the host and port
+-- that are asked, its file where the plan has it go; behind it its list or table is printed, and the lines of its
+-- rounded settings on standard error.
 pub record IsDoneThere (asked : AskedThere) (was now : StandardStreams) : Type 0 where
   pub job : Job
   pub asked_for : IsJobOf asked.plan asked.password job
@@ -142,3 +172,8 @@ pub record IsDoneThere (asked : AskedThere) (was now : StandardStreams) : Type 0
   pub ran : RanThere job asked.remote.host asked.plan.destination was.out behind printed
   pub printed_out : Appends behind now.out printed.table.items
   pub rounded : TakesOrFails was.err now.err printed.rounded.items now.failed
+
+-- the same of a call
+abbrev pub EndsWellThere : {O E : Type 0} → AskedThere → HeldOutput O (Option (List ℕ)) → HeldOutput E (Option (List ℕ))
+    → Bool × Bool → Type 0
+EndsWellThere asked out err failed = IsDoneThere asked (streams_before out err failed) (streams_behind out err failed)

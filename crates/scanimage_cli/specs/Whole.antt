@@ -1,16 +1,17 @@
 -- What the program scanimage does, from the words of its command line to what its standard streams hold.
-use Rattle.std.specs.Prelude.{ℕ, ◌≡◌, Bool, List, true}
+use Rattle.std.specs.Prelude.{ℕ, ◌≡◌, Bool, List, Option, true}
 use Rattle.sane_fixed.specs.declared.byte_order.ByteOrder.TheVariants.{Big}
 use Rattle.device_api.specs.State.{DeviceState}
 use Rattle.dispatch.specs.Table.{Table, fresh_table}
 use Rattle.dispatch.specs.declared.config_line.ConfigLine.{ConfigLine}
 use Rattle.config_pages.specs.Devices.{AreDevicesOf}
 use Rattle.config_pages.specs.InputTexts.{InputTexts}
+use Rattle.scanimage_cli.specs.CallStreams.{HeldOutput}
 use Rattle.scanimage_cli.specs.Ending.{IsFailure, IsOfOutput, ending_line, exit_status}
 use Rattle.scanimage_cli.specs.Inputs.{AreLinesOf, IsPasswordIn}
 use Rattle.scanimage_cli.specs.Plans.{IsPlanOf}
 use Rattle.scanimage_cli.specs.Printing.{TakesOrFails}
-use Rattle.scanimage_cli.specs.Programs.{StandardStreams, IsDoneHere, IsDoneThere}
+use Rattle.scanimage_cli.specs.Programs.{StandardStreams, IsDoneHere, IsDoneThere, streams_before, streams_behind}
 use Rattle.scanimage_cli.specs.declared.ending.Ending.{Ending}
 use Rattle.scanimage_cli.specs.declared.planning.JobPlan.{JobPlan}
 use Rattle.scanimage_cli.specs.declared.planning.Location.{Location}
@@ -30,8 +31,8 @@ pub record IsCarriedOut (texts : InputTexts) (plan : Plan) (table : Table) (was 
   pub named : IsPasswordIn texts plan.password_file password
   pub does : IsDoneAt plan.location table plan.job password was now
 
--- **has run (`HasRunFor`, `IsCarriedOut`, `IsDoneAt`)**: the words have a plan, and it is carried out: on one of the
--- scanners of the config's lines here, or at the host, with the password in the file that it names.
+-- **has run (`RunsFor`, `HasRunFor`, `IsCarriedOut`, `IsDoneAt`)**: the words have a plan, and it is carried out: on
+-- one of the scanners of the config's lines here, or at the host, with the password in the file that it names.
 pub record HasRunFor (texts : InputTexts) (words : List (List ℕ)) (was now : StandardStreams) : Type 0 where
   pub plan : Plan
   pub is_plan : IsPlanOf words plan
@@ -41,11 +42,23 @@ pub record HasRunFor (texts : InputTexts) (words : List (List ℕ)) (was now : S
   pub of_lines : AreDevicesOf Big lines devices
   pub carried : IsCarriedOut texts plan (fresh_table devices) was now
 
--- **has ended (`HasEndedAs`)**: with the status of an ending that is no success; that it is an output's only where it
--- is noted that one failed; and with its line on standard error, unless that failed too.
+-- the same of a call
+abbrev pub RunsFor : {O E : Type 0} → InputTexts → List (List ℕ) → HeldOutput O (Option (List ℕ))
+    → HeldOutput E (Option (List ℕ)) → Bool × Bool → Type 0
+RunsFor texts words out err failed =
+    HasRunFor texts words (streams_before out err failed) (streams_behind out err failed)
+
+-- **has ended (`EndsAs`, `HasEndedAs`)**: with the status of an ending that is no success; that it is an output's only
+-- where it is noted that one failed; and with its line on standard error, unless that failed too.
 pub record HasEndedAs (status : ℕ) (was now : StandardStreams) (errors : Bool) : Type 0 where
   pub ending : Ending
   pub status_is : status ≡ exit_status ending
   pub failure : IsFailure ending
   pub of_output : IsOfOutput ending → now.failed ≡ true
   pub told : TakesOrFails was.err now.err (ending_line ending) errors
+
+-- the same of a call
+abbrev pub EndsAs : {O E : Type 0} → ℕ → HeldOutput O (Option (List ℕ)) → HeldOutput E (Option (List ℕ))
+    → Bool × Bool → Bool → Type 0
+EndsAs status out err failed errors =
+    HasEndedAs status (streams_before out err failed) (streams_behind out err failed) errors

@@ -2,7 +2,8 @@ ghost use Rattle.std.specs.Prelude.{◌≡◌, true, IfOk, IfErr, OnErr};
 ghost use Rattle.device_api.specs.State.{is_at_rest};
 ghost use Rattle.scanimage_cli.specs.Doing.{DoesJob, EndsJob, DoesBatch, EndsBatch};
 ghost use Rattle.scanimage_cli.specs.Ending.{IsFailure, IsOfOutput};
-ghost use Rattle.local_job.specs.LocalRun.{LeavesNoFile, ChangesDevice};
+ghost use Rattle.local_job.specs.LocalPages.{with_shelf};
+ghost use Rattle.local_job.specs.LocalRun.{LeavesNoFile, ChangesDevice, with_file};
 
 use crate::ending::Ending;
 use crate::printed::Printout;
@@ -30,12 +31,12 @@ pub fn do_job<W: Write>(
     /// rounded, and no more.
     /// Carried by: `done` of `do_job`: `Prints`
     ensures done { IfOk result (λ printed.
-        DoesJob job.now (record { device = state device.old; output = W.contents output.old })
-        (record { device = state device.new; output = W.contents output.new }) printed) }
+        DoesJob job.now (with_file (state device.old) (W.contents output.old))
+        (with_file (state device.new) (W.contents output.new)) printed) }
     /// Where it gives an ending instead, an output that tells its bytes took no whole file.
     ensures no_file { OnErr result (LeavesNoFile (W.contents output.old) (W.contents output.new)) }
     /// That ending is the status and the why with which the job stopped, neither GOOD nor EOF, for a reason that
-    /// `run_local` names; and the scanner is at rest in each case.
+    /// `run_local_with` names; and the scanner is at rest in each case.
     /// Carried by: `ended`, `rest` of `do_job`
     ensures ended { IfErr result
         (λ ending. EndsJob (state device.old) job.now (state device.new) ending) }
@@ -72,11 +73,11 @@ pub fn do_batch<S: Shelf>(
     /// where the shelf kept every page.
     /// Carried by: `done`, `ended`, `rest` of `do_batch`
     ensures done { IfOk result (λ printed.
-        DoesBatch job.now (record { device = state device.old; stock = S.stock shelf.old })
-        (record { device = state device.new; stock = S.stock shelf.new }) printed) }
+        DoesBatch job.now (with_shelf (state device.old) (S.stock shelf.old))
+        (with_shelf (state device.new) (S.stock shelf.new)) printed) }
     ensures ended { IfErr result (λ ending.
-        EndsBatch job.now (record { device = state device.old; stock = S.stock shelf.old })
-        (record { device = state device.new; stock = S.stock shelf.new }) ending) }
+        EndsBatch job.now (with_shelf (state device.old) (S.stock shelf.old))
+        (with_shelf (state device.new) (S.stock shelf.new)) ending) }
     ensures output { IfErr result (λ ending. IsOfOutput ending → outputs.new.failed ≡ true) }
     // Its exit status is not 0.
     ensures failed { IfErr result IsFailure }

@@ -1,9 +1,8 @@
 ghost use Rattle.std.specs.Prelude.{◌≡◌, true, IfOk, IfErr, OnErr};
 ghost use Rattle.scan_job.specs.FileOutputs.{StopsShort};
-ghost use Rattle.net_jobs.specs.Links.{views_of};
-ghost use Rattle.net_jobs.specs.RunPromises.{seen, streams};
+ghost use Rattle.scanimage_cli.specs.CallStreams.{dialled, held, passed};
 ghost use Rattle.scanimage_cli.specs.DeviceList.{net_prefix};
-ghost use Rattle.scanimage_cli.specs.NetDoing.{DoesNetJob, EndsNetJob, DoesNetBatch, EndsNetBatch, stream_views};
+ghost use Rattle.scanimage_cli.specs.NetDoing.{NetBatchEnds, NetBatchIsDone, NetJobEnds, NetJobIsDone};
 ghost use Rattle.scanimage_cli.specs.Ending.{IsFailure, IsOfOutput};
 
 use crate::device_listing::net_prefix;
@@ -39,18 +38,19 @@ pub fn do_net_job<C: Read + Write, D: Dial, W: Write>(
     /// `do_net_job` gives what is to be printed just where the job is done by the client's rules, for the replies
     /// that it read and the frames that came: an output that tells its bytes then took the whole file of the picture
     /// that these frames show.
-    /// Carried by: `done` of `do_net_job`: `DoesNetJob`
-    ensures done { IfOk result (DoesNetJob (views_of C.remaining C.contents D.ports D.prepared)
-        (record { host = host.now; job = job })
-        (seen D.coming W.contents (streams control.old dial.old output.old))
-        (seen D.coming W.contents (streams control.new dial.new output.new))) }
+    /// Carried by: `done` of `do_net_job`: `NetJobIsDone`, `DoesNetJob`
+    ensures done { IfOk result (NetJobIsDone host.now job
+        (passed C.remaining C.contents control.old control.new)
+        (dialled D.ports D.prepared D.coming dial.old dial.new)
+        (held W.contents output.old output.new)) }
     /// Where it gives an ending instead, an output that tells its bytes took no whole file, and the ending is the
     /// status and the why with which the job stopped, never GOOD, whatever the daemon says.
     /// Carried by: `no_file`, `ended` of `do_net_job`
     ensures no_file { OnErr result (StopsShort (W.contents output.old) (W.contents output.new)) }
-    ensures ended { IfErr result (EndsNetJob
-        (stream_views (views_of C.remaining C.contents D.ports D.prepared) D.coming W.contents) job
-        (streams control.old dial.old output.old) (streams control.new dial.new output.new)) }
+    ensures ended { IfErr result (NetJobEnds job
+        (passed C.remaining C.contents control.old control.new)
+        (dialled D.ports D.prepared D.coming dial.old dial.new)
+        (held W.contents output.old output.new)) }
     /// That a job over the net ended for its output is told only where a call on the output failed.
     /// Carried by: `output` of `do_net_job`, `do_net_batch`
     ensures output { IfErr result (λ ending. IsOfOutput ending → outputs.new.failed ≡ true) }
@@ -83,13 +83,14 @@ pub fn do_net_batch<C: Read + Write, D: Dial, S: Shelf>(
 ) -> Result<Printout, Ending>
     /// `do_net_batch` keeps the same of a batch and its shelf, which kept every page.
     /// Carried by: `done`, `ended` of `do_net_batch`
-    ensures done { IfOk result (DoesNetBatch (views_of C.remaining C.contents D.ports D.prepared)
-        (record { host = host.now; job = job })
-        (seen D.coming S.stock (streams control.old dial.old shelf.old))
-        (seen D.coming S.stock (streams control.new dial.new shelf.new))) }
-    ensures ended { IfErr result (EndsNetBatch
-        (stream_views (views_of C.remaining C.contents D.ports D.prepared) D.coming S.stock) job
-        (streams control.old dial.old shelf.old) (streams control.new dial.new shelf.new)) }
+    ensures done { IfOk result (NetBatchIsDone host.now job
+        (passed C.remaining C.contents control.old control.new)
+        (dialled D.ports D.prepared D.coming dial.old dial.new)
+        (held S.stock shelf.old shelf.new)) }
+    ensures ended { IfErr result (NetBatchEnds job
+        (passed C.remaining C.contents control.old control.new)
+        (dialled D.ports D.prepared D.coming dial.old dial.new)
+        (held S.stock shelf.old shelf.new)) }
     ensures output { IfErr result (λ ending. IsOfOutput ending → outputs.new.failed ≡ true) }
     // Its exit status is not 0.
     ensures failed { IfErr result IsFailure }

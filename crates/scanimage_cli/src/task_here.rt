@@ -1,8 +1,8 @@
 ghost use Rattle.std.specs.Prelude.{◌≡◌, true, IfOk, IfErr, OnOk, OnErr};
-ghost use Rattle.config_pages.specs.ScannerStates.{scanner_state};
-ghost use Rattle.dispatch.specs.Table.{table, listed_infos};
-ghost use Rattle.local_job.specs.LocalRun.{LeavesNoFile};
-ghost use Rattle.scanimage_cli.specs.Programs.{DoesPlanned, IsDeviceNamed, IsDoneHere, standard_streams};
+ghost use Rattle.dispatch.specs.Table.{listed_infos};
+ghost use Rattle.local_job.specs.LocalRun.{LeavesNoFile, with_file};
+ghost use Rattle.scanimage_cli.specs.Programs.{DoesPlanned, EndsWellHere, IsDeviceNamed, asked_here, scanner_table};
+ghost use Rattle.scanimage_cli.specs.CallStreams.{held};
 ghost use Rattle.scanimage_cli.specs.Ending.{IsFailure, IsOfOutput};
 
 use crate::device_listing::device_list;
@@ -31,8 +31,8 @@ fn run_job<O: Write>(
     outputs: &mut OutputTally,
 ) -> Result<Printout, Ending>
     ensures done { IfOk result (λ printed. DoesPlanned destination job.now
-        (record { device = state device.old; output = O.contents out.old })
-        (record { device = state device.new; output = O.contents out.new }) printed) }
+        (with_file (state device.old) (O.contents out.old))
+        (with_file (state device.new) (O.contents out.new)) printed) }
     ensures no_file { OnErr result (LeavesNoFile (O.contents out.old) (O.contents out.new)) }
     ensures output { IfErr result (λ ending. IsOfOutput ending → outputs.new.failed ≡ true) }
     ensures failed { IfErr result IsFailure }
@@ -54,7 +54,7 @@ fn device_name(
     named: Option<Text>,
 ) -> Result<Text, Ending>
     ensures named { IfOk result
-        (IsDeviceNamed named (listed_infos (table scanner_state registry.now))) }
+        (IsDeviceNamed named (listed_infos (scanner_table registry.now))) }
     ensures spares { IfErr result (λ ending. ¬ IsOfOutput ending) }
     ensures failed { IfErr result IsFailure }
 {
@@ -87,11 +87,11 @@ pub fn run_task<O: Write, E: Write>(
     /// Where what is asked for here ends well, it is done: a list of devices is printed; or the job of the plan is done as
     /// `do_job` or `do_batch` says, on the device that is named, or on the first, its file where the plan has it go, its table
     /// printed behind it, and its rounded settings on standard error.
-    /// Carried by: `done` of `run_task`: `IsDoneHere`
-    ensures done { OnOk result (IsDoneHere (table scanner_state registry.old)
-        (record { device = device; plan = plan; password = password })
-        (standard_streams (O.contents out.old) (E.contents err.old) outputs.old.failed)
-        (standard_streams (O.contents out.new) (E.contents err.new) outputs.new.failed)) }
+    /// Carried by: `done` of `run_task`: `EndsWellHere`, `IsDoneHere`
+    ensures done { OnOk result (EndsWellHere (scanner_table registry.old)
+        (asked_here device plan password)
+        (held O.contents out.old out.new) (held E.contents err.old err.new)
+        (outputs.old.failed, outputs.new.failed)) }
     /// Where a scan does not, an output that tells its bytes took no whole file.
     ensures no_file { plan.task ≡ Task.Scan
         → OnErr result (LeavesNoFile (O.contents out.old) (O.contents out.new)) }

@@ -1,5 +1,6 @@
 ghost use Rattle.std.specs.Prelude.{◌≡◌, true, IfOk, IfErr, OnOk, OnErr};
-ghost use Rattle.scanimage_cli.specs.Programs.{IsConnectedTo, IsDoneThere, RanThere, standard_streams};
+ghost use Rattle.scanimage_cli.specs.Programs.{EndsWellThere, IsConnectedTo, RanThere, asked_there};
+ghost use Rattle.scanimage_cli.specs.CallStreams.{held};
 ghost use Rattle.scanimage_cli.specs.Ending.{IsFailure, IsOfOutput};
 
 use crate::ending::Ending;
@@ -79,11 +80,10 @@ pub fn run_net_task<O: Write, E: Write>(
     /// Where a job over the net ends well, it is the one that the plan has for that host, port and device, done by the client's
     /// rules, its file where the plan has it go, and behind it its list or table is printed, and its rounded settings on standard
     /// error.
-    /// Carried by: `done` of `run_net_task`: `IsDoneThere`
-    ensures done { OnOk result (IsDoneThere
-        (record { remote = remote; plan = plan; password = password })
-        (standard_streams (O.contents out.old) (E.contents err.old) outputs.old.failed)
-        (standard_streams (O.contents out.new) (E.contents err.new) outputs.new.failed)) }
+    /// Carried by: `done` of `run_net_task`: `EndsWellThere`, `IsDoneThere`
+    ensures done { OnOk result (EndsWellThere (asked_there remote plan password)
+        (held O.contents out.old out.new) (held E.contents err.old err.new)
+        (outputs.old.failed, outputs.new.failed)) }
     ensures output { IfErr result (λ ending. IsOfOutput ending → outputs.new.failed ≡ true) }
     // Nothing is printed on standard error then.
     ensures silent { OnErr result (E.contents err.new ≡ E.contents err.old) }

@@ -1,8 +1,9 @@
-use Rattle.std.proofs.Common.{◌≡◌, ℕ, List, Option, length}
+use Rattle.std.proofs.Common.{◌≡◌, ℕ, List, length}
 use Rattle.frame_join.specs.FrameHistory.{JoinHistory}
+use Rattle.scan_job.specs.Shelves.{ReturnedOutput}
 use Rattle.net_jobs.specs.JobJournal.{JobMove, given_by}
-use Rattle.net_jobs.specs.Inside.{GivesAll, HoldsGiven, KeepsNotes}
-use Rattle.net_jobs.proofs.NetDrains.{IsUnderway}
+use Rattle.net_jobs.specs.Inside.{GivesAll, IsFiling, KeepsNotes, SinkState}
+use Rattle.net_jobs.proofs.Pages.{IsPulled}
 use Rattle.net_jobs.proofs.running.drain.Given as goal
 
 abbrev pub invariant-loop-i : goal.invariant-loop-i
@@ -11,5 +12,6 @@ invariant-loop-i g l = record {
   calls : KeepsNotes l.initial.tally l.tally;
   outcome : l.client.outcome ≡ l.initial.client.outcome;
   gave : (gives : List JobMove) × GivesAll l.initial.client gives l.client
-      × ((first : Option (List ℕ)) (past : JoinHistory) → HoldsGiven past l.initial.client first (g.W.Write.contents l.initial.out) → IsUnderway past l.initial.client first (given_by gives) l._i l.client (g.W.Write.contents l.out));
+      × ((before : SinkState) (outputs : List ReturnedOutput) (k : ℕ) (past : JoinHistory) → IsFiling past l.initial.client k before outputs (g.K.FileSink.state l.initial.to l.initial.sink)
+      → IsPulled past l.initial.client k before outputs (given_by gives) l._i l.client (g.K.FileSink.state l.to l.sink));
 }

@@ -1,0 +1,40 @@
+-- Streams before a call and behind it, each with what is seen of it.
+use Rattle.std.specs.Prelude.{ℕ, Option, List}
+
+-- **streams of a call (`passed`, `dialled`, `held`)**: each as it was before a call and as it is behind it: a control
+-- connection, of which is seen what reads of it will give and what was written to it; what makes data connections, of
+-- which are seen the ports that were asked for, those that it was told of before, and the bytes of the connections
+-- that are to come; an output, or a shelf, of which is seen what it holds.
+--
+-- a control connection
+pub record PassedControl (C : Type 0) : Type 0 where
+  pub remaining : C → Option (List ℕ)
+  pub contents : C → Option (List ℕ)
+  pub was : C
+  pub now : C
+
+abbrev pub passed : {C : Type 0} → (C → Option (List ℕ)) → (C → Option (List ℕ)) → C → C → PassedControl C
+passed remaining contents was now =
+    record { remaining = remaining; contents = contents; was = was; now = now }
+
+-- what makes data connections
+pub record DialledPorts (D : Type 0) : Type 0 where
+  pub ports : D → Option (List ℕ)
+  pub prepared : D → Option (List ℕ)
+  pub coming : D → Option (List (List ℕ))
+  pub was : D
+  pub now : D
+
+abbrev pub dialled : {D : Type 0} → (D → Option (List ℕ)) → (D → Option (List ℕ)) → (D → Option (List (List ℕ))) → D
+    → D → DialledPorts D
+dialled ports prepared coming was now =
+    record { ports = ports; prepared = prepared; coming = coming; was = was; now = now }
+
+-- an output or a shelf
+pub record HeldOutput (W O : Type 0) : Type 0 where
+  pub contents : W → O
+  pub was : W
+  pub now : W
+
+abbrev pub held : {W O : Type 0} → (W → O) → W → W → HeldOutput W O
+held contents was now = record { contents = contents; was = was; now = now }
