@@ -2,14 +2,14 @@
 use Rattle.std.specs.Prelude.{eqb, length, option_map, map, slice_get, slice_index_or, Contains, ◌<◌}
 use Rattle.std.proofs.Common.{◌≡◌, ◌∙◌, ℕ, zero, suc, List, [], ◌∷◌, Bool, true, false, Some, None, refl, sym, ap, subst, eqb-true, arith}
 use Rattle.std.proofs.lemmas.Option.{get_or_from_slice_get}
+use Rattle.sane_fixed.specs.declared.status.Status.{Status}
 use Rattle.device_api.specs.InForce as devices
 use Rattle.device_api.specs.State.{DeviceState}
 use Rattle.scan_frames.specs.declared.setup.Setup.{Setup}
 use Rattle.scan_job.specs.declared.job.Job.{Job}
 use Rattle.client_refines.specs.ClientRefinement.{requested_setting}
-use Rattle.system_model.specs.AbstractMessages.{Status}
 use Rattle.system_model.specs.Client.{AbstractJob as RuledJob}
-use Rattle.system_model.specs.Devices.{Make, read_status_of, abstract_status}
+use Rattle.system_model.specs.Devices.{Make, read_status_of}
 use Rattle.system_model.specs.AbstractInForce.{SettingsResult, abstract_in_force}
 use Rattle.system_model.specs.Settings.{SettingsMeanTheSame, pair_of}
 use Rattle.system_model.specs.AbstractDevices.{AbstractDevice}
@@ -89,7 +89,7 @@ fine_then legal h job s x sound l of f = record {
 -- ---- what a cause says
 
 abbrev pub IsTold : History → Job → Status → Type 0
-IsTold h job status = (s : Settled h job) × (option_map abstract_status s.setup.told ≡ Some status)
+IsTold h job status = (s : Settled h job) × (s.setup.told ≡ Some status)
 
 -- what is fixed of the job
 pub record Own (h : History) (i : ℕ) (job : Job) : Type 0 where
@@ -149,7 +149,7 @@ pub told_by : (h : History) (i : ℕ) (job : Job) (s : SystemState) (status : St
 unfolding read_status_of
 told_by h i job s status o f is mine forced r =
     let x = settled_by h i job s o f is mine forced in
-    (x.0, ap (λ (y : Setup). option_map abstract_status y.told) x.1 ∙ r)
+    (x.0, ap (λ (y : Setup). y.told) x.1 ∙ r)
 
 -- what a step of it needs
 pub record Here (h : History) (i : ℕ) (job : Job) (s : SystemState) : Type 0 where

@@ -1,7 +1,7 @@
 -- A challenge is sent for a guarded device alone.
 use Rattle.std.proofs.Common.{◌≡◌, ◌∙◌, ℕ, List, [], ◌∷◌, Bool, true, false, Option, Some, None, refl, sym}
 use Rattle.page_picture.specs.Shows.{Frame}
-use Rattle.system_model.specs.AbstractMessages.{Challenge, AbstractRequest, Init, GetDevices, Open, Authorize, Describe, Get, Set, Parameters, Start, Cancel, Close, Exit}
+use Rattle.system_model.specs.AbstractMessages.{Challenge, AbstractRequest, Open, Authorize, Get, Set, Start}
 use Rattle.device_api.specs.Kinds.{Page}
 use Rattle.system_model.specs.Devices.{Make, AbstractAcceptedSet, accept_value, has_readable_value, picture_frames}
 use Rattle.system_model.specs.AbstractDevices.{AbstractDevice, ScanPhase, Resting, Between, Reading, is_held_by, is_resting}
@@ -78,50 +78,23 @@ start_none k dev x Streaming = refl
 start_none k dev x Ending = refl
 
 serve_asks : (i : ℕ) (k : Make) (dev : AbstractDevice) (c : TransferState) (x : Environment) (q : AbstractRequest) → AsksIf x.guarded (serve i k dev c x q)
-serve_asks i k dev c x Init = none x.guarded (serve i k dev c x Init) refl
-serve_asks i k dev c x GetDevices = none x.guarded (serve i k dev c x GetDevices) refl
 serve_asks i k dev c x Open = open_asks i k dev c x.challenge dev.listed x.guarded
-serve_asks i k dev c x (Authorize challenge) = none x.guarded (serve i k dev c x (Authorize challenge)) refl
-serve_asks i k dev c x Describe = none x.guarded (serve i k dev c x Describe) refl
 serve_asks i k dev c x (Get n) = none x.guarded (serve i k dev c x (Get n)) (get_none k dev c n (has_readable_value k dev.options n))
 serve_asks i k dev c x (Set n value) = none x.guarded (serve i k dev c x (Set n value)) (set_none k dev c n value (is_resting dev.phase))
-serve_asks i k dev c x Parameters = none x.guarded (serve i k dev c x Parameters) refl
 serve_asks i k dev c x Start = none x.guarded (serve i k dev c x Start) (start_none k dev x c)
-serve_asks i k dev c x Cancel = none x.guarded (serve i k dev c x Cancel) refl
-serve_asks i k dev c x Close = none x.guarded (serve i k dev c x Close) refl
-serve_asks i k dev c x Exit = none x.guarded (serve i k dev c x Exit) refl
+serve_asks i k dev c x q = none x.guarded (serve i k dev c x q) refl
 
 refuse_asks : (i : ℕ) (k : Make) (dev : AbstractDevice) (c : TransferState) (x : Environment) (q : AbstractRequest) → AsksIf x.guarded (refuse i k dev c x q)
-refuse_asks i k dev c x Init = none x.guarded (refuse i k dev c x Init) refl
-refuse_asks i k dev c x GetDevices = none x.guarded (refuse i k dev c x GetDevices) refl
 refuse_asks i k dev c x Open = open_asks i k dev c x.challenge dev.listed x.guarded
-refuse_asks i k dev c x (Authorize challenge) = none x.guarded (refuse i k dev c x (Authorize challenge)) refl
-refuse_asks i k dev c x Describe = none x.guarded (refuse i k dev c x Describe) refl
-refuse_asks i k dev c x (Get n) = none x.guarded (refuse i k dev c x (Get n)) refl
-refuse_asks i k dev c x (Set n value) = none x.guarded (refuse i k dev c x (Set n value)) refl
-refuse_asks i k dev c x Parameters = none x.guarded (refuse i k dev c x Parameters) refl
-refuse_asks i k dev c x Start = none x.guarded (refuse i k dev c x Start) refl
-refuse_asks i k dev c x Cancel = none x.guarded (refuse i k dev c x Cancel) refl
-refuse_asks i k dev c x Close = none x.guarded (refuse i k dev c x Close) refl
-refuse_asks i k dev c x Exit = none x.guarded (refuse i k dev c x Exit) refl
+refuse_asks i k dev c x q = none x.guarded (refuse i k dev c x q) refl
 
 held_asks : (b : Bool) (i : ℕ) (k : Make) (dev : AbstractDevice) (c : TransferState) (x : Environment) (q : AbstractRequest) → AsksIf x.guarded (answer_if b i k dev c x q)
 held_asks true i k dev c x q = serve_asks i k dev c x q
 held_asks false i k dev c x q = refuse_asks i k dev c x q
 
 awaited_none : (i : ℕ) (k : Make) (dev : AbstractDevice) (c : TransferState) (x : Environment) (sent : Challenge) (q : AbstractRequest) → (answer_awaited i k dev c x sent q).awaited ≡ None
-awaited_none i k dev c x sent Init = refl
-awaited_none i k dev c x sent GetDevices = refl
-awaited_none i k dev c x sent Open = refl
 awaited_none i k dev c x sent (Authorize challenge) = allow_none i k dev c (same_text challenge sent) (x.allows sent)
-awaited_none i k dev c x sent Describe = refl
-awaited_none i k dev c x sent (Get n) = refl
-awaited_none i k dev c x sent (Set n value) = refl
-awaited_none i k dev c x sent Parameters = refl
-awaited_none i k dev c x sent Start = refl
-awaited_none i k dev c x sent Cancel = refl
-awaited_none i k dev c x sent Close = refl
-awaited_none i k dev c x sent Exit = refl
+awaited_none i k dev c x sent q = refl
 
 answer_asks : (i : ℕ) (k : Make) (dev : AbstractDevice) (c : TransferState) (awaited : Option Challenge) (x : Environment) (q : AbstractRequest) → AsksIf x.guarded (answer i k dev c awaited x q)
 answer_asks i k dev c None x q = held_asks (is_held_by i dev.holder) i k dev c x q

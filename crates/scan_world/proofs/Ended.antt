@@ -4,7 +4,7 @@ use Rattle.std.specs.List.{AllByRecursion}
 use Rattle.std.proofs.Common.{◌≡◌, ◌≢◌, ◌∙◌, ◌⊎◌, ℕ, List, Bool, true, Option, Some, None, inl, inr, refl, sym, ap, subst, ◌∷◌, []}
 use Rattle.std.proofs.lemmas.Option.{get_or_from_slice_get}
 use Rattle.sane_fixed.specs.declared.device_info.DeviceInfo.{DeviceInfo}
-use Rattle.sane_fixed.specs.declared.status.Status.{Status as Code}
+use Rattle.sane_fixed.specs.declared.status.Status.{Status}
 use Rattle.sane_fixed.specs.declared.status.Status.TheVariants as codes
 use Rattle.page_picture.specs.Shows.{Frame}
 use Rattle.md5_auth.specs.declared.users.Entry.{Entry}
@@ -15,21 +15,18 @@ use Rattle.frame_join.specs.FrameHistory.{JoinHistory}
 use Rattle.scan_job.specs.declared.job.Job.{Job}
 use Rattle.scan_job.specs.declared.outcome.Outcome.{Outcome}
 use Rattle.scan_job.specs.declared.outcome.Outcome.TheVariants as outcomes
-use Rattle.scan_job.specs.declared.outcome.Why.{Why as Reason}
+use Rattle.scan_job.specs.declared.outcome.Why.{Why}
 use Rattle.scan_job.specs.declared.outcome.Why.TheVariants as whys
 use Rattle.client_replies.specs.ProtocolStates.{target_of}
 use Rattle.client_replies.specs.declared.progress.JobTarget.{JobTarget}
 use Rattle.client_replies.specs.declared.progress.Progress.{Progress}
 use Rattle.client_replies.specs.declared.progress.Notes.{Notes}
 use Rattle.client_refines.specs.ClientRefinement.{EndedAs, OutcomeRefines, requested_setting}
-use Rattle.client_refines.specs.DecodedReplies.{why_of}
-use Rattle.system_model.specs.AbstractMessages as words
-use Rattle.system_model.specs.AbstractMessages.{Status, Why}
 use Rattle.system_model.specs.AbstractInForce.{SettingsResult, abstract_in_force}
 use Rattle.system_model.specs.Causes.{Cause, Explains, GaveUp, LinkLost, LinkOutOfMemory, SourceFailed, NamesEof, Names, Unforced, WasUnlisted, HadNoPicture, WasHeld, Disallowed, TrayWasEmpty, TrayRanOut, ClientOutOfMemory, IsCauseAmong, WasUnsaid}
 use Rattle.system_model.specs.Client as model
 use Rattle.system_model.specs.Client.{JobStage, Idle, Running, Done, Ended, ClientView}
-use Rattle.system_model.specs.Devices.{Make, abstract_status}
+use Rattle.system_model.specs.Devices.{Make}
 use Rattle.system_model.specs.SystemStates.{SystemState}
 use Rattle.system_model.specs.Transitions.{IsUnderWay, Transition, after_transition}
 use Rattle.event_world.specs.declared.endpoint.Endpoint.{Endpoint}
@@ -61,78 +58,7 @@ use Rattle.scan_world.proofs.Traced.{each_of, traced}
 use Rattle.scan_world.proofs.moments.Judged.{EndedBy, Evid, Judged, JudgedAt, all_judged, among_met}
 use Rattle.scan_world.proofs.moments.Moments.{AnsweredSo, Comes, HappenedSo, come}
 
--- ---- the words of the rules, and those of the clients
-
-abbrev code_for : Status → Code
-code_for words.Good = codes.Good
-code_for words.Unsupported = codes.Unsupported
-code_for words.GivenUp = codes.Cancelled
-code_for words.Busy = codes.DeviceBusy
-code_for words.Inval = codes.Inval
-code_for words.Eof = codes.Eof
-code_for words.Jammed = codes.Jammed
-code_for words.NoDocs = codes.NoDocs
-code_for words.CoverOpen = codes.CoverOpen
-code_for words.IoError = codes.IoError
-code_for words.NoMem = codes.NoMem
-code_for words.AccessDenied = codes.AccessDenied
-
-code_back : (c : Code) → code_for (abstract_status c) ≡ c
-code_back codes.Good = refl
-code_back codes.Unsupported = refl
-code_back codes.Cancelled = refl
-code_back codes.DeviceBusy = refl
-code_back codes.Inval = refl
-code_back codes.Eof = refl
-code_back codes.Jammed = refl
-code_back codes.NoDocs = refl
-code_back codes.CoverOpen = refl
-code_back codes.IoError = refl
-code_back codes.NoMem = refl
-code_back codes.AccessDenied = refl
-
-code_is : (c : Code) (s : Status) → abstract_status c ≡ s → c ≡ code_for s
-code_is c s e = sym (code_back c) ∙ ap code_for e
-
-abbrev why_for : Option Why → Reason
-why_for None = whys.Sink
-why_for (Some words.Answer) = whys.Answer
-why_for (Some words.Cancelled) = whys.Cancelled
-why_for (Some words.Lost) = whys.Lost
-why_for (Some words.Malformed) = whys.Malformed
-why_for (Some words.Short) = whys.Short
-why_for (Some words.Long) = whys.Long
-why_for (Some words.Setting) = whys.Setting
-why_for (Some words.Plain) = whys.Plain
-why_for (Some words.Memory) = whys.Memory
-
-why_back : (w : Reason) → why_for (why_of w) ≡ w
-why_back whys.Answer = refl
-why_back whys.Cancelled = refl
-why_back whys.Lost = refl
-why_back whys.Malformed = refl
-why_back whys.Short = refl
-why_back whys.Long = refl
-why_back whys.Setting = refl
-why_back whys.Plain = refl
-why_back whys.Memory = refl
-why_back whys.Sink = refl
-
-why_is : (w : Reason) (v : Why) → why_of w ≡ Some v → w ≡ why_for (Some v)
-why_is w v e = sym (why_back w) ∙ ap why_for e
-
--- a status and a why, by those of the rules
-abbrev Both : Code → Reason → Status → Why → Type 0
-Both status why s v = (abstract_status status ≡ s) × (why_of why ≡ Some v)
-
-both_are : (status : Code) (why : Reason) (s : Status) (v w : Why) → why_of why ≡ Some w → (abstract_status status ≡ s) × (w ≡ v) → (status ≡ code_for s) × (why ≡ why_for (Some v))
-both_are status why s v w is e = (code_is status s e.0, why_is why v (is ∙ ap (λ (x : Why). Some x) e.1))
-
 -- ---- what is told
-
-code_in : (o : Option Code) (s : Status) → option_map abstract_status o ≡ Some s → o ≡ Some (code_for s)
-code_in None s e = absurd (let clash : None ≡ Some s = e in cc)
-code_in (Some c) s e = let same : abstract_status c ≡ s = (let both : Some (abstract_status c) ≡ Some s = e in cc) in ap (λ (x : Code). Some x) (code_is c s same)
 
 none_by : (r : Option (Setup × List devices.Placement)) → option_map (λ (x : Setup × List devices.Placement). x.0) r ≡ None → r ≡ None
 none_by None e = refl
@@ -148,42 +74,41 @@ unforced h i job o none s =
 
 -- ---- the table
 
-explained_as : (h : History) (w : WorldCore) (changing : List Event) (i : ℕ) (job : Job) (starved : Bool) (status : Code) (why as_why : Reason) → why ≡ as_why → EndingEver h w changing i job starved status as_why → EndingEver h w changing i job starved status why
+explained_as : (h : History) (w : WorldCore) (changing : List Event) (i : ℕ) (job : Job) (starved : Bool) (status : Status) (why as_why : Why) → why ≡ as_why → EndingEver h w changing i job starved status as_why → EndingEver h w changing i job starved status why
 explained_as h w changing i job starved status why as_why e x = subst (EndingEver h w changing i job starved status) (sym e) x
 
-answered_as : (h : History) (w : WorldCore) (changing : List Event) (i : ℕ) (job : Job) (starved : Bool) (status as_status : Code) (why : Reason) → (status ≡ as_status) × (why ≡ whys.Answer) → AnswerEver h w changing i job as_status → EndingEver h w changing i job starved status why
+answered_as : (h : History) (w : WorldCore) (changing : List Event) (i : ℕ) (job : Job) (starved : Bool) (status as_status : Status) (why : Why) → (status ≡ as_status) × (why ≡ whys.Answer) → AnswerEver h w changing i job as_status → EndingEver h w changing i job starved status why
 answered_as h w changing i job starved status as_status why e x = explained_as h w changing i job starved status why whys.Answer e.1 (inr (subst (AnswerEver h w changing i job) (sym e.0) x))
 
-row : (h : History) (w : WorldCore) (changing : List Event) (i : ℕ) (job : Job) (starved : Bool) (status : Code) (why : Reason) (v : Why) (c : Cause) → why_of why ≡ Some v → (c ≡ LinkOutOfMemory → starved ≡ true) → Evid h w changing i job c → Explains c (abstract_status status) v → EndingEver h w changing i job starved status why
-row h w changing i job starved status why v GaveUp is z e x = let b = both_are status why words.GivenUp words.Cancelled v is x in explained_as h w changing i job starved status why whys.Cancelled b.1 (b.0, e)
-row h w changing i job starved status why v LinkLost is z e x = let b = both_are status why words.IoError words.Lost v is x in explained_as h w changing i job starved status why whys.Lost b.1 (b.0, inl e)
-row h w changing i job starved status why v WasUnsaid is z e x = absurd x
-row h w changing i job starved status why v LinkOutOfMemory is z e x = let b = both_are status why words.IoError words.Lost v is x in explained_as h w changing i job starved status why whys.Lost b.1 (b.0, inr (z refl))
-row h w changing i job starved status why v SourceFailed is z e x = answered_as h w changing i job starved status codes.IoError why (both_are status why words.IoError words.Answer v is x) e
-row h w changing i job starved status why v NamesEof is z e x =
-    let b = both_are status why words.IoError words.Short v is x in
-    explained_as h w changing i job starved status why whys.Short b.1 (b.0, (e.0, e.1, (e.2.0, code_in e.2.0.setup.told words.Eof e.2.1)))
-row h w changing i job starved status why v (Names s) is z e x =
-    let named : NamesStatus h w i job status = (e.0, e.1, (e.2.0, code_in e.2.0.setup.told s e.2.1 ∙ ap (λ (y : Code). Some y) (sym (code_is status s x.0)))) in
-    let other : status ≢ codes.Eof = λ eof. x.1 (sym x.0 ∙ ap abstract_status eof) in
-    explained_as h w changing i job starved status why whys.Answer (why_is why words.Answer (is ∙ ap (λ (y : Why). Some y) x.2)) (inl (other, named))
-row h w changing i job starved status why v Unforced is z e x = absurd e
-row h w changing i job starved status why v WasUnlisted is z e x = answered_as h w changing i job starved status codes.Inval why (both_are status why words.Inval words.Answer v is x) (inr (inl e))
-row h w changing i job starved status why v HadNoPicture is z e x = answered_as h w changing i job starved status codes.Inval why (both_are status why words.Inval words.Answer v is x) (inr (inr e))
-row h w changing i job starved status why v WasHeld is z e x = answered_as h w changing i job starved status codes.DeviceBusy why (both_are status why words.Busy words.Answer v is x) e
-row h w changing i job starved status why v Disallowed is z e x = answered_as h w changing i job starved status codes.AccessDenied why (both_are status why words.AccessDenied words.Answer v is x) e
-row h w changing i job starved status why v TrayWasEmpty is z e x = answered_as h w changing i job starved status codes.NoDocs why (both_are status why words.NoDocs words.Answer v is x) e
-row h w changing i job starved status why v TrayRanOut is z e x = absurd x
-row h w changing i job starved status why v ClientOutOfMemory is z e x = let b = both_are status why words.NoMem words.Memory v is x in explained_as h w changing i job starved status why whys.Memory b.1 (b.0, e)
+row : (h : History) (w : WorldCore) (changing : List Event) (i : ℕ) (job : Job) (starved : Bool) (status : Status) (why : Why) (c : Cause) → (c ≡ LinkOutOfMemory → starved ≡ true) → Evid h w changing i job c → Explains c status why → EndingEver h w changing i job starved status why
+row h w changing i job starved status why GaveUp z e x = explained_as h w changing i job starved status why whys.Cancelled x.1 (x.0, e)
+row h w changing i job starved status why LinkLost z e x = explained_as h w changing i job starved status why whys.Lost x.1 (x.0, inl e)
+row h w changing i job starved status why WasUnsaid z e x = absurd x
+row h w changing i job starved status why LinkOutOfMemory z e x = explained_as h w changing i job starved status why whys.Lost x.1 (x.0, inr (z refl))
+row h w changing i job starved status why SourceFailed z e x = answered_as h w changing i job starved status codes.IoError why x e
+row h w changing i job starved status why NamesEof z e x =
+    explained_as h w changing i job starved status why whys.Short x.1 (x.0, e)
+row h w changing i job starved status why (Names s) z e x =
+    let named : NamesStatus h w i job status = (e.0, e.1, (e.2.0, e.2.1 ∙ ap (λ (y : Status). Some y) (sym x.0))) in
+    let other : status ≢ codes.Eof = λ eof. x.1 (sym x.0 ∙ eof) in
+    explained_as h w changing i job starved status why whys.Answer x.2 (inl (other, named))
+row h w changing i job starved status why Unforced z e x = absurd e
+row h w changing i job starved status why WasUnlisted z e x = answered_as h w changing i job starved status codes.Inval why x (inr (inl e))
+row h w changing i job starved status why HadNoPicture z e x = answered_as h w changing i job starved status codes.Inval why x (inr (inr e))
+row h w changing i job starved status why WasHeld z e x = answered_as h w changing i job starved status codes.DeviceBusy why x e
+row h w changing i job starved status why Disallowed z e x = answered_as h w changing i job starved status codes.AccessDenied why x e
+row h w changing i job starved status why TrayWasEmpty z e x = answered_as h w changing i job starved status codes.NoDocs why x e
+row h w changing i job starved status why TrayRanOut z e x = absurd x
+row h w changing i job starved status why ClientOutOfMemory z e x = explained_as h w changing i job starved status why whys.Memory x.1 (x.0, e)
 
 -- settings that cannot be in force
-unforced_row : (h : History) (w : WorldCore) (changing : List Event) (i : ℕ) (job : Job) (starved : Bool) (status : Code) (why : Reason) (v : Why) → status ≡ codes.Inval → why_of why ≡ Some v → (v ≡ words.Setting) ⊎ (v ≡ words.Answer) → IsUnforced h job → EndingEver h w changing i job starved status why
-unforced_row h w changing i job starved status why v inval is (inl e) none = explained_as h w changing i job starved status why whys.Setting (why_is why words.Setting (is ∙ ap (λ (x : Why). Some x) e)) (inval, none)
-unforced_row h w changing i job starved status why v inval is (inr e) none = answered_as h w changing i job starved status codes.Inval why (inval, why_is why words.Answer (is ∙ ap (λ (x : Why). Some x) e)) (inl none)
+unforced_row : (h : History) (w : WorldCore) (changing : List Event) (i : ℕ) (job : Job) (starved : Bool) (status : Status) (why : Why) → status ≡ codes.Inval → (why ≡ whys.Setting) ⊎ (why ≡ whys.Answer) → IsUnforced h job → EndingEver h w changing i job starved status why
+unforced_row h w changing i job starved status why inval (inl e) none = explained_as h w changing i job starved status why whys.Setting e (inval, none)
+unforced_row h w changing i job starved status why inval (inr e) none = answered_as h w changing i job starved status codes.Inval why (inval, e) (inl none)
 
-table : (h : History) (w : WorldCore) (changing : List Event) (i : ℕ) (job : Job) (starved : Bool) (met : List Cause) (status : Code) (why : Reason) (v : Why) → Own h i job → why_of why ≡ Some v → (IsCauseAmong LinkOutOfMemory met → starved ≡ true) → EndedBy h w changing i job met (abstract_status status) v → EndingEver h w changing i job starved status why
-table h w changing i job starved met status why v o is z (inl (c, e, m, x)) = row h w changing i job starved status why v c is (λ same. z (subst (λ (y : Cause). IsCauseAmong y met) same m)) e x
-table h w changing i job starved met status why v o is z (inr n) = unforced_row h w changing i job starved status why v (code_is status words.Inval n.1.0) is n.1.1 (unforced h i job o n.0)
+table : (h : History) (w : WorldCore) (changing : List Event) (i : ℕ) (job : Job) (starved : Bool) (met : List Cause) (status : Status) (why : Why) → Own h i job → (IsCauseAmong LinkOutOfMemory met → starved ≡ true) → EndedBy h w changing i job met status why → EndingEver h w changing i job starved status why
+table h w changing i job starved met status why o z (inl (c, e, m, x)) = row h w changing i job starved status why c (λ same. z (subst (λ (y : Cause). IsCauseAmong y met) same m)) e x
+table h w changing i job starved met status why o z (inr n) = unforced_row h w changing i job starved status why n.1.0 n.1.1 (unforced h i job o n.0)
 
 -- ---- the job at its end
 
@@ -193,7 +118,7 @@ woken_ended (Running g) m status why e h = sym e ∙ h
 woken_ended Done m status why e h = sym e ∙ h
 woken_ended (Ended s w) m status why e h = sym e ∙ h
 
-pub ended_reads : (place : DeviceInfo → ℕ) (errand : JobTarget) (job : model.AbstractJob) (pages : List (List Frame)) (o : Outcome) (progress : Progress) (notes : Notes) (past : JoinHistory) (m : ClientView) (status : Code) (why : Reason) → OutcomeRefines place errand job pages o progress notes past m → o ≡ outcomes.Ended status why → EndedAs status why m
+pub ended_reads : (place : DeviceInfo → ℕ) (errand : JobTarget) (job : model.AbstractJob) (pages : List (List Frame)) (o : Outcome) (progress : Progress) (notes : Notes) (past : JoinHistory) (m : ClientView) (status : Status) (why : Why) → OutcomeRefines place errand job pages o progress notes past m → o ≡ outcomes.Ended status why → EndedAs status why m
 ended_reads place errand job pages o progress notes past m status why h e = subst (λ (x : Outcome). OutcomeRefines place errand job pages x progress notes past m) e h
 
 both_along : (P Q : SystemState → Transition → Type 0) (s : SystemState) (xs : List Transition) → AllAlong P s xs → AllAlong Q s xs → AllAlong (λ (t : SystemState) (x : Transition). P t x × Q t x) s xs
@@ -289,16 +214,16 @@ judged_there below h w i job l job_at =
     subst (JudgedAt h w (changing_in h w l) i job) (sym k.rules_are)
     (all_judged (laws_of below) h w (changing_in h w l) i job k.steps t.system here fine (steps_by h w job l (sources_of g) k) (steps_of_changing h w job l (sources_of g) k) (both_along (AnsweredSo h w job) (HappenedSo h w job) t.system k.steps k.answered k.happened) k.legal tt)
 
-pub at_end : Below → (h : History) (w : WorldCore) (i : ℕ) (job : Job) (endpoint : Endpoint) (status : Code) (why : Reason) → (j : IsJob h w i job endpoint) → endpoint.client.outcome ≡ outcomes.Ended status why → EndingEver h w (changing_in h w j.led) i job endpoint.out_of_memory status why
+pub at_end : Below → (h : History) (w : WorldCore) (i : ℕ) (job : Job) (endpoint : Endpoint) (status : Status) (why : Why) → (j : IsJob h w i job endpoint) → endpoint.client.outcome ≡ outcomes.Ended status why → EndingEver h w (changing_in h w j.led) i job endpoint.out_of_memory status why
 at_end below h w i job endpoint status why j is =
     let k = comes_changing below h w job j.led in
     let u = k.ghost_then in
     let o = (first_here below h w i job j.led j.job_at).own_job in
     let sits = k.stands.endpoints i endpoint j.endpoint_at in
     let d = ended_reads (place_of_info u.infos) (target_of (u.jobs i)) (job_state u i).session.job (map (λ (q : JoinHistory). q.ended) (u.pages i)) endpoint.client.outcome endpoint.client.progress endpoint.client.notes (u.history i) (client_at_greeting (job_state u i).client.stage (job_state u i).client) status why sits.exchanges.reads.stands is in
-    let stage = woken_ended (job_state u i).client.stage (job_state u i).client (abstract_status status) d.0 refl d.1.1 in
+    let stage = woken_ended (job_state u i).client.stage (job_state u i).client status why refl d in
     let judged = subst (Judged h w (changing_in h w j.led) i job (job_state u i).session.met (job_state u i).client.pages) stage (judged_there below h w i job j.led j.job_at) in
-    table h w (changing_in h w j.led) i job endpoint.out_of_memory (job_state u i).session.met status why d.0 o d.1.0 sits.means.starved judged
+    table h w (changing_in h w j.led) i job endpoint.out_of_memory (job_state u i).session.met status why o sits.means.starved judged
 
 -- ---- a reply that could not be said
 

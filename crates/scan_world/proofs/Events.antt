@@ -1,7 +1,8 @@
 -- The events that steps come from: what is so of the event of a step is so of that one.
 use Rattle.std.proofs.Common.{Bool, ◌⊎◌, ℕ, List, false, Option, inl, inr, sym, subst}
+use Rattle.sane_fixed.specs.declared.status.Status.{Status}
 use Rattle.sane_fixed.specs.declared.device_info.DeviceInfo.{DeviceInfo}
-use Rattle.system_model.specs.AbstractMessages.{Challenge, Status}
+use Rattle.system_model.specs.AbstractMessages.{Challenge}
 use Rattle.system_model.specs.Daemon.{FailureCounts}
 use Rattle.system_model.specs.Actions as model_actions
 use Rattle.system_model.specs.Transitions.{By}

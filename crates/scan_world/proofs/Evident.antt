@@ -1,7 +1,8 @@
 -- What each cause that a this_action notes comes from: a device is asked for by OPEN or AUTHORIZE, a page by START.
 use Rattle.std.specs.List.{AllByRecursion}
 use Rattle.std.proofs.Common.{◌≡◌, ◌⊎◌, ◌≢◌, ℕ, List, [], ◌∷◌, ◌++◌, true, false, Option, Some, inl, inr, refl, ap, ◌∙◌}
-use Rattle.system_model.specs.AbstractMessages.{Eof, Challenge, AbstractRequest, Start}
+use Rattle.sane_fixed.specs.declared.status.Status.TheVariants.{Eof}
+use Rattle.system_model.specs.AbstractMessages.{Challenge, AbstractRequest, Start}
 use Rattle.device_api.specs.Kinds.{Page}
 use Rattle.system_model.specs.Devices.{Make, picture_frames, read_status_of}
 use Rattle.system_model.specs.AbstractDevices.{AbstractDevice, Resting}

@@ -2,7 +2,7 @@
 use Rattle.std.specs.List.{AllByRecursion}
 use Rattle.std.proofs.Common.{◌≡◌, ℕ, List, [], ◌∷◌, Bool, true, false, Option, Some, None, refl}
 use Rattle.page_picture.specs.Shows.{Frame}
-use Rattle.system_model.specs.AbstractMessages.{same_text, Challenge, AbstractRequest, Init, GetDevices, Open, Authorize, Describe, Get, Set, Parameters, Start, Cancel, Close, Exit}
+use Rattle.system_model.specs.AbstractMessages.{same_text, Challenge, AbstractRequest, Open, Authorize, Start, Cancel, Close, Exit}
 use Rattle.device_api.specs.Kinds.{Page}
 use Rattle.system_model.specs.Devices.{Make, picture_frames}
 use Rattle.system_model.specs.AbstractDevices.{AbstractDevice, ScanPhase, Resting, Between, Reading, Begin, ended_phase, is_held_by, is_resting}
@@ -84,18 +84,13 @@ starts_mine i d k dev fault Streaming = tt
 starts_mine i d k dev fault Ending = tt
 
 answer_mine : (b : Bool) (i d : ℕ) (k : Make) (dev : AbstractDevice) (c : TransferState) (x : Environment) (q : AbstractRequest) → AreMine i d (answer_marks b i d k dev c x q)
-answer_mine true i d k dev c x Init = tt
-answer_mine true i d k dev c x GetDevices = tt
 answer_mine true i d k dev c x Open = open_mine i d dev x.guarded
 answer_mine true i d k dev c x (Authorize challenge) = left_mine (is_busy dev.phase) i d
-answer_mine true i d k dev c x Describe = tt
-answer_mine true i d k dev c x (Get n) = tt
-answer_mine true i d k dev c x (Set n v) = tt
-answer_mine true i d k dev c x Parameters = tt
 answer_mine true i d k dev c x Start = starts_mine i d k dev x.fault c
 answer_mine true i d k dev c x Cancel = rested_mine (is_busy dev.phase) i d
 answer_mine true i d k dev c x Close = left_mine (is_busy dev.phase) i d
 answer_mine true i d k dev c x Exit = left_mine (is_busy dev.phase) i d
+answer_mine true i d k dev c x q = tt
 answer_mine false i d k dev c x Open = open_mine i d dev x.guarded
 answer_mine false i d k dev c x q = tt
 

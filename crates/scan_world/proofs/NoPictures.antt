@@ -5,7 +5,7 @@ use Rattle.page_picture.specs.Extent.{extent_of}
 use Rattle.page_picture.specs.Meaning.{meaning_of, picture_of}
 use Rattle.scan_frames.specs.Frames.{frame_of, frames_of, has_picture, takes_colors}
 use Rattle.scan_laws.specs.SetAndJoin as rules
-use Rattle.system_model.specs.AbstractMessages.{AbstractRequest, Init, GetDevices, Open, Authorize, Describe, Get, Set, Parameters, Start}
+use Rattle.system_model.specs.AbstractMessages.{AbstractRequest, Start}
 use Rattle.device_api.specs.Kinds.{Page}
 use Rattle.system_model.specs.Devices.{Make, OptionsInForce, picture_frames}
 use Rattle.system_model.specs.AbstractDevices.{AbstractDevice}
@@ -28,18 +28,15 @@ ready_set i k b m dev h = (h.held.mine, (m.reports, h.settled.forced ∙ ap (λ 
 pauses_set : (i : ℕ) (k : Make) (b : SessionView) (m : ClientView) (dev : AbstractDevice) → Pauses i k b m dev → IsSet i k b dev
 pauses_set i k b m dev h = (h.held.mine, (m.reports, h.continues.settled.forced ∙ ap (λ (o : OptionsInForce). Some (record { options = o; reports = m.reports })) (sym h.held.options_are)))
 
+-- what is asked begins with a start
+abbrev pub is_start : List AbstractRequest → Bool
+is_start (Start ∷ rest) = true
+is_start asked = false
+
 synced_set : (i : ℕ) (k : Make) (b : SessionView) (m : ClientView) (dev : AbstractDevice) (g : AbstractProgress) (rest : List AbstractRequest) → Start ∷ rest ≡ request_awaited g → InSync i k b m dev g → IsSet i k b dev
-synced_set i k b m dev Greeting rest e h = absurd (let clash : Start ∷ rest ≡ Init ∷ [] = e in cc)
-synced_set i k b m dev Listing rest e h = absurd (let clash : Start ∷ rest ≡ GetDevices ∷ [] = e in cc)
-synced_set i k b m dev Opening rest e h = absurd (let clash : Start ∷ rest ≡ Open ∷ [] = e in cc)
-synced_set i k b m dev (Allowing c) rest e h = absurd (let clash : Start ∷ rest ≡ Authorize c ∷ [] = e in cc)
-synced_set i k b m dev (Describing left) rest e h = absurd (let clash : Start ∷ rest ≡ Describe ∷ [] = e in cc)
-synced_set i k b m dev (Putting n value requested left) rest e h = absurd (let clash : Start ∷ rest ≡ Set n value ∷ [] = e in cc)
-synced_set i k b m dev (Getting n left) rest e h = absurd (let clash : Start ∷ rest ≡ Get n ∷ [] = e in cc)
 synced_set i k b m dev Starting rest e (inl h) = ready_set i k b m dev h
 synced_set i k b m dev Starting rest e (inr h) = pauses_set i k b m dev h
-synced_set i k b m dev Shaping rest e h = absurd (let clash : Start ∷ rest ≡ Parameters ∷ [] = e in cc)
-synced_set i k b m dev (Imaging params heard) rest e h = absurd (let clash : Start ∷ rest ≡ [] = e in cc)
+synced_set i k b m dev g rest e h = absurd (let clash : true ≡ false = ap is_start e in cc)
 
 none_asked : {A : Type 0} (todo rest : List AbstractRequest) → todo ≡ [] → todo ≡ Start ∷ rest → A
 none_asked todo rest none e = absurd (let clash : [] ≡ Start ∷ rest = sym none ∙ e in cc)
@@ -53,17 +50,9 @@ starting i k p dev Done rest on h e = absurd on
 starting i k p dev (Ended status why) rest on h e = absurd on
 
 synced_scans : (i : ℕ) (k : Make) (b : SessionView) (m : ClientView) (dev : AbstractDevice) (g : AbstractProgress) (rest : List AbstractRequest) → Start ∷ rest ≡ request_awaited g → InSync i k b m dev g → Scans b.job.task
-synced_scans i k b m dev Greeting rest e h = absurd (let clash : Start ∷ rest ≡ Init ∷ [] = e in cc)
-synced_scans i k b m dev Listing rest e h = absurd (let clash : Start ∷ rest ≡ GetDevices ∷ [] = e in cc)
-synced_scans i k b m dev Opening rest e h = absurd (let clash : Start ∷ rest ≡ Open ∷ [] = e in cc)
-synced_scans i k b m dev (Allowing c) rest e h = absurd (let clash : Start ∷ rest ≡ Authorize c ∷ [] = e in cc)
-synced_scans i k b m dev (Describing left) rest e h = absurd (let clash : Start ∷ rest ≡ Describe ∷ [] = e in cc)
-synced_scans i k b m dev (Putting n value requested left) rest e h = absurd (let clash : Start ∷ rest ≡ Set n value ∷ [] = e in cc)
-synced_scans i k b m dev (Getting n left) rest e h = absurd (let clash : Start ∷ rest ≡ Get n ∷ [] = e in cc)
 synced_scans i k b m dev Starting rest e (inl h) = h.scans
 synced_scans i k b m dev Starting rest e (inr h) = h.continues.scans
-synced_scans i k b m dev Shaping rest e h = absurd (let clash : Start ∷ rest ≡ Parameters ∷ [] = e in cc)
-synced_scans i k b m dev (Imaging params heard) rest e h = absurd (let clash : Start ∷ rest ≡ [] = e in cc)
+synced_scans i k b m dev g rest e h = absurd (let clash : true ≡ false = ap is_start e in cc)
 
 pub starting_scans : (i : ℕ) (k : Make) (p : JobState) (dev : AbstractDevice) (stage : JobStage) (rest : List AbstractRequest) → IsUnderWay stage → StageInvariant i k p dev stage → p.todo ≡ Start ∷ rest → Scans p.session.job.task
 starting_scans i k p dev Idle rest on h e = none_asked p.todo rest h.1 e

@@ -1,6 +1,6 @@
 -- While a frame streams the options of its device are those that the job's settings put in force.
 use Rattle.std.proofs.Common.{◌≡◌, ◌∙◌, ℕ, List, Some, inl, inr, sym, ap}
-use Rattle.system_model.specs.AbstractMessages.{Report}
+use Rattle.system_model.specs.AbstractMessages.{AbstractReport}
 use Rattle.system_model.specs.Devices.{Make, OptionsInForce}
 use Rattle.system_model.specs.AbstractInForce.{abstract_in_force}
 use Rattle.system_model.specs.Client.{JobStage, Idle, Running, Done, Ended, AbstractProgress, Greeting, Listing, Opening, Allowing, Describing, Putting, Getting, Starting, Shaping, Imaging, ClientView}
@@ -13,7 +13,7 @@ use Rattle.system_model.specs.Invariants.{IsCalm, StageInvariant}
 
 -- its options are in force
 abbrev pub IsForced : Make → SessionView → AbstractDevice → Type 0
-IsForced k b dev = (reports : List Report) × (abstract_in_force k b.job.settings ≡ Some (record { options = dev.options; reports = reports }))
+IsForced k b dev = (reports : List AbstractReport) × (abstract_in_force k b.job.settings ≡ Some (record { options = dev.options; reports = reports }))
 
 -- of a job that scans they are
 abbrev pub IsStreamed : Make → SessionView → AbstractDevice → Type 0

@@ -15,7 +15,7 @@ use Rattle.device_api.specs.Options as table
 use Rattle.device_api.specs.Values.{option_set, setup_after}
 use Rattle.device_api.proofs.TableLaws.{set_places}
 use Rattle.scan_laws.specs.SetAndJoin as rules
-use Rattle.system_model.specs.AbstractMessages.{RequestedSetting, Report}
+use Rattle.system_model.specs.AbstractMessages.{RequestedSetting, AbstractReport}
 use Rattle.system_model.specs.Devices.{Make, abstract_accepted_set, default_options, descriptors_in_force, resolve_setting, accept_value}
 use Rattle.system_model.specs.AbstractInForce.{SettingsResult, abstract_force, abstract_in_force, with_reports_before, put_then, setting_then, report_of}
 use Rattle.system_model.specs.Settings.{pair_of}
@@ -24,7 +24,7 @@ use Rattle.system_model.specs.Settings.{pair_of}
 abbrev pub View : Type 0
 View = Setup × List (Value × Value)
 
-abbrev pub given_by : Report → Value × Value
+abbrev pub given_by : AbstractReport → Value × Value
 given_by r = (r.asked, r.given)
 
 abbrev pub given_at : Placement → Value × Value
@@ -39,7 +39,7 @@ view_of r = option_map (λ x. (x.0, map given_at x.1)) r
 abbrev ahead : Value × Value → Option View → Option View
 ahead v o = option_map (λ x. (x.0, v ∷ x.1)) o
 
-onto_view : (r : Report) (f : Option SettingsResult) → view_in (with_reports_before (r ∷ []) f) ≡ ahead (r.asked, r.given) (view_in f)
+onto_view : (r : AbstractReport) (f : Option SettingsResult) → view_in (with_reports_before (r ∷ []) f) ≡ ahead (r.asked, r.given) (view_in f)
 onto_view r None = refl
 onto_view r (Some f) = refl
 

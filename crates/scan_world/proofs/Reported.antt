@@ -30,7 +30,7 @@ rest_is x y xs ys e = cc
 abbrev Tells : Bool → Value → Value → Type 0
 Tells b given asked = (b ≡ true) ↔ (given ≢ asked)
 
-reported : (k : Make) (options : OptionsInForce) (setting : List ℕ × List ℕ) (p : Placement) (r : words.Report) (q : Report) → given_at p ≡ given_by r → common_abstract_report r ≡ common_report q → ruled.IsAnswered k options (requested_setting setting) r → IsSettingReported setting p q
+reported : (k : Make) (options : OptionsInForce) (setting : List ℕ × List ℕ) (p : Placement) (r : words.AbstractReport) (q : Report) → given_at p ≡ given_by r → common_abstract_report r ≡ common_report q → ruled.IsAnswered k options (requested_setting setting) r → IsSettingReported setting p q
 reported k options setting p r q e f a = record {
   name = sym (ap (λ (x : CommonReport). x.name) f) ∙ ap (λ (w : words.RequestedSetting). w.name) a.is_setting;
   asked = sym (ap (λ (x : CommonReport). x.asked) f) ∙ sym (ap (λ (v : Value × Value). v.0) e);
@@ -38,7 +38,7 @@ reported k options setting p r q e f a = record {
   inexact = subst (λ (x : CommonReport). Tells x.info.inexact x.given x.asked) f a.inexact;
 }
 
-all_reported : (k : Make) (settings : List (List ℕ × List ℕ)) (ps : List Placement) (rs : List words.Report) (qs : List Report) → map given_at ps ≡ map given_by rs → map common_abstract_report rs ≡ map common_report qs → ruled.AreAnswered k (map requested_setting settings) rs → AreSettingsReported settings ps qs
+all_reported : (k : Make) (settings : List (List ℕ × List ℕ)) (ps : List Placement) (rs : List words.AbstractReport) (qs : List Report) → map given_at ps ≡ map given_by rs → map common_abstract_report rs ≡ map common_report qs → ruled.AreAnswered k (map requested_setting settings) rs → AreSettingsReported settings ps qs
 all_reported k [] [] [] [] e f a = tt
 all_reported k [] [] [] (q ∷ qs) e f a = absurd (let clash : [] ≡ common_report q ∷ map common_report qs = f in cc)
 all_reported k [] (p ∷ ps) [] qs e f a = absurd (let clash : given_at p ∷ map given_at ps ≡ [] = e in cc)
@@ -55,7 +55,7 @@ viewed : (r : Option (Setup × List Placement)) (o : Setup) (given : List (Value
 viewed None o given e = absurd (let clash : Some (o, given) ≡ None = e in cc)
 viewed (Some x) o given e = let both : Some (o, given) ≡ Some (x.0, map given_at x.1) = e in let same : (o, given) ≡ (x.0, map given_at x.1) = cc in (x, refl, sym (ap (λ (v : View). v.1) same))
 
-pub answered : (b : PageSources) (device : DeviceState) (job : Job) (options : OptionsInForce) (rs : List words.Report) (qs : List Report) → ruled.abstract_in_force (make_of b (Some device)) (map requested_setting job.settings.items) ≡ Some (record { options = options; reports = rs }) → map common_abstract_report rs ≡ map common_report qs →
+pub answered : (b : PageSources) (device : DeviceState) (job : Job) (options : OptionsInForce) (rs : List words.AbstractReport) (qs : List Report) → ruled.abstract_in_force (make_of b (Some device)) (map requested_setting job.settings.items) ≡ Some (record { options = options; reports = rs }) → map common_abstract_report rs ≡ map common_report qs →
     ruled.AreAnswered (make_of b (Some device)) (map requested_setting job.settings.items) rs → (r : Setup × List Placement) × AreSettingsPut (defaults device.setup.scene.kind device.setup.order) job.settings.items r.1 r.0 × AreSettingsReported job.settings.items r.1 qs
 answered b device job options rs qs forced are a =
     let k = make_of b (Some device) in

@@ -15,7 +15,7 @@ use Rattle.scan_job.specs.declared.outcome.Outcome.TheVariants.{Done, Running}
 use Rattle.daemon_refines.specs.ContextRefinement.{abstract_device, page_views, pages_to_come}
 use Rattle.daemon_refines.proofs.Scanning.{rests}
 use Rattle.system_model.specs.AbstractDevices.{AbstractDevice, Begin, Between, Reading, Resting, ScanPhase, is_resting}
-use Rattle.system_model.specs.AbstractMessages.{AbstractRequest, Init, GetDevices, Open, Authorize, Describe, Get, Set, Parameters, Start, Cancel, Close, Exit}
+use Rattle.system_model.specs.AbstractMessages.{AbstractRequest, Start}
 use Rattle.system_model.specs.SystemStates.{SystemState, device_for, make_for, wanted_place}
 use Rattle.system_model.specs.Transitions.{IsUnderWay}
 use Rattle.event_world.specs.declared.endpoint.Endpoint.{Endpoint}
@@ -70,18 +70,8 @@ nothing_fed w v i n p at none (x, leads, rest) =
 -- ---- as it asks for a start
 
 asks_start : (progress : Progress) (q : AbstractRequest) → IsAtStart progress → AwaitsAnswer q progress → q ≡ Start
-asks_start (stages.Starting first) Init is waits = absurd waits
-asks_start (stages.Starting first) GetDevices is waits = absurd waits
-asks_start (stages.Starting first) Open is waits = absurd waits
-asks_start (stages.Starting first) (Authorize challenge) is waits = absurd waits
-asks_start (stages.Starting first) Describe is waits = absurd waits
-asks_start (stages.Starting first) (Get n) is waits = absurd waits
-asks_start (stages.Starting first) (Set n value) is waits = absurd waits
-asks_start (stages.Starting first) Parameters is waits = absurd waits
 asks_start (stages.Starting first) Start is waits = refl
-asks_start (stages.Starting first) Cancel is waits = absurd waits
-asks_start (stages.Starting first) Close is waits = absurd waits
-asks_start (stages.Starting first) Exit is waits = absurd waits
+asks_start (stages.Starting first) q is waits = absurd waits
 asks_start progress q is waits = absurd is
 
 rests_so : (phase : ScanPhase) → is_resting phase ≡ true → phase ≡ Resting

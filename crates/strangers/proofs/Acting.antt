@@ -26,17 +26,16 @@ use Rattle.daemon_refines.specs.ContextRefinement.{TableRefines}
 use Rattle.daemon_refines.specs.OtherSessions.{LeavesOthers}
 use Rattle.daemon_refines.specs.Cores.{RefinesAfterFeed, SessionRefines}
 use Rattle.daemon_refines.proofs.Changes.{Held}
-use Rattle.daemon_refines.proofs.Cores.{stands_as}
 use Rattle.daemon_refines.proofs.OtherSessions.{leaves_all}
 use Rattle.in_flight.proofs.Slots.{decide, none_free, own_slot, unused}
 use Rattle.event_world.specs.declared.endpoint.Endpoint.{Endpoint}
 use Rattle.event_world.specs.Worlds.{WorldCore}
 use Rattle.world_refines.specs.GhostStates.{Ghost}
-use Rattle.world_refines.specs.WorldRefinement.{IsBelow}
+use Rattle.world_refines.specs.WorldRefinement.{IsBelow, IsLinked, IsNobodys, StrangerStands, stranger_of}
 use Rattle.world_refines.proofs.state.CoreCallsKeep.{on_number}
-use Rattle.world_refines.proofs.state.Sees.{table_stands}
+use Rattle.world_refines.proofs.state.Strangers.{not_linked, other_stranger}
 use Rattle.strangers.specs.LeavingJobs.{GoesOn, IsStrangers, JobsStand, LeavesJobs, ghost_with}
-use Rattle.strangers.specs.Among.{ActLeaves, ActsLeave, IsNobodys, StandsAmong, StrangerAct, StrangerActs, StrangerStands, StrangersAct, StrangersDoAll, StrangersDoAnything, stranger_of}
+use Rattle.strangers.specs.Among.{ActLeaves, ActsLeave, StandsAmong, StrangerAct, StrangerActs, StrangersAct, StrangersDoAll, StrangersDoAnything}
 use Rattle.strangers.proofs.Jobs.{jobs_left}
 use Rattle.strangers.proofs.Calls.{connects, leaves, loses_data, none_number, says_anything}
 use Rattle.strangers.proofs.Others.{comes, taken_number, takes_data, takes_replies}
@@ -44,7 +43,7 @@ use Rattle.strangers.proofs.Others.{comes, taken_number, takes_data, takes_repli
 abbrev Slots : Type 0
 Slots = List (Option (SessionSlot DeviceState))
 
-abbrev at_daemon : WorldCore → Core → WorldCore
+abbrev pub at_daemon : WorldCore → Core → WorldCore
 at_daemon w e = record w { daemon = e }
 
 -- ---- what an act comes to
@@ -60,36 +59,15 @@ record Acted (t : Ghost) (w : WorldCore) (n : ℕ) (e : Core) : Type 0 where
   sits : (session : RequestSession DeviceState) → session_of e n ≡ Some session → (s : AbstractSession) × SessionRefines (stranger_of w n) t.system.make e n device s
   rests : session_of e n ≡ None → TableRefines (stranger_of w n) t.system.make [] e.registry device
 
-two_strangers : (w : WorldCore) (m n : ℕ) → m ≢ n → stranger_of w m ≢ stranger_of w n
-two_strangers w m n off same = off (let same_sum : length w.endpoints + m ≡ length w.endpoints + n = same in omega (arith, same_sum))
-
-other_stranger : (t : Ghost) (w : WorldCore) (n m : ℕ) (e : Core) → (a : Acted t w n e) → m ≢ n → StrangerStands t w m → StrangerStands (ghost_with a.device t) (at_daemon w e) m
-other_stranger t w n m e a off h =
-    let i = stranger_of w n in
-    let j = stranger_of w m in
-    let same : session_of e m ≡ session_of w.daemon m = ap session_in (a.left.slots m off) in
-    record {
-      nowhere = a.left.others.listed _ ∙ h.nowhere;
-      sits = λ session is apart_from.
-          let old = h.sits session (sym same ∙ is) apart_from in
-          (old.0, stands_as i j m t.system.make w.daemon e t.system.device a.device old.0 (two_strangers w m n off) same (record { held = a.held; shows = a.shows; others = a.left.others }) old.1);
-      rests = λ either. table_stands i j t.system.make a.held w.daemon.stream w.daemon.registry e.registry t.system.device a.device (two_strangers w m n off) a.shows a.left.others (h.rests (as_before same either));
-    }
-  where
-    as_before : session_of e m ≡ session_of w.daemon m → (session_of e m ≡ None) ⊎ (IsNobodys w m → ⊥) → (session_of w.daemon m ≡ None) ⊎ (IsNobodys w m → ⊥)
-    as_before same (inl none) = inl (sym same ∙ none)
-    as_before same (inr linked) = inr linked
-
 own_stranger : (t : Ghost) (w : WorldCore) (n : ℕ) (e : Core) → (a : Acted t w n e) → IsNobodys w n → StrangerStands t w n → StrangerStands (ghost_with a.device t) (at_daemon w e) n
 own_stranger t w n e a nobodys h = record {
-  nowhere = a.left.others.listed _ ∙ h.nowhere;
   sits = λ session is apart_from. a.sits session is;
   rests = λ either. by either;
 }
   where
-    by : (session_of e n ≡ None) ⊎ (IsNobodys w n → ⊥) → TableRefines (stranger_of w n) t.system.make [] e.registry a.device
+    by : (session_of e n ≡ None) ⊎ IsLinked w.endpoints n → TableRefines (stranger_of w n) t.system.make [] e.registry a.device
     by (inl none) = a.rests none
-    by (inr linked) = absurd (linked nobodys)
+    by (inr linked) = absurd (not_linked w n nobodys linked)
 
 acted : (t : Ghost) (w : WorldCore) (n : ℕ) (e : Core) → StandsAmong t w → IsNobodys w n → Acted t w n e → ActLeaves t w (at_daemon w e) n
 acted t w n e h nobodys a = record {
@@ -98,6 +76,7 @@ acted t w n e h nobodys a = record {
     jobs = a.left.stands;
     limits = a.limits;
     links = λ j endpoint id at is. let low = h.links j endpoint id at is in let more = a.opened in omega (arith, low, more);
+    nowhere = λ m. a.left.others.listed _ ∙ h.nowhere m;
     strangers = λ m. by m (decide m n);
   };
   slots = a.left.slots;
@@ -106,7 +85,7 @@ acted t w n e h nobodys a = record {
   where
     by : (m : ℕ) → (m ≡ n) ⊎ (m ≢ n) → StrangerStands (ghost_with a.device t) (at_daemon w e) m
     by m (inl same) = subst (λ (x : ℕ). StrangerStands (ghost_with a.device t) (at_daemon w e) x) (sym same) (own_stranger t w n e a nobodys (h.strangers n))
-    by m (inr off) = other_stranger t w n m e a off (h.strangers m)
+    by m (inr off) = other_stranger t w n m e a.device (record { held = a.held; shows = a.shows; others = a.left.others; slots = a.left.slots }) off (h.strangers m)
 
 -- ---- nothing comes of it
 
@@ -118,7 +97,7 @@ nothing t w n e h is =
 -- ---- he has a session
 
 is_his : (t : Ghost) (w : WorldCore) (n : ℕ) (session : RequestSession DeviceState) → (h : StandsAmong t w) → (nobodys : IsNobodys w n) → (is : session_of w.daemon n ≡ Some session) → IsStrangers t w (stranger_of w n) n ((h.strangers n).sits session is nobodys).0
-is_his t w n session h nobodys is = record { beyond = omega arith; nowhere = (h.strangers n).nowhere; apart = nobodys; sits = ((h.strangers n).sits session is nobodys).1 }
+is_his t w n session h nobodys is = record { beyond = omega arith; nowhere = h.nowhere n; apart = nobodys; sits = ((h.strangers n).sits session is nobodys).1 }
 
 goes_on : (t : Ghost) (w : WorldCore) (n : ℕ) (e : Core) → HasDaemonLimits e → e.opened ≡ w.daemon.opened → GoesOn t w (stranger_of w n) n e → Acted t w n e
 goes_on t w n e limits opened g = record {
@@ -188,7 +167,7 @@ none_left t w n e h nobodys none limits opened registry slots gone =
     let table = t.system.device in
     let old = (h.strangers n).rests (inl none) in
     let now = subst (λ (r : Table). TableRefines i t.system.make [] r table) (sym registry) old in
-    let left = jobs_left t w i n e table (omega arith) (h.strangers n).nowhere old nobodys h.jobs (record { held = []; shows = now; others = subst (λ (r : Table). LeavesOthers i w.daemon.registry r table table) (sym registry) (leaves_all i w.daemon.registry table); slots = slots; fit = h.jobs.sound.fit }) in
+    let left = jobs_left t w i n e table (omega arith) (h.nowhere n) old nobodys h.jobs (record { held = []; shows = now; others = subst (λ (r : Table). LeavesOthers i w.daemon.registry r table table) (sym registry) (leaves_all i w.daemon.registry table); slots = slots; fit = h.jobs.sound.fit }) in
     is_gone t w n e table limits opened gone left now
 
 lost_none : (g : RequestSession DeviceState → RequestSession DeviceState) (o : Option (SessionSlot DeviceState)) → session_in o ≡ None → session_in (option_and_then (on_session g) o) ≡ None
@@ -202,7 +181,7 @@ taken_none count (Some slot) none =
 
 -- ---- he comes
 
-below : (n : ℕ) (slots : Slots) → HaveOwnNumbers n slots → AllByRecursion (IsBelow n) slots
+pub below : (n : ℕ) (slots : Slots) → HaveOwnNumbers n slots → AllByRecursion (IsBelow n) slots
 below n [] own = tt
 below n (None ∷ slots) own = (tt, below n slots own)
 below n (Some slot ∷ slots) own = (own.0, below n slots own.2)
@@ -217,7 +196,7 @@ opens t w n port e h nobodys numbered room after =
         let n = d.opened in
         let i = stranger_of w n in
         let none : session_of d n ≡ None = ap session_in (none_free n d.slots (unused n d.slots h.limits.1)) in
-        let c = comes t w i port h.jobs (record { beyond = omega arith; nowhere = (h.strangers n).nowhere; nothing = (h.strangers n).rests (inl none); room = room; below = below n d.slots h.limits.1; links = h.links }) in
+        let c = comes t w i port h.jobs (record { beyond = omega arith; nowhere = h.nowhere n; nothing = (h.strangers n).rests (inl none); room = room; below = below n d.slots h.limits.1; links = h.links }) in
         acted t w n (after_open_session d port) h none_has (record {
           device = t.system.device;
           left = c.leaves;
@@ -234,7 +213,7 @@ opens t w n port e h nobodys numbered room after =
 never : (b : Bool) → b ≡ true → b ≡ false → ⊥
 never b on off = let clash : true ≡ false = sym on ∙ off in cc
 
-by_session : (t : Ghost) (w : WorldCore) (n : ℕ) (act : SessionAction) (e : Core) (o : Option (RequestSession DeviceState)) → StandsAmong t w → IsNobodys w n → session_of w.daemon n ≡ o → ActsOn n w.daemon act e → ActLeaves t w (at_daemon w e) n
+pub by_session : (t : Ghost) (w : WorldCore) (n : ℕ) (act : SessionAction) (e : Core) (o : Option (RequestSession DeviceState)) → StandsAmong t w → IsNobodys w n → session_of w.daemon n ≡ o → ActsOn n w.daemon act e → ActLeaves t w (at_daemon w e) n
 by_session t w n (Opens port) e o h nobodys is a = opens t w n port e h nobodys a.numbered a.room a.after
 by_session t w n (Hears got room bytes) e o h nobodys is a = nothing t w n e h a
 by_session t w n (Forgets told port) e o h nobodys is a = nothing t w n e h a
@@ -274,7 +253,7 @@ by_session t w n (Leaves port trace) e None h nobodys is a =
     subst (λ (x : Core). ActLeaves t w (at_daemon w x) n) (sym a)
     (acted t w n _ h nobodys (none_left t w n _ h nobodys is (limits_ended w.daemon n h.limits) refl (ap (session_let_go w.daemon.registry) is) (λ m off. apart w.daemon.slots no_more n m none_number (λ same. off (sym same))) (ended_none n w.daemon h.limits)))
 
-same_world : (w v : WorldCore) → v.endpoints ≡ w.endpoints → v ≡ at_daemon w v.daemon
+pub same_world : (w v : WorldCore) → v.endpoints ≡ w.endpoints → v ≡ at_daemon w v.daemon
 same_world w v is = ap (λ (l : List Endpoint). record v { endpoints = l }) is
 
 pub do_anything : StrangersDoAnything

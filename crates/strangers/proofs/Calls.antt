@@ -110,7 +110,7 @@ treated_place i k old new at (inr (inr (inl used))) =
     inr (subst (IsHeldByNoOther i) (sym used.mine) refl, subst (λ (dev : AbstractDevice). IsHeldByNoOther i dev.holder) (sym used.is) (subst (IsHeldByNoOther i) (sym used.mine) refl))
 treated_place i k old new at (inr (inr (inr back))) = inr (subst (IsHeldByNoOther i) (sym back.0) refl, subst (λ (dev : AbstractDevice). IsHeldByNoOther i dev.holder) (sym back.1) tt)
 
-treated_listed : (i : ℕ) (k : Make) (old new : AbstractDevice) → Treats i k old new → new.listed ≡ old.listed
+pub treated_listed : (i : ℕ) (k : Make) (old new : AbstractDevice) → Treats i k old new → new.listed ≡ old.listed
 treated_listed i k old new (inl same) = ap (λ (dev : AbstractDevice). dev.listed) same
 treated_listed i k old new (inr (inl taken)) = ap (λ (dev : AbstractDevice). dev.listed) taken.1
 treated_listed i k old new (inr (inr (inl used))) = ap (λ (dev : AbstractDevice). dev.listed) used.is

@@ -1,6 +1,5 @@
 -- The jobs of a world stand behind a call for a stranger's session.
 use Rattle.std.proofs.Common.{◌≡◌, ◌≢◌, ◌∙◌, ◌⊎◌, inl, inr, ℕ, ◌≤◌, ◌<◌, List, [], ◌∷◌, Bool, true, false, Option, Some, None, refl, sym, ap, subst, eqb, length, slice_get, arith}
-use Rattle.std.proofs.lemmas.Bool.{ne_eqb}
 use Rattle.std.proofs.lemmas.Option.{slice_get_within}
 use Rattle.option_desc.specs.declared.descriptor.Descriptor.{Descriptor}
 use Rattle.device_api.specs.State.{DeviceState}
@@ -8,28 +7,24 @@ use Rattle.dispatch.specs.declared.table.place.Place.{Place}
 use Rattle.dispatch.specs.declared.table.place.Slot.{Slot}
 use Rattle.dispatch.specs.declared.table.place.Slot.TheVariants.{In, Out, Gone}
 use Rattle.dispatch.specs.Table.{Table}
-use Rattle.saned_core.specs.declared.session_slot.SessionSlot.{SessionSlot}
 use Rattle.saned_core.specs.declared.session_slot.SessionId.{SessionId}
-use Rattle.saned_core.specs.DaemonStates.{Core, session_in, session_slot_of}
+use Rattle.saned_core.specs.DaemonStates.{Core, session_slot_of}
 use Rattle.system_model.specs.AbstractMessages.{AbstractRequest, Set}
 use Rattle.system_model.specs.Devices.{Make, descriptors_in_force}
-use Rattle.system_model.specs.AbstractDevices.{AbstractDevice, is_held_by}
-use Rattle.system_model.specs.AbstractSessions.{AbstractSession, one_word_session}
-use Rattle.system_model.specs.SystemStates.{JobState, SystemState, device_for, make_for, wanted_place}
+use Rattle.system_model.specs.AbstractDevices.{AbstractDevice}
+use Rattle.system_model.specs.AbstractSessions.{AbstractSession}
+use Rattle.system_model.specs.SystemStates.{SystemState, device_for, make_for, wanted_place}
 use Rattle.system_model.specs.Invariants.{Invariant}
 use Rattle.system_model.proofs.OtherJobs.{Same, kept_exchanges, same_self}
 use Rattle.daemon_refines.specs.ContextRefinement.{PlaceRefines, SlotRefines, TableRefines}
 use Rattle.daemon_refines.specs.OtherSessions.{IsHeldByNoOther, LeavesOthers, LeavesPlace}
-use Rattle.daemon_refines.specs.Cores.{SessionRefines}
 use Rattle.daemon_refines.proofs.Changes.{Held}
-use Rattle.daemon_refines.proofs.Cores.{stands_as}
 use Rattle.in_flight.proofs.Slots.{decide}
 use Rattle.event_world.specs.declared.endpoint.Endpoint.{Endpoint}
 use Rattle.event_world.specs.Worlds.{WorldCore}
 use Rattle.world_refines.specs.GhostStates.{Ghost}
-use Rattle.world_refines.specs.Speaks.{AsksAsHeld, SetsAsHeld, Speaks}
-use Rattle.world_refines.specs.WorldRefinement.{EndpointRefinesAt, IsServed, WiresMatch, session_by, slot_of_link}
-use Rattle.world_refines.proofs.state.Sees.{table_stands}
+use Rattle.world_refines.specs.Speaks.{SetsAsHeld}
+use Rattle.world_refines.proofs.state.Strangers.{sits_same}
 use Rattle.strangers.specs.LeavingJobs.{IsStrangers, JobsStand, LeavesJobs, ghost_with, with_devices}
 use Rattle.strangers.proofs.Treated.{AllFit}
 
@@ -96,50 +91,6 @@ sets_same i k known dev new [] s h = tt
 sets_same i k known dev new (Set n value ∷ todo) s h = let e = s.held h.0 in (e.0, h.1 ∙ ap (descriptors_in_force k) (sym e.1), h.2)
 sets_same i k known dev new (q ∷ todo) s h = h
 
--- ---- an endpoint
-
-own_of_other : (i j : ℕ) (h : Option ℕ) → j ≢ i → IsHeldByNoOther i h → is_held_by j h ≡ false
-own_of_other i j None n own = refl
-own_of_other i j (Some k) n own = ap (λ (x : ℕ). eqb x j) own ∙ ne_eqb i j (λ e. n (sym e))
-
-place_held : (i j : ℕ) (old new : AbstractDevice) (at now : Option (Place DeviceState)) → j ≢ i → LeavesPlace i old new at now → is_held_by j new.holder ≡ is_held_by j old.holder
-place_held i j old new at now n (inl same) = ap (λ (dev : AbstractDevice). is_held_by j dev.holder) same.0
-place_held i j old new at now n (inr own) = own_of_other i j new.holder n own.1 ∙ sym (own_of_other i j old.holder n own.0)
-
-session_same : (i j : ℕ) (registry now : Table) (table device : ℕ → AbstractDevice) (p : JobState) → j ≢ i → LeavesOthers i registry now table device → session_by j device p ≡ session_by j table p
-session_same i j registry now table device p n h =
-    ap (λ (b : Bool). one_word_session b p.session.job.wants p.session.transfer p.session.awaited) (place_held i j (table p.session.job.wants) (device p.session.job.wants) _ _ n (h.places p.session.job.wants))
-
--- the stranger's session is not the link's
-abbrev IsApart : Option SessionId → ℕ → Type 0
-IsApart link n = (id : SessionId) → link ≡ Some id → id.number ≢ n
-
-slot_same : (link : Option SessionId) (n : ℕ) (d e : Core) → IsApart link n → ((m : ℕ) → m ≢ n → session_slot_of e.slots m ≡ session_slot_of d.slots m) → slot_of_link e link ≡ slot_of_link d link
-slot_same None n d e apart slots = refl
-slot_same (Some id) n d e apart slots = slots id.number (apart id refl)
-
-served_same : (i j n : ℕ) (make : ℕ → Make) (link : Option SessionId) (d e : Core) (table device : ℕ → AbstractDevice) (p : JobState) (served : Bool) → j ≢ i → IsApart link n → Left i make n d e table device → IsServed j make d link served table (session_by j table p) → IsServed j make e link served device (session_by j device p)
-served_same i j n make None d e table device p true off apart l h = absurd h
-served_same i j n make (Some id) d e table device p true off apart l h =
-    subst (λ (s : AbstractSession). SessionRefines j make e id.number device s) (sym (session_same i j d.registry e.registry table device p off l.others))
-    (stands_as i j id.number make d e table device _ off (ap session_in (l.slots id.number (apart id refl))) (record { held = l.held; shows = l.shows; others = l.others }) h)
-served_same i j n make link d e table device p false off apart l h =
-    (ap session_in (slot_same link n d e apart l.slots) ∙ h.0, table_stands i j make l.held d.stream d.registry e.registry table device off l.shows l.others h.1)
-
-sits_same : (t : Ghost) (i j n : ℕ) (d e : Core) (device : ℕ → AbstractDevice) (endpoint : Endpoint) → j ≢ i → IsApart endpoint.link n → Left i t.system.make n d e t.system.device device → EndpointRefinesAt t d j endpoint → EndpointRefinesAt (ghost_with device t) e j endpoint
-sits_same t i j n d e device endpoint off apart l h =
-    let slot = slot_same endpoint.link n d e apart l.slots in
-    record {
-      job_is = h.job_is;
-      exchanges = h.exchanges;
-      carries = subst (λ (x : Option (SessionSlot DeviceState)). WiresMatch (t.wires j) x endpoint) (sym slot) h.carries;
-      means = h.means;
-      served = served_same i j n t.system.make endpoint.link d e t.system.device device (t.system.job j) (t.system.job j).served off apart l h.served;
-      speaks = subst (λ (x : Option (SessionSlot DeviceState)). Speaks (t.jobs j).device (t.system.job j) (session_in x)) (sym slot) h.speaks;
-      waits = h.waits;
-      pends = h.pends;
-    }
-
 -- ---- all jobs
 
 abbrev pub AreApart : WorldCore → ℕ → Type 0
@@ -150,7 +101,7 @@ jobs_left t w i n e device beyond nowhere {held = held} shown apart h l = record
   stands = record {
     sound = sound_with t.system device h.sound same l.fit;
     asks = λ j. sets_same j (make_for t.system j) (t.system.job j).client.known (device_for t.system j) (device (wanted_place t.system j)) (t.system.job j).todo (same j) (h.asks j);
-    endpoints = λ j endpoint at. sits_same t i j n w.daemon e device endpoint (other j endpoint at) (λ id is. apart j endpoint id at is) l (h.endpoints j endpoint at);
+    endpoints = λ j endpoint at. sits_same t i j n w.daemon e device endpoint (other j endpoint at) (λ id is. apart j endpoint id at is) (record { held = l.held; shows = l.shows; others = l.others; slots = l.slots }) (h.endpoints j endpoint at);
   };
   slots = l.slots;
   held = λ k j off e_held. stays_by i j (t.system.device k) (device k) (slice_get w.daemon.registry k) (slice_get e.registry k) off (l.others.places k) e_held;

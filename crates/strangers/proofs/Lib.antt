@@ -4,3 +4,9 @@ mod Calls
 mod Others
 mod Acting
 mod Coming
+mod Steadying
+mod Moving
+mod Going
+mod Together
+mod Holders
+mod There

@@ -1,5 +1,4 @@
--- A world among strangers: each session that no endpoint has is one's, and whatever any of them does, all stand as
--- before.
+-- A world among strangers: whatever any of them does, all stand as before.
 use Rattle.std.specs.Prelude.{ℕ, ◌≡◌, ◌≢◌, ◌<◌, ◌≤◌, ◌+◌, ◌⊎◌, false, Some, None, List, [], ◌∷◌, length, slice_get}
 use Rattle.device_api.specs.State.{DeviceState}
 use Rattle.saned_requests.specs.declared.session.Session.{Session as RequestSession}
@@ -15,37 +14,19 @@ use Rattle.daemon_refines.specs.Cores.{SessionRefines}
 use Rattle.event_world.specs.declared.endpoint.Endpoint.{Endpoint}
 use Rattle.event_world.specs.Worlds.{WorldCore}
 use Rattle.world_refines.specs.GhostStates.{Ghost}
-use Rattle.world_refines.specs.WorldRefinement.{WorldRefines}
+use Rattle.world_refines.specs.WorldRefinement.{IsNobodys, StrangerStands, WorldRefines, stranger_of}
 use Rattle.strangers.specs.LeavingJobs.{JobsStand, ghost_with}
 
--- the session of that number is no endpoint's
-abbrev pub IsNobodys : WorldCore → ℕ → Type 0
-IsNobodys w n =
-    (j : ℕ) (endpoint : Endpoint) (id : SessionId) → slice_get w.endpoints j ≡ Some endpoint → endpoint.link ≡ Some id
-    → id.number ≢ n
-
--- by the model it is that of a client behind all jobs
-abbrev pub stranger_of : WorldCore → ℕ → ℕ
-stranger_of w n = length w.endpoints + n
-
--- **stands among (`StandsAmong`, `StrangerStands`, `IsNobodys`, `stranger_of`)**: all jobs stand, and all strangers:
--- each session that no endpoint has is by the model that of a client behind all jobs, any session, with up to four
--- devices; and of such a number that has none nothing is held.
-pub record StrangerStands (t : Ghost) (w : WorldCore) (n : ℕ) : Type 0 where
-  -- he has no job: that wants a place where nothing is listed
-  pub nowhere : (device_for t.system (stranger_of w n)).listed ≡ false
-  -- he has a session, any one, with up to four devices
-  pub sits : (session : RequestSession DeviceState) → session_of w.daemon n ≡ Some session → IsNobodys w n
-      → (s : AbstractSession) × SessionRefines (stranger_of w n) t.system.make w.daemon n t.system.device s
-  -- or none, and holds nothing
-  pub rests : (session_of w.daemon n ≡ None) ⊎ (IsNobodys w n → ⊥)
-      → TableRefines (stranger_of w n) t.system.make [] w.daemon.registry t.system.device
-
+-- **stands among (`StandsAmong`)**: all jobs stand, and all strangers: each session that no endpoint has is by the
+-- model that of a client behind all jobs, any session, with up to four devices; and of such a number that has none
+-- nothing is held.
 pub record StandsAmong (t : Ghost) (w : WorldCore) : Type 0 where
   pub jobs : JobsStand t w
   pub limits : HasDaemonLimits w.daemon
   pub links : (j : ℕ) (endpoint : Endpoint) (id : SessionId) → slice_get w.endpoints j ≡ Some endpoint
       → endpoint.link ≡ Some id → id.number < w.daemon.opened
+  -- a stranger has no job: that wants a place where nothing is listed
+  pub nowhere : (n : ℕ) → (device_for t.system (stranger_of w n)).listed ≡ false
   pub strangers : (n : ℕ) → StrangerStands t w n
 
 -- **acts of strangers (`StrangerActs`, `StrangersAct`)**: what the daemon does for a session that is nobody's, any of a
@@ -88,10 +69,11 @@ abbrev pub StrangersDoAll : Type 0
 StrangersDoAll =
     (t : Ghost) (w v : WorldCore) (acts : List StrangerAct) → StandsAmong t w → StrangersAct acts w v → ActsLeave t w v
 
--- ---- and in any world of jobs, whatever events led there, they may come
+-- ---- and in any world of jobs and strangers, whatever led there, they may come
 
--- **may have strangers (`MayHaveStrangers`)**: a world that refines, as each does to which events led, whose daemon is
--- within its limits, and of which nothing is said of jobs that there are not but that they want no device.
+-- **may have strangers (`MayHaveStrangers`)**: a world that refines, as each does to which events led, or acts of
+-- strangers among them; whose daemon is within its limits; and of which nothing is said of jobs that there are not but
+-- that they want no device.
 pub record MayHaveStrangers (t : Ghost) (w : WorldCore) : Type 0 where
   pub refines : WorldRefines t w
   pub limits : HasDaemonLimits w.daemon

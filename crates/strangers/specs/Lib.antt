@@ -1,2 +1,3 @@
 pub mod LeavingJobs
 pub mod Among
+pub mod Together

@@ -4,6 +4,7 @@
 
 ghost use Rattle.strangers.specs.Among.{StrangersDoAll, StrangersDoAnything, StrangersMayCome};
 ghost use Rattle.strangers.specs.LeavingJobs.{StrangersCome, StrangersConnect, StrangersLeave, StrangersLoseData, StrangersSayAnything, StrangersTakeData, StrangersTakeReplies};
+ghost use Rattle.strangers.specs.Together.{AllGoOnTogether, AllIsKeptAmongStrangers, JobsGoOn, OneHolderAmong, StrangersCompleteNoFile, StrangersKeepWorlds, ThereAreStrangers};
 
 #[tactic(none)]
 pub fn strangers_say_anything()
@@ -43,6 +44,45 @@ pub fn strangers_do_anything()
 
 #[tactic(none)]
 pub fn strangers_may_come()
-    /// In any world of jobs, whatever events led there, all stand so, and strangers may come.
+    /// In any world of jobs and strangers, whatever led there, all stand so, and strangers may come.
     ensures { StrangersMayCome }
+{}
+
+#[tactic(none)]
+pub fn jobs_go_on_among_strangers()
+    /// Whatever event comes to a job or a device among strangers, it is the steps of the model that it is among jobs
+    /// alone; all stand behind it, and each stranger's session is as it was, with its devices and replies, but that a
+    /// page that is laid in may come to a device that he holds.
+    ensures jobs { JobsGoOn }
+    /// Whatever act comes of a stranger, the world stands for the same with other devices, and no session of another
+    /// is touched, nor a device that another holds.
+    ensures strangers { StrangersKeepWorlds }
+    /// So it is of events of jobs and acts of strangers, any number, in any order.
+    ensures all { AllGoOnTogether }
+{}
+
+#[tactic(none)]
+pub fn all_is_kept_among_strangers()
+    /// From a new world on, behind any events and any acts of strangers, in any order, each job keeps all that it
+    /// keeps among jobs alone: a scan that is done has a file that denotes its picture, one that is not has no whole
+    /// file, each ending has its cause, and no job runs out of moves.
+    ensures { AllIsKeptAmongStrangers }
+{}
+
+#[tactic(none)]
+pub fn strangers_complete_no_file()
+    /// The smallest lie against it is refuted: that some history leads to a whole file of a job that is not done.
+    ensures { StrangersCompleteNoFile }
+{}
+
+#[tactic(none)]
+pub fn no_two_hold_one_device()
+    /// Among jobs and strangers no two sessions hold one device, whoever they are.
+    ensures { OneHolderAmong }
+{}
+
+#[tactic(none)]
+pub fn there_are_strangers()
+    /// There are such histories: in any new world a stranger may come, and then a session stands that no job has.
+    ensures { ThereAreStrangers }
 {}

@@ -11,4 +11,5 @@ pub mod Laying
 pub mod Loading
 pub mod Unplugging
 pub mod Quiet
+pub mod LeftAlone
 pub mod Followed

@@ -7,6 +7,7 @@ pub mod Sees
 pub mod Held
 pub mod ListedPlaces
 pub mod Spoken
+pub mod Strangers
 pub mod Changing
 pub mod Taking
 pub mod Failing

@@ -1,13 +1,11 @@
 -- What a delivery of a frame's data to its client does to what stands.
 use Rattle.std.specs.Prelude.{ℕ, ◌≡◌, ◌⊎◌, ◌++◌, Option, Some, None, List, [], ◌∷◌}
-use Rattle.sane_fixed.specs.declared.status.Status.{Status as Code}
+use Rattle.sane_fixed.specs.declared.status.Status.{Status}
 use Rattle.sane_fixed.specs.Status.{status_code}
 use Rattle.data_records.specs.declared.records.RecordPhase.{RecordPhase}
 use Rattle.data_records.specs.declared.records.RecordPhase.TheVariants as phases
 use Rattle.data_records.specs.Records.{CarriesRecords}
 use Rattle.frame_join.specs.FrameHistory.{JoinHistory}
-use Rattle.system_model.specs.AbstractMessages.{Status}
-use Rattle.system_model.specs.Devices.{abstract_status}
 use Rattle.system_model.specs.Client.{requests_sent}
 use Rattle.system_model.specs.Actions as actions
 use Rattle.system_model.specs.Transitions.{Transition, By, IsHistory, IsUnderWay}
@@ -41,9 +39,9 @@ pub record ReadsBytes (phase : RecordPhase) (piece : List ℕ) (steps : List act
 pub record GhostReadsEnd (phase : RecordPhase) (piece : List ℕ) (steps : List actions.Action) (t : Ghost) (i : ℕ)
     (u : Ghost) (sent : List ℕ) : Type 0 where
   pub given : List ℕ
-  pub code : Code
+  pub code : Status
   pub brings : RecordsBring phase (phases.Ended (status_code code)) piece given
-  pub steps_are : steps ≡ read_actions given ++ actions.Finishes (abstract_status code) ∷ []
+  pub steps_are : steps ≡ read_actions given ++ actions.Finishes code ∷ []
   pub spells
       : SpellsAsked (t.jobs i) (job_state u i).client
       (requests_sent (job_state t i).session.job.task (job_state u i).client.stage) sent

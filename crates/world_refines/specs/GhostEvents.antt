@@ -1,12 +1,12 @@
 -- What an event does to what stands: its steps by the model, and the bytes that it moves.
 use Rattle.std.specs.Prelude.{ℕ, ◌≡◌, ◌≢◌, ◌<◌, ◌⊎◌, ◌++◌, true, false, Option, Some, None, IsSome, option_map, List}
 use Rattle.std.specs.Prelude.{[], ◌∷◌}
-use Rattle.sane_fixed.specs.declared.status.Status.{Status as Code}
+use Rattle.sane_fixed.specs.declared.status.Status.{Status}
 use Rattle.sane_fixed.specs.declared.status.Status.TheVariants as codes
 use Rattle.sane_fixed.specs.Status.{status_code}
 use Rattle.data_records.specs.Records.{counted_record, end_record}
 use Rattle.sane_fixed.specs.declared.device_info.DeviceInfo.{DeviceInfo}
-use Rattle.system_model.specs.Devices.{abstract_status, Make}
+use Rattle.system_model.specs.Devices.{Make}
 use Rattle.system_model.specs.Client.{Idle, abstract_farewell}
 use Rattle.system_model.specs.Daemon.{Waiting, Streaming, Ending}
 use Rattle.system_model.specs.Actions as actions
@@ -85,7 +85,7 @@ abbrev pub IsRecordOf : actions.Action → List ℕ → Type 0
 IsRecordOf (actions.Turns bytes) text = text ≡ counted_record bytes
 IsRecordOf actions.TurnsLast text = text ≡ end_record (status_code codes.Eof)
 IsRecordOf actions.TurnsShort text = text ≡ end_record (status_code codes.Eof)
-IsRecordOf (actions.TurnsNamed status) text = (code : Code) × (abstract_status code ≡ status)
+IsRecordOf (actions.TurnsNamed status) text = (code : Status) × (code ≡ status)
     × (text ≡ end_record (status_code code))
 IsRecordOf (actions.TurnsFault fault) text = text ≡ end_record (status_code codes.IoError)
 IsRecordOf actions.TurnsOff text = text ≡ end_record (status_code codes.Cancelled)

@@ -32,7 +32,7 @@ use Rattle.event_world.specs.Endpoints.{finished_page}
 use Rattle.event_world.specs.Rounds.{RestsAt}
 use Rattle.event_world.specs.Worlds.{AreNew, IsFitJob, Runs, WorldCore}
 use Rattle.world_refines.specs.GhostStates.{Ghost, job_state}
-use Rattle.world_refines.specs.WorldRefinement.{WorldRefines}
+use Rattle.world_refines.specs.WorldRefinement.{HasNoStrangers, WorldRefines}
 use Rattle.world_refines.specs.Costs.{Pays}
 use Rattle.world_refines.specs.FailedSources.{AllAlong, FailsInSome}
 use Rattle.world_refines.specs.GhostEvents.{GhostCan, MayHaveSource, CanLoad, CanUnplug, GhostConnects, Dials, GivesUp}
@@ -108,6 +108,8 @@ pub record RunRefines (source : Source → SourceState) (events : List Event) (t
       → MarksLead (device_view (t.system.make d) (t.system.device d)) (all_marks d t.system steps)
       (device_view (t.system.make d) ((after_all t.system steps).device d))
   pub stands : WorldRefines ghost_then v
+  -- they bring no stranger
+  pub alone : HasNoStrangers w → HasNoStrangers v
   -- each source that fails by them failed in one of the events, and counted it, and so each reply that breaks a session
   -- off
   pub failures : AllAlong (FailsInSome source events t w v) t.system steps
@@ -171,6 +173,7 @@ pub record Promises (u : Ghost) (v : WorldCore) : Type 0 where
 pub record PromisesAreKept (source : Source → SourceState) (events : List Event) (t : Ghost)
     (w v : WorldCore) : Type 0 where
   pub run : RunRefines source events t w v
+  pub alone : HasNoStrangers v
   pub promises : Promises run.ghost_then v
 
 abbrev pub AllIsKept : Type 0

@@ -19,7 +19,7 @@ use Rattle.daemon_refines.specs.Cores.{fresh_devices}
 use Rattle.event_world.specs.declared.endpoint.Endpoint.{Endpoint}
 use Rattle.event_world.specs.Worlds.{AreNew, IsFitJob, WorldCore}
 use Rattle.world_refines.specs.GhostStates.{Ghost, Wires, abstract_job}
-use Rattle.world_refines.specs.WorldRefinement.{WorldRefines, numbers_from}
+use Rattle.world_refines.specs.WorldRefinement.{HasNoStrangers, WorldRefines, numbers_from}
 use Rattle.world_refines.specs.Costs.{Pays}
 
 -- a daemon of these devices, with whatever users; no session was opened yet
@@ -53,9 +53,9 @@ wires_of (Some p) = record { up = p.client.out; asking = []; down = []; telling 
 abbrev pub info_of_state : DeviceState → DeviceInfo
 info_of_state s = s.info
 
--- **a new world (`initial_ghost`, `NewWorldsRefine`, `NewWorldsPay`)**: of each job nothing is told: all clients are as
--- at first, all devices lie in their places, and nothing is on the way but what clients have written before they are
--- connected; and its jobs have moves enough for all that is to come.
+-- **a new world (`initial_ghost`, `NewWorldsRefine`, `NewWorldsAreAlone`, `NewWorldsPay`)**: of each job nothing is
+-- told: all clients are as at first, all devices lie in their places, no session stands, and nothing is on the way but
+-- what clients have written before they are connected; and its jobs have moves enough for all that is to come.
 --
 -- Of these jobs nothing is told yet. (The other job stands for those that there are not.)
 abbrev pub initial_ghost : (ℕ → PageSources) → List Job → Job → List DeviceState → List Entry → List Endpoint → Ghost
@@ -80,6 +80,10 @@ NewWorldsRefine =
     → AreNew jobs w.endpoints → IsNewDaemon devices w.daemon → HaveOwnNames devices → All HasLimits devices
     → HaveSourcesAt sources devices → All IsFitJob jobs
     → WorldRefines (initial_ghost sources jobs other devices w.daemon.users w.endpoints) w
+
+-- no session stands there yet
+abbrev pub NewWorldsAreAlone : Type 0
+NewWorldsAreAlone = (devices : List DeviceState) (w : WorldCore) → IsNewDaemon devices w.daemon → HasNoStrangers w
 
 -- its jobs have moves enough for all that is to come
 abbrev pub NewWorldsPay : Type 0

@@ -1,6 +1,6 @@
 -- The model's requests and replies on the way, as the bytes of connections.
 use Rattle.std.specs.Prelude.{ℕ, ◌≡◌, ◌++◌, IsSome, Option, Some, None, List, [], ◌∷◌}
-use Rattle.sane_fixed.specs.declared.status.Status.{Status as Code}
+use Rattle.sane_fixed.specs.declared.status.Status.{Status}
 use Rattle.sane_fixed.specs.Status.{status_code}
 use Rattle.sane_fixed.specs.declared.device_info.DeviceInfo.{DeviceInfo}
 use Rattle.wire_message.specs.declared.message.Reply.{Reply as Answer}
@@ -13,8 +13,7 @@ use Rattle.client_replies.specs.declared.progress.Progress.{Progress}
 use Rattle.client_replies.specs.declared.progress.Progress.TheVariants as stages
 use Rattle.client_replies.specs.ProtocolStates.{target_of, wanted_port}
 use Rattle.net_client.specs.ReplyPieces.{IsReply}
-use Rattle.system_model.specs.AbstractMessages.{AbstractReply, AbstractRequest, Status}
-use Rattle.system_model.specs.Devices.{abstract_status}
+use Rattle.system_model.specs.AbstractMessages.{AbstractReply, AbstractRequest}
 use Rattle.system_model.specs.Client as model
 use Rattle.system_model.specs.Daemon.{TransferState, Quiet, Waiting, Streaming, Ending}
 use Rattle.client_refines.specs.DecodedReplies.{Says, decoded_reply_at}
@@ -70,7 +69,7 @@ SpellsReplies place progress (r ∷ s ∷ due) text = ⊥
 -- the bytes on the way to a reader: whole records so far, or all of them with their end
 abbrev pub CarriesFlight : RecordPhase → List ℕ → List ℕ → Option Status → Type 0
 CarriesFlight phase text flight None = CarriesRecords phase phases.Head text flight
-CarriesFlight phase text flight (Some status) = (code : Code) × (abstract_status code ≡ status)
+CarriesFlight phase text flight (Some status) = (code : Status) × (code ≡ status)
     × RecordsContinue phase text flight (status_code code)
 
 -- no byte of a frame is on the way, and no end of one

@@ -2,7 +2,7 @@
 use Rattle.std.specs.Prelude.{◌<◌, ℕ, ◌≡◌, ◌≢◌, ◌⊎◌, true, false, Option, Some, None, IsSome, option_map, List, ◌∷◌}
 use Rattle.std.specs.Prelude.{map, slice_get}
 use Rattle.sane_fixed.specs.declared.kind.Kind.{Kind}
-use Rattle.sane_fixed.specs.declared.status.Status.{Status as Code}
+use Rattle.sane_fixed.specs.declared.status.Status.{Status}
 use Rattle.netpbm.specs.Picture.{Picture}
 use Rattle.netpbm.specs.Pnm.{Denotes}
 use Rattle.page_picture.specs.Meaning.{meaning_of}
@@ -18,7 +18,7 @@ use Rattle.scan_job.specs.declared.report.Report.{Report}
 use Rattle.scan_job.specs.declared.report.Reports.{Reports}
 use Rattle.system_model.specs.AbstractMessages as words
 use Rattle.system_model.specs.Causes.{IsCauseAmong, TrayRanOut, WasUnsaid}
-use Rattle.system_model.specs.Devices.{Make, OptionsInForce, descriptors_in_force, readable_options, abstract_status}
+use Rattle.system_model.specs.Devices.{Make, OptionsInForce, descriptors_in_force, readable_options}
 use Rattle.system_model.specs.Client as model
 use Rattle.system_model.specs.AbstractInForce as ruled
 use Rattle.system_model.specs.AbstractInForce.{AreAnswered, values_of}
@@ -28,7 +28,6 @@ use Rattle.system_model.specs.Transitions.{IsUnderWay}
 use Rattle.system_model.specs.Invariants.{IsCaused}
 use Rattle.system_model.specs.Sync.{IsPermitted, AllInForce}
 use Rattle.client_refines.specs.Filled.{IsFilled}
-use Rattle.client_refines.specs.DecodedReplies.{why_of}
 use Rattle.client_refines.specs.ClientRefinement.{descs, common_abstract_report, common_report, known_values}
 use Rattle.client_refines.specs.ClientRefinement.{requested_setting}
 use Rattle.client_replies.specs.ProtocolStates.{is_running}
@@ -49,7 +48,7 @@ use Rattle.world_refines.specs.WorldRefinement.{WorldRefines}
 -- Of each setting, in order: what its text reads as, the nearest admitted value, and INEXACT just where the two differ.
 -- They are put one after another from the defaults on, each by the descriptors in force then.
 pub record AreReported (t : Ghost) (i : ℕ) (settings : List Report) : Type 0 where
-  pub reports : List words.Report
+  pub reports : List words.AbstractReport
   pub options : OptionsInForce
   pub are : map common_abstract_report reports ≡ map common_report settings
   pub forced : ruled.abstract_in_force (make_for t.system i) (map requested_setting (t.jobs i).settings.items)
@@ -85,9 +84,8 @@ pub record KeepsPromise (t : Ghost) (i : ℕ) (reports : Reports) : Type 0 where
   pub devices : (t.jobs i).task ≡ tasks.List → AreListed t i reports.devices
 
 -- another ending has its cause
-abbrev pub HasCause : Ghost → ℕ → Code → Why → Type 0
-HasCause t i status why = (w : words.Why) × (why_of why ≡ Some w)
-    × IsCaused (make_for t.system i) (job_state t i).session (abstract_status status) w
+abbrev pub HasCause : Ghost → ℕ → Status → Why → Type 0
+HasCause t i status why = IsCaused (make_for t.system i) (job_state t i).session status why
 
 -- **outcomes (`IsOutcome`, `KeepsPromise`, `HasCause`)**: a job that runs is under way; one that is done has its
 -- settings put one after another from the defaults on, each reported with what its text reads as by the descriptors in

@@ -1,7 +1,8 @@
 -- What a world stands for.
-use Rattle.std.specs.Prelude.{ℕ, ◌≡◌, ◌<◌, ◌≤◌, ◌⊎◌, ◌++◌, suc, Bool, true, false, not, is_some, Option, Some}
-use Rattle.std.specs.Prelude.{if◌then◌else◌, None, IsSome, option_map, List, [], ◌∷◌, length, map, slice_get}
+use Rattle.std.specs.Prelude.{ℕ, ◌≡◌, ◌≢◌, ◌<◌, ◌≤◌, ◌+◌, ◌⊎◌, ◌++◌, suc, Bool, true, false, not, is_some, Option}
+use Rattle.std.specs.Prelude.{if◌then◌else◌, Some, None, IsSome, option_map, List, [], ◌∷◌, length, map, slice_get}
 use Rattle.std.specs.List.{AllByRecursion}
+use Rattle.sane_fixed.specs.declared.status.Status.{Status}
 use Rattle.netpbm.specs.Picture.{Picture}
 use Rattle.netpbm.specs.Pnm.{Denotes}
 use Rattle.page_picture.specs.Page.{IsPageView}
@@ -17,7 +18,7 @@ use Rattle.dispatch.specs.declared.table.place.Slot.TheVariants.{In, Out, Gone}
 use Rattle.saned_requests.specs.declared.session.Session.{Session}
 use Rattle.saned_core.specs.declared.session_slot.SessionSlot.{SessionSlot}
 use Rattle.saned_core.specs.declared.session_slot.SessionId.{SessionId}
-use Rattle.saned_core.specs.DaemonStates.{Core, replies_in, session_slot_of, session_in}
+use Rattle.saned_core.specs.DaemonStates.{Core, replies_in, session_slot_of, session_in, session_of}
 use Rattle.saned_core.specs.Feeding.{input_in}
 use Rattle.scan_job.specs.JobSize.{HasCount}
 use Rattle.scan_job.specs.declared.job.Job.{Job}
@@ -26,7 +27,7 @@ use Rattle.scan_job.specs.declared.outcome.Outcome.{Outcome}
 use Rattle.client_replies.specs.declared.progress.Progress.TheVariants as stages
 use Rattle.client_replies.specs.ProtocolStates.{target_of, is_batch, is_running}
 use Rattle.net_client.specs.ClientStates.{ClientRepresents, protocol_of}
-use Rattle.system_model.specs.AbstractMessages.{Init, Status}
+use Rattle.system_model.specs.AbstractMessages.{Init}
 use Rattle.system_model.specs.Devices.{Make}
 use Rattle.system_model.specs.Client.{ClientView, JobStage, Idle, Running, Done, Ended, Greeting, with_progress}
 use Rattle.system_model.specs.Causes.{IsCauseAmong, LinkOutOfMemory}
@@ -228,12 +229,11 @@ EndpointRefinesAt t core i endpoint =
     (t.history i) (t.pages i) core endpoint
 
 -- where there is no job nothing happens
-pub record IsNobody (t : Ghost) (w : WorldCore) (i : ℕ) : Type 0 where
+pub record IsNobody (t : Ghost) (i : ℕ) : Type 0 where
   pub stage : (t.system.job i).client.stage ≡ Idle
   pub linked : (t.system.job i).linked ≡ false
   pub transfer : (t.system.job i).session.transfer ≡ Quiet
   pub image : (t.wires i).image ≡ None
-  pub table : TableRefines i t.system.make [] w.daemon.registry t.system.device
 
 -- what never changes is the world's
 pub record IsOf (t : Ghost) (w : WorldCore) : Type 0 where
@@ -259,13 +259,38 @@ pub record IsLinked (endpoints : List Endpoint) (n : ℕ) : Type 0 where
   pub link : endpoint.link ≡ Some id
   pub number : id.number ≡ n
 
--- each slot is for the session of an endpoint, and no two are for one
-pub record SlotsAreOfEndpoints (slots : List (Option (SessionSlot DeviceState)))
-    (endpoints : List Endpoint) : Type 0 where
-  pub linked : (k : ℕ) (slot : SessionSlot DeviceState) → slice_get slots k ≡ Some (Some slot)
-      → IsLinked endpoints slot.number
-  pub apart : (j k : ℕ) (a b : SessionSlot DeviceState) → slice_get slots j ≡ Some (Some a)
-      → slice_get slots k ≡ Some (Some b) → a.number ≡ b.number → j ≡ k
+-- no two slots have one number
+abbrev pub HaveDifferentNumbers : List (Option (SessionSlot DeviceState)) → Type 0
+HaveDifferentNumbers slots =
+    (j k : ℕ) (a b : SessionSlot DeviceState) → slice_get slots j ≡ Some (Some a) → slice_get slots k ≡ Some (Some b)
+    → a.number ≡ b.number → j ≡ k
+
+-- the session of that number is no endpoint's
+abbrev pub IsNobodys : WorldCore → ℕ → Type 0
+IsNobodys w n =
+    (j : ℕ) (endpoint : Endpoint) (id : SessionId) → slice_get w.endpoints j ≡ Some endpoint → endpoint.link ≡ Some id
+    → id.number ≢ n
+
+-- by the model it is that of a client behind all jobs
+abbrev pub stranger_of : WorldCore → ℕ → ℕ
+stranger_of w n = length w.endpoints + n
+
+-- **sessions of strangers (`StrangerStands`, `IsNobodys`, `stranger_of`)**: each session that no endpoint has is by
+-- the model that of a client behind all jobs, any session, with up to four devices; and for a number that has none,
+-- or that an endpoint has, such a client holds nothing.
+pub record StrangerStands (t : Ghost) (w : WorldCore) (n : ℕ) : Type 0 where
+  -- he has a session, any one, with up to four devices
+  pub sits : (session : Session DeviceState) → session_of w.daemon n ≡ Some session → IsNobodys w n
+      → (s : RuledSession) × SessionRefines (stranger_of w n) t.system.make w.daemon n t.system.device s
+  -- or none, and holds nothing
+  pub rests : (session_of w.daemon n ≡ None) ⊎ IsLinked w.endpoints n
+      → TableRefines (stranger_of w n) t.system.make [] w.daemon.registry t.system.device
+
+-- **without strangers (`HasNoStrangers`, `IsLinked`)**: each slot of the daemon is for the session of an endpoint.
+abbrev pub HasNoStrangers : WorldCore → Type 0
+HasNoStrangers w =
+    (k : ℕ) (slot : SessionSlot DeviceState) → slice_get w.daemon.slots k ≡ Some (Some slot)
+    → IsLinked w.endpoints slot.number
 
 -- where the sources of its device give their rows, the pages that a job started are page views
 abbrev pub AreStartedViews : (ℕ → Make) → JobState → Type 0
@@ -275,10 +300,10 @@ AreStartedViews make p = (make p.session.job.wants).steady ≡ true
 -- **refines (`WorldRefines`, `EndpointRefines`, `EndpointClientRefines`, `WiresMatch`, `Means`, `IsServed`)**: each
 -- job's endpoint is what stands of the job: its client reads as the client view of the model, its files are those of
 -- its joins, the bytes are those on its connections and mean what the model has on the way, and its session, if it goes
--- on, is that of the model and speaks as they do; a frame that streams or is to be ended has no end yet; each slot is
--- for the session of an endpoint, and no two endpoints have one; the devices' sources are steady and their pages page
--- views; the places that were shown to a list are those of devices (`AreListedBelow`); and what stands by the model is
--- sound.
+-- on, is that of the model and speaks as they do; a frame that streams or is to be ended has no end yet; no two slots
+-- are for one session, no two endpoints have one, and a session that no endpoint has is a stranger's; the devices'
+-- sources are steady and their pages page views; the places that were shown to a list are those of devices
+-- (`AreListedBelow`); and what stands by the model is sound.
 pub record WorldRefines (t : Ghost) (w : WorldCore) : Type 0 where
   pub sound : Invariant t.system
   pub asks : (i : ℕ) → AsksAsHeld t.system i
@@ -286,11 +311,12 @@ pub record WorldRefines (t : Ghost) (w : WorldCore) : Type 0 where
   pub is_of : IsOf t w
   pub endpoints : (i : ℕ) (endpoint : Endpoint) → slice_get w.endpoints i ≡ Some endpoint
       → EndpointRefinesAt t w.daemon i endpoint
-  pub beyond : (i : ℕ) → length w.endpoints ≤ i → IsNobody t w i
+  pub beyond : (i : ℕ) → length w.endpoints ≤ i → IsNobody t i
+  pub strangers : (n : ℕ) → StrangerStands t w n
   pub own : HaveOwn w
   pub links : (i : ℕ) (endpoint : Endpoint) (id : SessionId) → slice_get w.endpoints i ≡ Some endpoint
       → endpoint.link ≡ Some id → id.number < w.daemon.opened
   pub slots : AllByRecursion (IsBelow w.daemon.opened) w.daemon.slots
-  pub slots_are : SlotsAreOfEndpoints w.daemon.slots w.endpoints
+  pub apart : HaveDifferentNumbers w.daemon.slots
   pub faithful : AreFaithful w.daemon
   pub begun : (i : ℕ) → AreStartedViews t.system.make (t.system.job i)

@@ -13,6 +13,9 @@ pub fn a_run_refines()
     /// no page is laid in within a scan.
     /// Carried by: `a_run_refines`: `marks` of `RunRefines`
     ///
+    /// Where each session is an endpoint's, it is so behind them: no event of a job brings a stranger.
+    /// Carried by: `a_run_refines`: `alone` of `RunRefines`
+    ///
     /// Where a page source fails in them by the model, it failed in one of the events and counted that: the job's
     /// session held the device in the world in front of it, and in the daemon behind it holds it stopped, or has
     /// given it back so; at a START, of a job under way.

@@ -167,21 +167,16 @@ IsStartOf (requests.Start word) = Unit {0}
 IsStartOf q = ⊥
 
 free_stays : (users : List Entry) (d : RequestContext) (q : Request) (said : RequestAnswer) (new : RequestContext) → AnswersFree users d q said new → OneStays (IsStartOf q) d.session new.session
-free_stays users d (requests.Init version user) said new h = held_one ⊥ d.session new.session (ap (λ (x : RequestContext). x.session.held) h.1)
-free_stays users d requests.GetDevices said new h = held_one ⊥ d.session new.session (ap (λ (x : RequestContext). x.session.held) h.1)
 free_stays users d (requests.Open name) said new h = opens_stays ⊥ users d name (free_word d.session.held) (find_name name d.registry) said new h
 free_stays users d (requests.Close word) said new h = by_context ⊥ d.session new (close_lease d word (held_by d.session.held word)) h.1 (closes_stays ⊥ d word (held_by d.session.held word))
-free_stays users d (requests.GetOptionDescriptors word) said new h = held_one ⊥ d.session new.session (ap (λ (x : RequestContext). x.session.held) h.1)
 free_stays users d (requests.ControlOption word n action kind value) said new h =
     on_stays ⊥ (λ _. (control_lease d.session.strings (held_by d.session.held word) n action kind value).1) d.session new.session word (ap (λ (x : RequestContext). x.session.held) h.1) (λ lease e busy. control_had ⊥ d.session.strings (held_by d.session.held word) n action kind value lease e busy)
-free_stays users d (requests.GetParameters word) said new h = held_one ⊥ d.session new.session (ap (λ (x : RequestContext). x.session.held) h.1)
 free_stays users d (requests.Start word) said new h =
     let s = start_stays (Unit {0}) tt d word _ h.held h.starts in
     let held : new.session.held ≡ h.held.session.held = ap (λ (x : RequestContext). x.session.held) h.gives.1 in
     λ v lease at busy. s v lease (ap (λ (x : List (Option (Lease DeviceState))). held_by x v) (sym held) ∙ at) busy
 free_stays users d (requests.Cancel word) said new h = by_context ⊥ d.session new (cancel_held d word (held_by d.session.held word)) h.1 (cancels_stays ⊥ d word (held_by d.session.held word))
-free_stays users d (requests.Authorize resource user password) said new h = held_one ⊥ d.session new.session (ap (λ (x : RequestContext). x.session.held) h.1)
-free_stays users d requests.Exit said new h = held_one ⊥ d.session new.session (ap (λ (x : RequestContext). x.session.held) h.1)
+free_stays users d q said new h = held_one ⊥ d.session new.session (ap (λ (x : RequestContext). x.session.held) h.1)
 
 awaiting_stays : (users : List Entry) (d : RequestContext) (awaited : AwaitedAuthorization) (q : Request) (said : RequestAnswer) (new : RequestContext) → AnswersAwaiting users d awaited q said new → OneStays (IsStartOf q) d.session new.session
 awaiting_stays users d awaited (requests.Authorize resource user password) said new h = by_context ⊥ d.session new (reply_if_allowed h.allowed (without_awaited d) awaited.name).1 h.gives.1 (allowed_stays ⊥ d awaited.name h.allowed)

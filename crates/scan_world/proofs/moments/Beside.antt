@@ -4,6 +4,9 @@ use Rattle.std.specs.Prelude.{◌≢◌, eqb, map, option_map, slice_get, slice_
 use Rattle.std.specs.List.{AllByRecursion}
 use Rattle.std.proofs.Common.{◌≡◌, ◌∙◌, ◌⊎◌, ℕ, zero, suc, List, [], ◌∷◌, ◌++◌, Bool, true, false, Some, None, inl, inr, refl, sym, ap, subst, eqb-true}
 use Rattle.std.proofs.lemmas.Option.{get_or_from_slice_get}
+use Rattle.scan_job.specs.declared.outcome.Why.{Why}
+use Rattle.sane_fixed.specs.declared.status.Status.{Status}
+use Rattle.sane_fixed.specs.declared.status.Status.TheVariants.{DeviceBusy, Inval}
 use Rattle.sane_fixed.specs.declared.status.Status.TheVariants as codes
 use Rattle.frame_join.specs.FrameHistory.{JoinHistory}
 use Rattle.md5_auth.specs.declared.users.Entry.{Entry}
@@ -14,13 +17,11 @@ use Rattle.scan_job.specs.declared.outcome.Why.TheVariants as whys
 use Rattle.event_world.specs.declared.endpoint.Endpoint.{Endpoint}
 use Rattle.event_world.specs.Worlds.{WorldCore}
 use Rattle.daemon_refines.proofs.Moved.{own}
-use Rattle.system_model.specs.AbstractMessages as words
-use Rattle.system_model.specs.AbstractMessages.{Status, Why, Busy, Inval}
 use Rattle.system_model.specs.AbstractDevices.{AbstractDevice}
 use Rattle.system_model.specs.Actions.{Action}
 use Rattle.system_model.specs.Causes.{Cause, Explains, GaveUp, LinkLost, LinkOutOfMemory, SourceFailed, NamesEof, Names, Unforced, WasUnlisted, HadNoPicture, WasHeld, Disallowed, TrayWasEmpty, TrayRanOut, ClientOutOfMemory, IsCauseAmong, IsExplained, WasUnsaid}
 use Rattle.system_model.specs.Client.{ClientView, JobStage, Idle, Running, Done, Ended}
-use Rattle.system_model.specs.Devices.{Make, abstract_status}
+use Rattle.system_model.specs.Devices.{Make}
 use Rattle.system_model.specs.Invariants.{Invariant, IsCaused, StageInvariant}
 use Rattle.system_model.specs.SystemStates.{JobState, SystemState, device_for, listed_devices, make_for, wanted_place}
 use Rattle.system_model.specs.Transitions.{By, IsEnabled, IsHistory, IsUnderWay, Loads, Transition, Unplugs, after_all, after_transition}
@@ -88,7 +89,7 @@ who_holds below h w o s n m f place a held =
     let there : HasDevice h d = subst (HasDevice h) place ((f.slots (wanted_place s n)).held m held) in
     let name : name_at (infos_of h) d ≡ Some o.device = name_there h.devices d there.0 there.1 ∙ ap (λ (x : List ℕ). Some x) (name_of h o.device there.0 there.1) in
     let named : name_at a.1.ghost.infos (wanted_place s n) ≡ Some o.device = subst (λ (k : ℕ). name_at a.1.ghost.infos k ≡ Some o.device) (sym place) (subst (λ (infos : _). name_at infos d ≡ Some o.device) (sym (infos_there h w o s n a)) name) in
-    let r = holder_has a.1.ghost a.1.at.before (wanted_place s n) m o.device a.1.stands (ap (λ (u : SystemState). (u.device (wanted_place s n)).holder) a.1.state ∙ held) named in
+    let r = holder_has a.1.ghost a.1.at.before (wanted_place s n) m o.device a.1.stands a.1.alone (ap (λ (u : SystemState). (u.device (wanted_place s n)).holder) a.1.state ∙ held) named in
     has_own below (history_up_to h a.1.at.front) a.1.at.before o a.1.at.led_before m o.device r.0 r.1
 
 -- ---- a job that met that another had its device, and may be told so, or was
@@ -97,14 +98,14 @@ abbrev HitBy : List Cause → JobStage → Type 0
 HitBy met Idle = IsCauseAmong WasHeld met
 HitBy met (Running g) = IsCauseAmong WasHeld met
 HitBy met Done = ⊥
-HitBy met (Ended status why) = (status ≡ Busy) × (why ≡ words.Answer)
+HitBy met (Ended status why) = (status ≡ DeviceBusy) × (why ≡ whys.Answer)
 
 abbrev pub Hit : JobState → Type 0
 Hit p = HitBy p.session.met p.client.stage
 
 -- and never met that its options name that status
 abbrev Unnamed : JobState → Type 0
-Unnamed p = IsUnderWay p.client.stage → IsCauseAmong (Names Busy) p.session.met → ⊥
+Unnamed p = IsUnderWay p.client.stage → IsCauseAmong (Names DeviceBusy) p.session.met → ⊥
 
 hit_under : (met : List Cause) (stage : JobStage) → IsUnderWay stage → IsCauseAmong WasHeld met → HitBy met stage
 hit_under met Idle on c = c
@@ -133,24 +134,24 @@ comes_of P c (x ∷ xs) all (inl same) = subst P (sym same) all.0
 comes_of P c (x ∷ xs) all (inr m) = comes_of P c xs all.1 m
 
 -- what explains the answer that it is busy
-explains_busy : (c : Cause) → Explains c Busy words.Answer → (c ≡ WasHeld) ⊎ (c ≡ Names Busy)
-explains_busy GaveUp x = absurd (let clash : Busy ≡ words.GivenUp = x.0 in cc)
-explains_busy LinkLost x = absurd (let clash : Busy ≡ words.IoError = x.0 in cc)
-explains_busy LinkOutOfMemory x = absurd (let clash : Busy ≡ words.IoError = x.0 in cc)
+explains_busy : (c : Cause) → Explains c DeviceBusy whys.Answer → (c ≡ WasHeld) ⊎ (c ≡ Names DeviceBusy)
+explains_busy GaveUp x = absurd (let clash : DeviceBusy ≡ codes.Cancelled = x.0 in cc)
+explains_busy LinkLost x = absurd (let clash : DeviceBusy ≡ codes.IoError = x.0 in cc)
+explains_busy LinkOutOfMemory x = absurd (let clash : DeviceBusy ≡ codes.IoError = x.0 in cc)
 explains_busy WasUnsaid x = absurd x
-explains_busy SourceFailed x = absurd (let clash : Busy ≡ words.IoError = x.0 in cc)
-explains_busy NamesEof x = absurd (let clash : Busy ≡ words.IoError = x.0 in cc)
+explains_busy SourceFailed x = absurd (let clash : DeviceBusy ≡ codes.IoError = x.0 in cc)
+explains_busy NamesEof x = absurd (let clash : DeviceBusy ≡ codes.IoError = x.0 in cc)
 explains_busy (Names status) x = inr (ap (λ (s : Status). Names s) (sym x.0))
-explains_busy Unforced x = absurd (let clash : Busy ≡ Inval = x.0 in cc)
-explains_busy WasUnlisted x = absurd (let clash : Busy ≡ Inval = x.0 in cc)
-explains_busy HadNoPicture x = absurd (let clash : Busy ≡ Inval = x.0 in cc)
+explains_busy Unforced x = absurd (let clash : DeviceBusy ≡ Inval = x.0 in cc)
+explains_busy WasUnlisted x = absurd (let clash : DeviceBusy ≡ Inval = x.0 in cc)
+explains_busy HadNoPicture x = absurd (let clash : DeviceBusy ≡ Inval = x.0 in cc)
 explains_busy WasHeld x = inl refl
-explains_busy Disallowed x = absurd (let clash : Busy ≡ words.AccessDenied = x.0 in cc)
-explains_busy TrayWasEmpty x = absurd (let clash : Busy ≡ words.NoDocs = x.0 in cc)
+explains_busy Disallowed x = absurd (let clash : DeviceBusy ≡ codes.AccessDenied = x.0 in cc)
+explains_busy TrayWasEmpty x = absurd (let clash : DeviceBusy ≡ codes.NoDocs = x.0 in cc)
 explains_busy TrayRanOut x = absurd x
-explains_busy ClientOutOfMemory x = absurd (let clash : Busy ≡ words.NoMem = x.0 in cc)
+explains_busy ClientOutOfMemory x = absurd (let clash : DeviceBusy ≡ codes.NoMem = x.0 in cc)
 
-busy_among : (met : List Cause) → IsExplained Busy words.Answer met → IsCauseAmong WasHeld met ⊎ IsCauseAmong (Names Busy) met
+busy_among : (met : List Cause) → IsExplained DeviceBusy whys.Answer met → IsCauseAmong WasHeld met ⊎ IsCauseAmong (Names DeviceBusy) met
 busy_among [] x = absurd x
 busy_among (c ∷ met) (inl e) = elim (explains_busy c e) [
   | inl same ↦ inl (inl (sym same))
@@ -161,16 +162,16 @@ busy_among (c ∷ met) (inr x) = elim (busy_among met x) [
   | inr m ↦ inr (inr m)
 ]
 
-caused_busy : (k : Make) (b : _) → IsCaused k b Busy words.Answer → IsCauseAmong WasHeld b.met ⊎ IsCauseAmong (Names Busy) b.met
+caused_busy : (k : Make) (b : _) → IsCaused k b DeviceBusy whys.Answer → IsCauseAmong WasHeld b.met ⊎ IsCauseAmong (Names DeviceBusy) b.met
 caused_busy k b (inl x) = busy_among b.met x
-caused_busy k b (inr x) = absurd (let clash : Busy ≡ Inval = x.1.0 in cc)
+caused_busy k b (inr x) = absurd (let clash : DeviceBusy ≡ Inval = x.1.0 in cc)
 
 -- what it met, where it is hit
-hit_met : (i : ℕ) (k : Make) (p : JobState) (dev : AbstractDevice) (stage : JobStage) → StageInvariant i k p dev stage → HitBy p.session.met stage → IsCauseAmong WasHeld p.session.met ⊎ IsCauseAmong (Names Busy) p.session.met
+hit_met : (i : ℕ) (k : Make) (p : JobState) (dev : AbstractDevice) (stage : JobStage) → StageInvariant i k p dev stage → HitBy p.session.met stage → IsCauseAmong WasHeld p.session.met ⊎ IsCauseAmong (Names DeviceBusy) p.session.met
 hit_met i k p dev Idle h hit = inl hit
 hit_met i k p dev (Running g) h hit = inl hit
 hit_met i k p dev Done h hit = absurd hit
-hit_met i k p dev (Ended status why) h (busy, answer) = caused_busy k p.session (subst (λ (s : Status). IsCaused k p.session s words.Answer) busy (subst (λ (y : Why). IsCaused k p.session status y) answer h))
+hit_met i k p dev (Ended status why) h (busy, answer) = caused_busy k p.session (subst (λ (s : Status). IsCaused k p.session s whys.Answer) busy (subst (λ (y : Why). IsCaused k p.session status y) answer h))
 
 -- ---- one step of job a
 
@@ -208,12 +209,12 @@ met_or h w o s a x c st m =
     ]
 
 -- its options name no status of a turn
-not_named : (h : History) (w : WorldCore) (o : Job) (s : SystemState) (a : ℕ) (ja : Job) (x : Action) → Stand h w o s (By a x) → slice_get h.jobs a ≡ Some ja → ja.device ≡ o.device → NamesNothing h ja → (s.job a).session.job ≡ abstract_job h.users (infos_of h) ja → IsUnderWay (s.job a).client.stage → Comes a (make_for s a) (s.job a) (device_for s a) x (Names Busy) → ⊥
+not_named : (h : History) (w : WorldCore) (o : Job) (s : SystemState) (a : ℕ) (ja : Job) (x : Action) → Stand h w o s (By a x) → slice_get h.jobs a ≡ Some ja → ja.device ≡ o.device → NamesNothing h ja → (s.job a).session.job ≡ abstract_job h.users (infos_of h) ja → IsUnderWay (s.job a).client.stage → Comes a (make_for s a) (s.job a) (device_for s a) x (Names DeviceBusy) → ⊥
 not_named h w o s a ja x st at named nothing is on c =
     let own : Own h a ja = record { at = at; apart = st.apart; same = st.below.same } in
     let streamed = streaming a (make_for s a) (s.job a) (device_for s a) (s.job a).client.stage on (st.sound.exchanges a) c.1 in
-    let told = told_by h a ja s Busy own (fine_for h o ja s named st.fine) is c.2 streamed.0 c.3 in
-    let clash : None ≡ Some Busy = ap (option_map abstract_status) (sym (nothing told.0)) ∙ told.1 in cc
+    let told = told_by h a ja s DeviceBusy own (fine_for h o ja s named st.fine) is c.2 streamed.0 c.3 in
+    let clash : None ≡ Some DeviceBusy = (sym (nothing told.0)) ∙ told.1 in cc
 
 -- where it is hit it was, or it asks while job b has the device
 hit_back : (h : History) (w : WorldCore) (o : Job) (s : SystemState) (a b : ℕ) (ja jb : Job) (x : Action) → Pair h o a b ja jb → Stand h w o s (By a x) → Besides h s a b ja jb → Invariant (after_transition s (By a x)) → Hit ((after_transition s (By a x)).job a) → Hit (s.job a) ⊎ (Opens (s.job a) × IsUnderWay (s.job a).client.stage × IsPast (s.job b))
@@ -239,14 +240,14 @@ hit_back h w o s a b ja jb x pair st bes sound hit = by_stage (s.job a).client.s
         let by_b : (device_for s b).holder ≡ Some b = subst (λ (n : ℕ). (s.device n).holder ≡ Some b) (place ∙ sym (place_at h o s b jb pair.b_at pair.b_named st.fine)) (holder ∙ ap (λ (n : ℕ). Some n) same) in
         inr (opens, on, held_past b (make_for s b) (s.job b) (device_for s b) (st.sound.exchanges b) by_b)
 
-    under : IsUnderWay (s.job a).client.stage → IsCauseAmong WasHeld now.session.met ⊎ IsCauseAmong (Names Busy) now.session.met → Hit (s.job a) ⊎ (Opens (s.job a) × IsUnderWay (s.job a).client.stage × IsPast (s.job b))
+    under : IsUnderWay (s.job a).client.stage → IsCauseAmong WasHeld now.session.met ⊎ IsCauseAmong (Names DeviceBusy) now.session.met → Hit (s.job a) ⊎ (Opens (s.job a) × IsUnderWay (s.job a).client.stage × IsPast (s.job b))
     under on (inl m) = held on (met_or h w o s a x WasHeld st m)
-    under on (inr m) = elim (met_or h w o s a x (Names Busy) st m) [
+    under on (inr m) = elim (met_or h w o s a x (Names DeviceBusy) st m) [
       | inl c ↦ absurd (not_named h w o s a ja x st pair.a_at pair.a_named pair.a_nothing bes.is on c)
       | inr old ↦ absurd (bes.unnamed on old)
     ]
 
-    met_now : IsCauseAmong WasHeld now.session.met ⊎ IsCauseAmong (Names Busy) now.session.met
+    met_now : IsCauseAmong WasHeld now.session.met ⊎ IsCauseAmong (Names DeviceBusy) now.session.met
     met_now = hit_met a (make_for (after_transition s (By a x)) a) now (device_for (after_transition s (By a x)) a) now.client.stage (sound.exchanges a) hit
 
     by_stage : (st : JobStage) → (s.job a).client.stage ≡ st → Hit (s.job a) ⊎ (Opens (s.job a) × IsUnderWay (s.job a).client.stage × IsPast (s.job b))
@@ -277,7 +278,7 @@ own_beside h w o s a b ja jb x pair st sound apart bes =
           );
       unnamed = λ on m.
           let was = on_by st.below.last s a x st.may a true (own a) on in
-          elim (met_or h w o s a x (Names Busy) st m) [
+          elim (met_or h w o s a x (Names DeviceBusy) st m) [
             | inl c ↦ not_named h w o s a ja x st pair.a_at pair.a_named pair.a_nothing bes.is was c
             | inr old ↦ bes.unnamed was old
           ];
@@ -337,9 +338,8 @@ ended_hit : (u : Ghost) (w : WorldCore) (i : ℕ) (p : Endpoint) → WorldRefine
 ended_hit u w i p h at is =
     let me = job_state u i in
     let d = ended_reads (place_of_info u.infos) (target_of (u.jobs i)) me.session.job (map (λ (q : JoinHistory). q.ended) (u.pages i)) p.client.outcome p.client.progress p.client.notes (u.history i) (client_at_greeting me.client.stage me.client) codes.DeviceBusy whys.Answer (h.endpoints i p at).exchanges.reads.stands is in
-    let stage = woken_ended me.client.stage me.client (abstract_status codes.DeviceBusy) d.0 refl d.1.1 in
-    let answer : d.0 ≡ words.Answer = (let both : Some words.Answer ≡ Some d.0 = d.1.0 in cc) in
-    subst (HitBy me.session.met) (sym stage) (refl, answer)
+    let stage = woken_ended me.client.stage me.client codes.DeviceBusy whys.Answer refl d in
+    subst (HitBy me.session.met) (sym stage) (refl, refl)
 
 own_first : (h : History) (w : WorldCore) (o : Job) (l : LedTo h w) (n : ℕ) (x : Job) → slice_get h.jobs n ≡ Some x → ((at_first h w o l).system.job n).session.job ≡ abstract_job h.users (infos_of h) x
 own_first h w o l n x at = ap (λ (users : List Entry). abstract_job users (infos_of h) (slice_index_or h.jobs n o)) l.users_are ∙ ap (λ (y : Job). abstract_job h.users (infos_of h) y) (get_or_from_slice_get h.jobs n x o at)

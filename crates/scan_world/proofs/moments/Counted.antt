@@ -2,8 +2,11 @@
 use Rattle.std.specs.Prelude.{eqb, length}
 use Rattle.std.specs.List.{AllByRecursion}
 use Rattle.std.proofs.Common.{◌≡◌, ◌≢◌, ◌∙◌, ◌⊎◌, ℕ, suc, List, [], ◌∷◌, ◌++◌, Bool, true, false, Option, Some, None, inl, inr, refl, sym, ap, subst, eqb-true}
+use Rattle.scan_job.specs.declared.outcome.Why.TheVariants.{Lost, Memory, Cancelled}
+use Rattle.sane_fixed.specs.declared.status.Status.TheVariants.{NoDocs, IoError, NoMem}
+use Rattle.sane_fixed.specs.declared.status.Status.TheVariants as statuses
 use Rattle.scan_job.specs.declared.job.Job.{Job}
-use Rattle.system_model.specs.AbstractMessages.{AbstractReply, AbstractRequest, Challenge, Start, Refused, NoDocs, IoError, NoMem, GivenUp, Lost, Memory, Cancelled}
+use Rattle.system_model.specs.AbstractMessages.{AbstractReply, AbstractRequest, Challenge, Start, Refused}
 use Rattle.system_model.specs.AbstractDevices.{AbstractDevice, Resting, is_held_by}
 use Rattle.system_model.specs.Actions
 use Rattle.system_model.specs.Actions.{Action, answer_next, environment_of, job_after_action, served_by}
@@ -374,7 +377,7 @@ not_idle i k ds p dev g (Actions.Loses memory) at inv may idle off = stopped_not
 not_idle i k ds p dev g (Actions.LosesImage memory) at inv may idle off = stopped_not IoError Lost p.client.stage g at idle
 not_idle i k ds p dev g (Actions.Breaks memory) at inv may idle off = plain_not p.client.stage g at idle
 not_idle i k ds p dev g Actions.RunsOutOfMemory at inv may idle off = stopped_not NoMem Memory p.client.stage g at idle
-not_idle i k ds p dev g Actions.Stops at inv may idle off = stopped_not GivenUp Cancelled p.client.stage g at idle
+not_idle i k ds p dev g Actions.Stops at inv may idle off = stopped_not statuses.Cancelled Cancelled p.client.stage g at idle
 
 running_step : Laws → (h : History) (w : WorldCore) (i : ℕ) (job : Job) (s : SystemState) (g : AbstractProgress) (x : Action) → (s.job i).client.stage ≡ Running g → Here h i job s → Here h i job (after_transition s (By i x)) → AnsweredSo h w job s (By i x) → IsEnabled s (By i x) → CountedSo h w i job (s.job i) → KeptAt h w i job (after_transition s (By i x))
 running_step laws h w i job s g x at e f so may was =

@@ -58,7 +58,7 @@ between job stages.Over notes past m at unturned h fits = absurd h
 outcome_between : (place : DeviceInfo → ℕ) (target : JobTarget) (job : AbstractJob) (pages : List (List Frame)) (o : Outcome) (progress : Progress) (notes : Notes) (past : JoinHistory) (m : ClientView) → m.stage ≡ Running Starting → (progress ≡ stages.Turning → ⊥) → OutcomeRefines place target job pages o progress notes past m → HistoryFits target.task o progress past → (is_done o ≡ false) × IsBetweenFrames past
 outcome_between place target job pages outcomes.Running progress notes past m at unturned h fits = (refl, between job progress notes past m at unturned h.1 fits.1)
 outcome_between place target job pages (outcomes.Done reports) progress notes past m at unturned h fits = absurd (let clash : Done ≡ Running Starting = sym h.stage ∙ at in cc)
-outcome_between place target job pages (outcomes.Ended status why) progress notes past m at unturned h fits = absurd (let clash : Ended _ h.0 ≡ Running Starting = sym h.1.1 ∙ at in cc)
+outcome_between place target job pages (outcomes.Ended status why) progress notes past m at unturned h fits = absurd (let clash : Ended status why ≡ Running Starting = sym h ∙ at in cc)
 
 pub mapped_length : {X Y : Type 0} (f : X → Y) (xs : List X) → length (map f xs) ≡ length xs
 mapped_length f [] = refl

@@ -3,6 +3,9 @@ use Rattle.std.specs.Prelude.{eqb, length, map, slice_get, Contains}
 use Rattle.std.specs.List.{AllByRecursion}
 use Rattle.std.proofs.Common.{◌≡◌, ◌∙◌, ◌⊎◌, ◌≢◌, ℕ, List, [], ◌∷◌, ◌++◌, Bool, true, false, Option, Some, None, inl, inr, refl, sym, ap, subst, eqb-true}
 use Rattle.std.proofs.lemmas.Option.{get_or_from_slice_get}
+use Rattle.scan_job.specs.declared.outcome.Why.{Why}
+use Rattle.sane_fixed.specs.declared.status.Status.{Status}
+use Rattle.sane_fixed.specs.declared.status.Status.TheVariants.{Eof}
 use Rattle.device_api.specs.Kinds.{Page}
 use Rattle.device_api.specs.State.{DeviceState}
 use Rattle.page_picture.specs.Meaning.{meaning_of}
@@ -16,7 +19,7 @@ use Rattle.md5_auth.specs.ChallengeReading.{challenge_of}
 use Rattle.client_replies.specs.declared.progress.Progress.{Progress}
 use Rattle.client_replies.specs.ProtocolStates.{scans}
 use Rattle.client_refines.specs.ClientRefinement.{requested_setting, task_of}
-use Rattle.system_model.specs.AbstractMessages.{AbstractRequest, Challenge, Open, Authorize, Start, Status, Why, Eof}
+use Rattle.system_model.specs.AbstractMessages.{AbstractRequest, Challenge, Open, Authorize, Start}
 use Rattle.system_model.specs.AbstractDevices.{AbstractDevice, Begin, Resting}
 use Rattle.system_model.specs.AbstractInForce.{abstract_in_force}
 use Rattle.system_model.specs.Actions
@@ -147,7 +150,7 @@ has_there h w i job s j o f a held =
     let there : HasDevice h d = subst (HasDevice h) place ((f.slots (wanted_place s i)).held j held) in
     let name : name_at (infos_of h) d ≡ Some job.device = name_there h.devices d there.0 there.1 ∙ ap (λ (n : List ℕ). Some n) (name_of h job.device there.0 there.1) in
     let named : name_at a.1.ghost.infos (wanted_place s i) ≡ Some job.device = subst (λ (k : ℕ). name_at a.1.ghost.infos k ≡ Some job.device) (sym place) (subst (λ (infos : _). name_at infos d ≡ Some job.device) (sym (infos_there h w job s i a)) name) in
-    let r = holder_has a.1.ghost a.1.at.before (wanted_place s i) j job.device a.1.stands (ap (λ (u : SystemState). (u.device (wanted_place s i)).holder) a.1.state ∙ held) named in
+    let r = holder_has a.1.ghost a.1.at.before (wanted_place s i) j job.device a.1.stands a.1.alone (ap (λ (u : SystemState). (u.device (wanted_place s i)).holder) a.1.state ∙ held) named in
     (r.0, r.1, sym (ap (λ (u : SystemState). u.device (wanted_place s i)) a.1.state) ∙ r.2, r.3)
 
 held_by_other : (h : History) (w : WorldCore) (i : ℕ) (job : Job) (s : SystemState) (j : ℕ) → Here h i job s → IsUnderWay (s.job i).client.stage → Front h w job s i → Opens (s.job i) → (device_for s i).holder ≡ Some j → j ≢ i → rows.WasHeld h w i job

@@ -32,7 +32,7 @@ use Rattle.world_refines.specs.GhostEvents.{GhostCan, GhostHappens}
 use Rattle.world_refines.specs.GhostStates.{Ghost}
 use Rattle.world_refines.specs.FailedSources.{AllAlong, CutIn, FailedIn, FailsInSome, FailsSo, HasFailed, InEvent}
 use Rattle.world_refines.specs.MainTheorem.{AllIsKept, AreFittingLoads, AreTrueLoads, EventsFollow, GhostComes, GhostComesAll, IsFittingLoad}
-use Rattle.world_refines.specs.WorldRefinement.{WorldRefines}
+use Rattle.world_refines.specs.WorldRefinement.{HasNoStrangers, WorldRefines}
 use Rattle.world_refines.proofs.frames.Seeing.{data_decides}
 use Rattle.world_refines.proofs.frames.TurnEvents.{turn_decides}
 use Rattle.world_refines.proofs.frames.Unimaged.{image_decides}
@@ -49,7 +49,7 @@ use Rattle.scan_world.specs.Sessions.{CameAsItRan, CanAt, Happened, SessionAt}
 use Rattle.scan_world.proofs.Led.{led_then}
 use Rattle.scan_world.proofs.Rows.{SendsOrLoses, WasStarved}
 use Rattle.scan_world.proofs.Events.{answers_event, breaks_event, chokes_event, fault_event, image_event, loses_event, named_event, short_event}
-use Rattle.scan_world.proofs.Scanned.{infos_of}
+use Rattle.scan_world.proofs.Scanned.{infos_of, kept_by}
 use Rattle.scan_world.proofs.Changing.{LoadChanges, changes_or_same, changing_of, with_changing}
 use Rattle.scan_world.proofs.Traced.{AreOf, StepOf, comes_of}
 use Rattle.scan_world.proofs.moments.Entries.{own_party, past_end}
@@ -77,6 +77,7 @@ pub record AnswersAt (h : History) (w : WorldCore) (other : Job) (s : SystemStat
   pub ghost : Ghost
   pub fixed : IsFixed h other ghost
   pub stands : WorldRefines ghost at.before
+  pub alone : HasNoStrangers at.before
   pub state : ghost.system ≡ s
   pub failed : FailedThere fault at.before at.behind.daemon i (job_at h other i).device
   pub came : CameAsItRan i at.before at.behind
@@ -246,6 +247,7 @@ fails_there F s i challenge (Some g) fails on f is = fails on
 -- an event, between the worlds that these states stand for
 record Between (h : History) (w : WorldCore) (other : Job) (e : Event) (m : Moment h w e) (t g : Ghost) : Type 0 where
   pub stands : WorldRefines t m.before
+  pub alone : HasNoStrangers m.before
   pub fixed : IsFixed h other t
   pub behind : WorldRefines g m.behind
   pub came : CameEvent t.system m.before m.behind e
@@ -262,6 +264,7 @@ at_first_step h w other e m t g b (By i (Actions.Answers challenge fault)) xs of
       ghost = t;
       fixed = b.fixed;
       stands = r.1.1.stands;
+      alone = r.1.1.alone;
       state = refl;
       failed = r.1.2;
       came = r.1.1.came on;
@@ -278,11 +281,11 @@ later_steps keeps h w other infos e [] s sound spent of may = tt
 later_steps keeps h w other infos e (x ∷ xs) s sound spent of may =
     (not_again h w other infos e s x spent of.0 may.0, later_steps keeps h w other infos e xs (after_transition s x) (keeps s (x ∷ []) sound (may.0, tt)) (spent_then infos e s x sound of.0) of.1 may.1)
 
-event_answers : HistoriesKeepInvariant → (h : History) (w : WorldCore) (other : Job) (e : Event) (m : Moment h w e) (t g : Ghost) → WorldRefines t m.before → IsFixed h other t → WorldRefines g m.behind → (xs : List Transition) → CameEvent t.system m.before m.behind e ⊎ (xs ≡ []) → g.system ≡ after_all t.system xs → AreOf t.infos e xs → AllAlong (FailsSo (FailedHere h w other e m)) t.system xs → IsHistory t.system xs → AllAlong (AnsweredSo h w other) t.system xs
-event_answers keeps h w other e m t g stands fixed behind [] came rules of fails may = tt
-event_answers keeps h w other e m t g stands fixed behind (x ∷ xs) (inr none) rules of fails may = absurd (let clash : ◌≡◌ {A = List Transition} (x ∷ xs) [] = none in cc)
-event_answers keeps h w other e m t g stands fixed behind (x ∷ xs) (inl came) rules of fails may =
-    let b : Between h w other e m t g = record { stands = stands; fixed = fixed; behind = behind; came = came } in
+event_answers : HistoriesKeepInvariant → (h : History) (w : WorldCore) (other : Job) (e : Event) (m : Moment h w e) (t g : Ghost) → WorldRefines t m.before → HasNoStrangers m.before → IsFixed h other t → WorldRefines g m.behind → (xs : List Transition) → CameEvent t.system m.before m.behind e ⊎ (xs ≡ []) → g.system ≡ after_all t.system xs → AreOf t.infos e xs → AllAlong (FailsSo (FailedHere h w other e m)) t.system xs → IsHistory t.system xs → AllAlong (AnsweredSo h w other) t.system xs
+event_answers keeps h w other e m t g stands alone fixed behind [] came rules of fails may = tt
+event_answers keeps h w other e m t g stands alone fixed behind (x ∷ xs) (inr none) rules of fails may = absurd (let clash : ◌≡◌ {A = List Transition} (x ∷ xs) [] = none in cc)
+event_answers keeps h w other e m t g stands alone fixed behind (x ∷ xs) (inl came) rules of fails may =
+    let b : Between h w other e m t g = record { stands = stands; alone = alone; fixed = fixed; behind = behind; came = came } in
     (at_first_step h w other e m t g b x xs of.0 of.1 rules fails.0, later_steps keeps h w other t.infos e xs (after_transition t.system x) (keeps t.system (x ∷ []) stands.sound (may.0, tt)) (spent_then t.infos e t.system x stands.sound of.0) of.1 may.1)
 
 -- ---- what else comes to a job that is under way, comes by an event that came to it as it ran
@@ -333,7 +336,7 @@ happened_steps last h w other infos e t here (x ∷ xs) s was may of fails sends
 can_there : (y : JobEvent) (Does : Ghost → ℕ → List Transition → Ghost → Type 0) → DecidesAt y Does → (t : Ghost) (w : WorldCore) (i : ℕ) (o : Option Endpoint) → slice_get w.endpoints i ≡ o → WorldRefines t w → GhostCan t i y → CanAt w i y
 can_there y Does all t w i None at h may =
     let high = past_end w.endpoints i at in
-    absurd (nobody_can t w i y (h.beyond i high) (subst (λ (n : ℕ). n ≤ i) (sym h.is_of.count) high) may)
+    absurd (nobody_can t i y (h.beyond i high) (subst (λ (n : ℕ). n ≤ i) (sym h.is_of.count) high) may)
 can_there y Does all t w i (Some p) at h may = (p, at, (all t w i p h at (subst (λ (n : ℕ). i < n) (sym h.is_of.count) (slice_get_within w.endpoints i p at))).can may)
 
 can_or_nothing : (y : JobEvent) (Does : Ghost → ℕ → List Transition → Ghost → Type 0) → DecidesAt y Does → (Then : Type 0) (t : Ghost) (w : WorldCore) (i : ℕ) (steps : List Transition) (u : Ghost) → WorldRefines t w → GhostHappens (GhostCan t i y) Then t steps u → CanAt w i y ⊎ (steps ≡ [])
@@ -414,7 +417,7 @@ one_comes_then follow keeps last all h w other make e m more t loads fit stands 
       legal = history_then t.system r.steps later.steps r.legal (subst (λ (s : SystemState). IsHistory s later.steps) r.rules_are later.legal);
       rules_are = later.rules_are ∙ (ap (λ (s : SystemState). after_all s later.steps) r.rules_are ∙ sym (after_then t.system r.steps later.steps));
       stands = later.stands;
-      answered = along_then (AnsweredSo h w other) t.system r.steps later.steps (event_answers keeps h w other e m t g stands fixed r.stands r.steps came r.rules_are of fails r.legal) (subst (λ (s : SystemState). AllAlong (AnsweredSo h w other) s later.steps) r.rules_are later.answered);
+      answered = along_then (AnsweredSo h w other) t.system r.steps later.steps (event_answers keeps h w other e m t g stands (kept_by all (history_up_to h m.front) m.before other m.led_before).alone fixed r.stands r.steps came r.rules_are of fails r.legal) (subst (λ (s : SystemState). AllAlong (AnsweredSo h w other) s later.steps) r.rules_are later.answered);
       happened = along_then (HappenedSo h w other) t.system r.steps later.steps (event_happened last h w other e m t r.steps r.legal of fails (event_sends e t g u v r.steps stands r.stands c) came) (subst (λ (s : SystemState). AllAlong (HappenedSo h w other) s later.steps) r.rules_are later.happened);
     }
 

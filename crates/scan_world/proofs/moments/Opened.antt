@@ -2,6 +2,11 @@
 use Rattle.std.specs.Prelude.{eqb, slice_get, ◌≢◌}
 use Rattle.std.specs.List.{AllByRecursion}
 use Rattle.std.proofs.Common.{◌≡◌, ◌∙◌, ◌⊎◌, ℕ, List, [], ◌∷◌, ◌++◌, Bool, true, false, Option, Some, None, inl, inr, refl, sym, ap, subst, eqb-true}
+use Rattle.scan_job.specs.declared.outcome.Why.{Why}
+use Rattle.scan_job.specs.declared.outcome.Why.TheVariants.{Lost, Memory, Cancelled}
+use Rattle.sane_fixed.specs.declared.status.Status.{Status}
+use Rattle.sane_fixed.specs.declared.status.Status.TheVariants.{IoError, NoMem}
+use Rattle.sane_fixed.specs.declared.status.Status.TheVariants as statuses
 use Rattle.page_picture.specs.Shows.{Frame}
 use Rattle.sane_fixed.specs.declared.device_info.DeviceInfo.{DeviceInfo}
 use Rattle.device_api.specs.Kinds.{Page}
@@ -12,11 +17,11 @@ use Rattle.dispatch.specs.declared.table.place.Slot.{Slot}
 use Rattle.dispatch.specs.declared.table.place.Slot.TheVariants.{In, Out, Gone}
 use Rattle.dispatch.specs.Table.{find_name}
 use Rattle.scan_job.specs.declared.job.Job.{Job}
-use Rattle.system_model.specs.AbstractMessages.{AbstractReply, AbstractRequest, Challenge, Status, Why, IoError, NoMem, GivenUp, Lost, Memory, Cancelled, Init, GetDevices, Open, Authorize, Describe, Get, Set, Parameters, Start, Cancel, Close, Exit, Greeted, Listed, Opened, Challenged, Described, Got, Gave, Shaped, Begun, Acked, Refused, same_text}
+use Rattle.system_model.specs.AbstractMessages.{AbstractReply, AbstractRequest, Challenge, Open, Authorize, Get, Set, Start, Greeted, Listed, Opened, Challenged, Described, Got, Gave, Shaped, Begun, Acked, Refused, same_text}
 use Rattle.system_model.specs.AbstractDevices.{AbstractDevice, ScanPhase, Resting, Between, Reading, is_held_by, is_resting, without_first}
 use Rattle.system_model.specs.Actions
 use Rattle.system_model.specs.Actions.{Action, answer_next, environment_of, job_after_action, served_by}
-use Rattle.system_model.specs.Client.{AbstractJob, AbstractProgress, ClientView, JobStage, Task, Idle, Running, Done, Ended, Greeting, Listing, Opening, Allowing, Describing, Putting, Getting, Starting, Shaping, Imaging, List_, Show, SetOnly, Scan, Batch, progress_after_init}
+use Rattle.system_model.specs.Client.{AbstractJob, AbstractProgress, ClientView, JobStage, AbstractTask, Idle, Running, Done, Ended, Greeting, Listing, Opening, Allowing, Describing, Putting, Getting, Starting, Shaping, Imaging, List_, Show, SetOnly, Scan, Batch, progress_after_init}
 use Rattle.system_model.specs.ClientReplies.{finish_in, hear_at, hear_in, client_after_bytes, stage_after_stop}
 use Rattle.system_model.specs.Daemon.{Environment, FailureCounts, TransferState, Quiet, Waiting, Streaming, Ending, allow, answer, answer_awaited, answer_if, begin_page, begin_pass, get_reply, hand_out_device, open_listed, put_reply, refuse, serve, set_reply, start_at, start_effect, start_or_fail, start_page, take_listed}
 use Rattle.system_model.specs.Devices.{Make, AbstractAcceptedSet, accept_value, has_readable_value, picture_frames}
@@ -118,47 +123,20 @@ open_free : (i : ℕ) (k : Make) (dev : AbstractDevice) (c : TransferState) (x :
 open_free i k dev c x = open_grants (Grants dev None x Open) i k dev c x.challenge dev.listed x.guarded (λ listed unguarded free. record { opens = tt; listed = listed; free = free; permitted = inl unguarded })
 
 serve_grants : (i : ℕ) (k : Make) (dev : AbstractDevice) (c : TransferState) (x : Environment) (q : AbstractRequest) → TellsIf (Grants dev None x q) (serve i k dev c x q).told
-serve_grants i k dev c x Init = tt
-serve_grants i k dev c x GetDevices = tt
 serve_grants i k dev c x Open = open_free i k dev c x
-serve_grants i k dev c x (Authorize challenge) = tt
-serve_grants i k dev c x Describe = tt
 serve_grants i k dev c x (Get n) = get_grants (Grants dev None x (Get n)) k dev c n (has_readable_value k dev.options n)
 serve_grants i k dev c x (Set n value) = set_grants (Grants dev None x (Set n value)) k dev c n value (is_resting dev.phase)
-serve_grants i k dev c x Parameters = tt
 serve_grants i k dev c x Start = start_grants (Grants dev None x Start) k dev x c
-serve_grants i k dev c x Cancel = tt
-serve_grants i k dev c x Close = tt
-serve_grants i k dev c x Exit = tt
+serve_grants i k dev c x q = tt
 
 refuse_grants : (i : ℕ) (k : Make) (dev : AbstractDevice) (c : TransferState) (x : Environment) (q : AbstractRequest) → TellsIf (Grants dev None x q) (refuse i k dev c x q).told
-refuse_grants i k dev c x Init = tt
-refuse_grants i k dev c x GetDevices = tt
 refuse_grants i k dev c x Open = open_free i k dev c x
-refuse_grants i k dev c x (Authorize challenge) = tt
-refuse_grants i k dev c x Describe = tt
-refuse_grants i k dev c x (Get n) = tt
-refuse_grants i k dev c x (Set n value) = tt
-refuse_grants i k dev c x Parameters = tt
-refuse_grants i k dev c x Start = tt
-refuse_grants i k dev c x Cancel = tt
-refuse_grants i k dev c x Close = tt
-refuse_grants i k dev c x Exit = tt
+refuse_grants i k dev c x q = tt
 
 awaited_grants : (i : ℕ) (k : Make) (dev : AbstractDevice) (c : TransferState) (x : Environment) (sent : Challenge) (q : AbstractRequest) → TellsIf (Grants dev (Some sent) x q) (answer_awaited i k dev c x sent q).told
-awaited_grants i k dev c x sent Init = tt
-awaited_grants i k dev c x sent GetDevices = tt
-awaited_grants i k dev c x sent Open = tt
 awaited_grants i k dev c x sent (Authorize challenge) =
     allow_grants (Grants dev (Some sent) x (Authorize challenge)) i k dev c (same_text challenge sent) (x.allows sent) (λ allowed listed free. record { opens = tt; listed = listed; free = free; permitted = inr (sent, refl, allowed) })
-awaited_grants i k dev c x sent Describe = tt
-awaited_grants i k dev c x sent (Get n) = tt
-awaited_grants i k dev c x sent (Set n value) = tt
-awaited_grants i k dev c x sent Parameters = tt
-awaited_grants i k dev c x sent Start = tt
-awaited_grants i k dev c x sent Cancel = tt
-awaited_grants i k dev c x sent Close = tt
-awaited_grants i k dev c x sent Exit = tt
+awaited_grants i k dev c x sent q = tt
 
 if_grants : (b : Bool) (i : ℕ) (k : Make) (dev : AbstractDevice) (c : TransferState) (x : Environment) (q : AbstractRequest) → TellsIf (Grants dev None x q) (answer_if b i k dev c x q).told
 if_grants true i k dev c x q = serve_grants i k dev c x q
@@ -226,7 +204,7 @@ opened_by h w i job s x q rest e on served a todo guards allows g =
 
 -- ---- what is so of a job by what its client waits for
 
-abbrev pub OpenedAt : Type 0 → Task → JobStage → Type 0
+abbrev pub OpenedAt : Type 0 → AbstractTask → JobStage → Type 0
 OpenedAt F task Idle = Unit {0}
 OpenedAt F task (Running Greeting) = Unit {0}
 OpenedAt F task (Running Listing) = (task ≡ List_) ⊎ F
@@ -242,7 +220,7 @@ OpenedAt F task Done = task ≢ List_ → F
 OpenedAt F task (Ended status why) = Unit {0}
 
 -- whatever it goes on to, where it is opened
-went_on : (F : Type 0) (task : Task) (stage : JobStage) → F → OpenedAt F task stage
+went_on : (F : Type 0) (task : AbstractTask) (stage : JobStage) → F → OpenedAt F task stage
 went_on F task Idle f = tt
 went_on F task (Running Greeting) f = tt
 went_on F task (Running Listing) f = inr f
@@ -257,14 +235,14 @@ went_on F task (Running (Imaging params heard)) f = f
 went_on F task Done f = λ other. f
 went_on F task (Ended status why) f = tt
 
-greeted : (F : Type 0) (task : Task) → OpenedAt F task (Running (progress_after_init task))
+greeted : (F : Type 0) (task : AbstractTask) → OpenedAt F task (Running (progress_after_init task))
 greeted F List_ = inl refl
 greeted F Show = tt
 greeted F SetOnly = tt
 greeted F Scan = tt
 greeted F (Batch n) = tt
 
-listed_done : (F : Type 0) (task : Task) → (task ≡ List_) ⊎ F → task ≢ List_ → F
+listed_done : (F : Type 0) (task : AbstractTask) → (task ≡ List_) ⊎ F → task ≢ List_ → F
 listed_done F task (inl same) other = absurd (other same)
 listed_done F task (inr f) other = f
 
@@ -397,7 +375,7 @@ heard_in F (Ended status why) job m r at o t = subst (OpenedAt F job.task) (sym 
 
 -- ---- what bytes, and the end, of a frame make of it
 
-read_on : (F : Type 0) (task : Task) (stage : JobStage) (m : ClientView) (bytes : List ℕ) → m.stage ≡ stage → OpenedAt F task stage → OpenedAt F task (client_after_bytes stage m bytes).stage
+read_on : (F : Type 0) (task : AbstractTask) (stage : JobStage) (m : ClientView) (bytes : List ℕ) → m.stage ≡ stage → OpenedAt F task stage → OpenedAt F task (client_after_bytes stage m bytes).stage
 read_on F task (Running (Imaging params got)) m bytes at o = went_on F task (client_after_bytes (Running (Imaging params got)) m bytes).stage o
 read_on F task Idle m bytes at o = subst (OpenedAt F task) (sym at) o
 read_on F task (Running Greeting) m bytes at o = subst (OpenedAt F task) (sym at) o
@@ -412,7 +390,7 @@ read_on F task (Running Shaping) m bytes at o = subst (OpenedAt F task) (sym at)
 read_on F task Done m bytes at o = subst (OpenedAt F task) (sym at) o
 read_on F task (Ended status why) m bytes at o = subst (OpenedAt F task) (sym at) o
 
-finished_so : (F : Type 0) (task : Task) (stage : JobStage) (m : ClientView) (status : _) → m.stage ≡ stage → OpenedAt F task stage → OpenedAt F task (finish_in stage task m status).stage
+finished_so : (F : Type 0) (task : AbstractTask) (stage : JobStage) (m : ClientView) (status : _) → m.stage ≡ stage → OpenedAt F task stage → OpenedAt F task (finish_in stage task m status).stage
 finished_so F task (Running (Imaging params got)) m status at o = went_on F task (finish_in (Running (Imaging params got)) task m status).stage o
 finished_so F task Idle m status at o = subst (OpenedAt F task) (sym at) o
 finished_so F task (Running Greeting) m status at o = subst (OpenedAt F task) (sym at) o
@@ -427,7 +405,7 @@ finished_so F task (Running Shaping) m status at o = subst (OpenedAt F task) (sy
 finished_so F task Done m status at o = subst (OpenedAt F task) (sym at) o
 finished_so F task (Ended status_was why) m status at o = subst (OpenedAt F task) (sym at) o
 
-stopped_so : (F : Type 0) (task : Task) (status : Status) (why : Why) (stage : JobStage) → OpenedAt F task stage → OpenedAt F task (stage_after_stop status why stage)
+stopped_so : (F : Type 0) (task : AbstractTask) (status : Status) (why : Why) (stage : JobStage) → OpenedAt F task stage → OpenedAt F task (stage_after_stop status why stage)
 stopped_so F task status why Idle o = tt
 stopped_so F task status why (Running g) o = tt
 stopped_so F task status why Done o = o
@@ -470,7 +448,7 @@ own_so F i k ds p dev (Actions.Loses memory) may f o = (stopped_so F p.session.j
 own_so F i k ds p dev (Actions.LosesImage memory) may f o = (stopped_so F p.session.job.task IoError Lost p.client.stage o.0, o.1)
 own_so F i k ds p dev (Actions.Breaks memory) may f o = (o.0, tt)
 own_so F i k ds p dev Actions.RunsOutOfMemory may f o = (stopped_so F p.session.job.task NoMem Memory p.client.stage o.0, o.1)
-own_so F i k ds p dev Actions.Stops may f o = (stopped_so F p.session.job.task GivenUp Cancelled p.client.stage o.0, o.1)
+own_so F i k ds p dev Actions.Stops may f o = (stopped_so F p.session.job.task statuses.Cancelled Cancelled p.client.stage o.0, o.1)
 
 -- ---- all steps; of a job that is over, what was so at its end
 

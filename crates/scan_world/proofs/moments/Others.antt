@@ -1,6 +1,5 @@
 -- What comes to others leaves a session as it stands.
 use Rattle.std.specs.Prelude.{Contains, if◌then◌else◌, ◌==◌, ◌<◌, slice_get}
-use Rattle.std.specs.Option.{option_and_then}
 use Rattle.std.specs.List.{list_any}
 use Rattle.std.proofs.Common.{◌≡◌, ◌≢◌, ◌∙◌, ◌⊎◌, inl, inr, ℕ, zero, suc, List, [], ◌∷◌, Option, Some, None, Bool, true, false, refl, sym, ap, subst, arith}
 use Rattle.std.proofs.lemmas.Bool.Decides.{nat_tests}
@@ -11,13 +10,9 @@ use Rattle.dispatch.specs.declared.table.place.Lease.{Lease}
 use Rattle.dispatch.specs.Table.{after_unplug, loaded_device, table_after_load}
 use Rattle.saned_requests.specs.declared.session.Session.{Session}
 use Rattle.saned_requests.specs.Holding.{held_by, with_device}
-use Rattle.saned_core.specs.declared.session_slot.SessionId.{SessionId}
 use Rattle.saned_core.specs.declared.session_slot.SessionSlot.{SessionSlot}
-use Rattle.saned_core.specs.declared.session_slot.DataStep.{DataStep}
-use Rattle.saned_core.specs.declared.session_slot.DataStep.TheVariants as turns
-use Rattle.saned_core.specs.DaemonStates.{Core, after_connected, after_lost, after_taken, after_reply_bytes, is_closed, is_slot_number, new_session_slot, no_more, on_session, on_session_slot, session_in, session_of, session_slot_of, slot_if_open, with_session, with_session_slot}
+use Rattle.saned_core.specs.DaemonStates.{Core, is_slot_number, session_in, session_of, session_slot_of}
 use Rattle.saned_core.specs.Loading.{core_after_load, held_with, holds, is_lease_named, lease_with, on_first, slot_with_page}
-use Rattle.saned_core.specs.Turns.{TurnsSessions}
 use Rattle.scan_job.specs.declared.job.Job.{Job}
 use Rattle.event_world.specs.declared.endpoint.Endpoint.{Endpoint}
 use Rattle.page_picture.specs.declared.sources.kinds.Source.{Source}
@@ -25,17 +20,17 @@ use Rattle.event_world.specs.declared.event.Event.{Event}
 use Rattle.event_world.specs.declared.event.Event.TheVariants as events
 use Rattle.event_world.specs.declared.event.JobEvent.{JobEvent}
 use Rattle.event_world.specs.declared.event.JobEvent.TheVariants.{Connect, ToDaemon, ToClient, DataConnect, DataTurn, DataToClient, LoseControl, LoseImage, Cancel}
-use Rattle.event_world.specs.JobEvents.{Connects, Does, Happens, IfLinked, SendsRecord, SendsStep, image_lost, job_event_of}
+use Rattle.event_world.specs.JobEvents.{job_event_of}
 use Rattle.event_world.specs.Worlds.{AtEndpoint, Leads, Runs, WorldCore}
-use Rattle.event_world.proofs.Deciding.{can_or_not}
 use Rattle.world_refines.specs.MainTheorem.{AllIsKept, AreTrueLoads}
 use Rattle.world_refines.specs.WorldRefinement.{WorldRefines}
+use Rattle.world_refines.proofs.job_events.LeftAlone.{Kept, happens_kept}
 use Rattle.scan_world.specs.Histories.{History, LedTo, and_then}
 use Rattle.scan_world.proofs.Scanned.{kept_by}
 use Rattle.scan_world.specs.Calls.{ScansStay, SessionsStay}
 use Rattle.scan_world.specs.Sessions.{Has, SessionAt}
 use Rattle.scan_world.proofs.Led.{led_then}
-use Rattle.scan_world.proofs.moments.Entries.{past_end, unsome}
+use Rattle.scan_world.proofs.moments.Entries.{past_end}
 use Rattle.scan_world.proofs.moments.Holder.{no_endpoints}
 use Rattle.scan_world.proofs.moments.Linked.{goes}
 
@@ -45,114 +40,12 @@ Slot = SessionSlot DeviceState
 abbrev Slots : Type 0
 Slots = List (Option Slot)
 
-abbrev KeepsNumber : (Slot → Option Slot) → Type 0
-KeepsNumber f = (slot new : Slot) → f slot ≡ Some new → new.number ≡ slot.number
-
--- ---- another slot
-
 pub decide : (a b : ℕ) → (a ≡ b) ⊎ (a ≢ b)
 decide a b = by (a == b) refl
   where
     by : (v : Bool) → (a == b) ≡ v → (a ≡ b) ⊎ (a ≢ b)
     by true e = inl (grind (arith, nat_tests))
     by false e = inr (λ same. grind (arith, nat_tests))
-
-number_off : (m : ℕ) (slot : Slot) → slot.number ≢ m → is_slot_number m (Some slot) ≡ false
-number_off m slot off = grind (arith, nat_tests)
-
-number_of : (m : ℕ) (x : Option Slot) → is_slot_number m x ≡ true → (slot : Slot) × (x ≡ Some slot) × (slot.number ≡ m)
-number_of m None on = absurd (let clash : false ≡ true = on in cc)
-number_of m (Some slot) on = (slot, refl, grind (arith, nat_tests))
-
-gone_by : (n : ℕ) (o : Option Slot) (slots : Slots) → ((new : Slot) → o ≡ Some new → new.number ≢ n) → session_slot_of (o ∷ slots) n ≡ session_slot_of slots n
-unfolding session_slot_of
-gone_by n None slots other = refl
-gone_by n (Some new) slots other = rw (number_off n new (other new refl)) refl
-
-cons_same : (n : ℕ) (x : Option Slot) (xs ys : Slots) → session_slot_of xs n ≡ session_slot_of ys n → session_slot_of (x ∷ xs) n ≡ session_slot_of (x ∷ ys) n
-unfolding session_slot_of
-cons_same n x xs ys e = ap (λ (o : Option Slot). if is_slot_number n x then x else o) e
-
-other_at : (f : Slot → Option Slot) (k n : ℕ) (x : Option Slot) (slots : Slots) (b : Bool) → is_slot_number k x ≡ b → KeepsNumber f → n ≢ k → session_slot_of (on_session_slot f k slots) n ≡ session_slot_of slots n → session_slot_of (if b then option_and_then f x ∷ slots else x ∷ on_session_slot f k slots) n ≡ session_slot_of (x ∷ slots) n
-other_at f k n x slots true e keeps off more =
-    let s = number_of k x e in
-    let here : session_slot_of (option_and_then f x ∷ slots) n ≡ session_slot_of slots n = gone_by n (option_and_then f x) slots (λ new is same. off (sym same ∙ (keeps s.0 new (sym (ap (option_and_then f) s.1) ∙ is) ∙ s.2))) in
-    here ∙ sym (gone_by n x slots (λ new is same. off (sym same ∙ (let both : Some new ≡ Some s.0 = sym is ∙ s.1 in let one : new ≡ s.0 = cc in ap (λ (y : Slot). y.number) one ∙ s.2))))
-other_at f k n x slots false e keeps off more = cons_same n x (on_session_slot f k slots) slots more
-
-other_slot : (f : Slot → Option Slot) (k n : ℕ) (slots : Slots) → KeepsNumber f → n ≢ k → session_slot_of (on_session_slot f k slots) n ≡ session_slot_of slots n
-unfolding on_session_slot
-other_slot f k n [] keeps off = refl
-other_slot f k n (x ∷ slots) keeps off = other_at f k n x slots (is_slot_number k x) refl keeps off (other_slot f k n slots keeps off)
-
-opened_other : (slots : Slots) (new : Slot) (m : ℕ) → new.number ≢ m → session_slot_of (with_session_slot slots new) m ≡ session_slot_of slots m
-unfolding session_slot_of with_session_slot
-opened_other [] new m off = refl
-opened_other (None ∷ slots) new m off = rw (number_off m new off) refl
-opened_other (Some slot ∷ slots) new m off = ap (λ (x : Option Slot). if is_slot_number m (Some slot) then Some slot else x) (opened_other slots new m off)
-
-on_number : (g : Session DeviceState → Session DeviceState) → KeepsNumber (on_session g)
-on_number g slot new e = sym (ap (λ (s : Slot). s.number) (unsome _ new e))
-
-with_number : (t : Session DeviceState) → KeepsNumber (with_session t)
-with_number t slot new e = sym (ap (λ (s : Slot). s.number) (unsome _ new e))
-
-none_number : KeepsNumber no_more
-none_number slot new e = absurd (let clash : None ≡ Some new = e in cc)
-
-open_number : (o : Option (Session DeviceState)) (replies : List ℕ) (slot new : Slot) → slot_if_open o replies slot ≡ Some new → new.number ≡ slot.number
-open_number (Some s) replies slot new e = sym (ap (λ (x : Slot). x.number) (unsome slot new e))
-open_number None [] slot new e = absurd (let clash : None ≡ Some new = e in cc)
-open_number None (b ∷ bytes) slot new e = sym (ap (λ (x : Slot). x.number) (unsome slot new e))
-
-taken_number : (count : ℕ) → KeepsNumber (after_taken count)
-taken_number count slot new e = open_number slot.session _ (after_reply_bytes count slot) new e
-
--- ---- a daemon
-
-abbrev Kept : Core → Core → ℕ → Type 0
-Kept d e n = session_slot_of e.slots n ≡ session_slot_of d.slots n
-
-pub by_link : {A : Type 0} (link : Option SessionId) (P : ℕ → Type 0) → IfLinked link P → ((id : SessionId) → link ≡ Some id → P id.number → A) → A
-by_link None P h then_is = absurd h
-by_link (Some id) P h then_is = then_is id refl h
-
-connects_kept : (port : ℕ) (b : Bool) (d : Core) (p : Endpoint) (e : Core) (q : Endpoint) → Connects port b d p e q → (n : ℕ) → n < d.opened → Kept d e n
-connects_kept port true d p e q h n low = ap (λ (x : Core). session_slot_of x.slots n) h.0
-connects_kept port false d p e q h n low = ap (λ (x : Core). session_slot_of x.slots n) h.2 ∙ opened_other d.slots (new_session_slot d.strings d.opened port) n (λ same. omega (arith, low, same))
-
-turned_kept : (o : Option (Session DeviceState)) (k n : ℕ) (old : Slots) (step : DataStep) (new : Slots) (buf : List ℕ) → TurnsSessions o k old step new buf → n ≢ k → session_slot_of new n ≡ session_slot_of old n
-turned_kept None k n old step new buf h off = ap (λ (x : Slots). session_slot_of x n) h.1
-turned_kept (Some s) k n old step new buf h off = ap (λ (x : Slots). session_slot_of x n) h.2 ∙ other_slot (with_session h.0) k n old (with_number h.0) off
-
-lost_kept : (k n : ℕ) (d : Core) → n ≢ k → Kept d (image_lost k d) n
-lost_kept k n d off = other_slot (on_session after_lost) k n d.slots (on_number after_lost) off
-
-record_kept : (k : ℕ) (bytes : List ℕ) (last : Bool) (d : Core) (p : Endpoint) (e : Core) (q : Endpoint) → SendsRecord k bytes last d p e q → (n : ℕ) → n ≢ k → Kept d e n
-record_kept k bytes last d p e q (inl (image, at, same, is)) n off = ap (λ (x : Core). session_slot_of x.slots n) same
-record_kept k bytes last d p e q (inr (same, is)) n off = ap (λ (x : Core). session_slot_of x.slots n) same ∙ lost_kept k n d off
-
-step_kept : (k : ℕ) (step : DataStep) (buf : List ℕ) (d : Core) (p : Endpoint) (e : Core) (q : Endpoint) → SendsStep k step buf d p e q → (n : ℕ) → n ≢ k → Kept d e n
-step_kept k turns.Idle buf d p e q h n off = ap (λ (x : Core). session_slot_of x.slots n) h.0
-step_kept k (turns.Bytes m) buf d p e q h n off = record_kept k _ false d p e q h n off
-step_kept k (turns.Last m) buf d p e q h n off = record_kept k _ true d p e q h n off
-
-does_kept : (d : Core) (p : Endpoint) (x : JobEvent) (e : Core) (q : Endpoint) → Does d p x e q → (n : ℕ) → ((id : SessionId) → p.link ≡ Some id → n ≢ id.number) → n < d.opened → Kept d e n
-does_kept d p Connect e q h n off low = connects_kept h.0 (is_closed d) d p e q h.1 n low
-does_kept d p (ToDaemon m) e q h n off low = by_link p.link _ h (λ id is it. it.1.others.slots n (off id is))
-does_kept d p (ToClient m) e q h n off low = by_link p.link _ h (λ id is it. ap (λ (x : Core). session_slot_of x.slots n) it.0 ∙ other_slot _ id.number n d.slots (taken_number _) (off id is))
-does_kept d p DataConnect e q h n off low = by_link p.link _ h (λ id is it. ap (λ (x : Core). session_slot_of x.slots n) it.0 ∙ other_slot (on_session after_connected) id.number n d.slots (on_number after_connected) (off id is))
-does_kept d p DataTurn e q h n off low = by_link p.link _ h (λ id is it. step_kept id.number it.step it.buf it.mid p e q it.sends n (off id is) ∙ turned_kept _ id.number n d.slots it.step it.mid.slots it.buf it.turns.slots (off id is))
-does_kept d p (DataToClient m) e q h n off low = ap (λ (x : Core). session_slot_of x.slots n) h.0
-does_kept d p LoseControl e q h n off low = by_link p.link _ h (λ id is it. ap (λ (x : Core). session_slot_of x.slots n) it.0 ∙ other_slot no_more id.number n d.slots none_number (off id is))
-does_kept d p LoseImage e q h n off low = by_link p.link _ h (λ id is it. ap (λ (x : Core). session_slot_of x.slots n) it.0 ∙ lost_kept id.number n d (off id is))
-does_kept d p Cancel e q h n off low = ap (λ (x : Core). session_slot_of x.slots n) h.0
-
-happens_kept : (d : Core) (p : Endpoint) (x : JobEvent) (e : Core) (q : Endpoint) → Happens d p x e q → (n : ℕ) → ((id : SessionId) → p.link ≡ Some id → n ≢ id.number) → n < d.opened → Kept d e n
-happens_kept d p x e q h n off low = elim (can_or_not d p x) [
-  | inl can ↦ does_kept d p x e q (h.does can) n off low
-  | inr never ↦ ap (λ (y : Core). session_slot_of y.slots n) (h.cannot never).0
-]
 
 -- ---- a world
 

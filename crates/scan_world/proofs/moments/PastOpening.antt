@@ -1,16 +1,17 @@
 -- A job that has its device is past its opening, and stays so.
 use Rattle.std.proofs.Common.{◌≡◌, ◌∙◌, ◌⊎◌, ℕ, List, [], ◌∷◌, ◌++◌, Bool, true, false, Option, Some, None, inl, inr, refl, sym, subst}
+use Rattle.scan_job.specs.declared.outcome.Why.{Why}
+use Rattle.sane_fixed.specs.declared.status.Status.{Status}
+use Rattle.sane_fixed.specs.declared.status.Status.TheVariants as statuses
 use Rattle.option_desc.specs.declared.value.Value.{Value}
 use Rattle.option_desc.specs.declared.descriptor.Descriptor.{Descriptor}
 use Rattle.sane_fixed.specs.declared.params.Params.{Params}
 use Rattle.page_picture.specs.Shows.{Frame}
-use Rattle.system_model.specs.AbstractMessages.{AbstractReply, AbstractRequest, Greeted, Listed, Opened, Challenged, Described, Got, Gave, Shaped, Begun, Acked, Refused, RequestedSetting, Init, GetDevices, Open, Authorize, Describe, Get, Set, Parameters, Start}
-use Rattle.system_model.specs.AbstractMessages as words
-use Rattle.system_model.specs.AbstractMessages.{Status, Why}
+use Rattle.system_model.specs.AbstractMessages.{AbstractReply, AbstractRequest, Greeted, Listed, Opened, Challenged, Described, Got, Gave, Shaped, Begun, Acked, Refused, RequestedSetting, Describe, Get, Set, Parameters, Start}
 use Rattle.system_model.specs.AbstractDevices.{AbstractDevice}
 use Rattle.system_model.specs.Actions
 use Rattle.system_model.specs.Actions.{Action, answer_next, job_after_action, job_after_reply}
-use Rattle.system_model.specs.Client.{AbstractJob, AbstractProgress, ClientView, Task, List_, Show, SetOnly, Scan, Batch, Greeting, Listing, Opening, Allowing, Describing, Putting, Getting, Starting, Shaping, Imaging, JobStage, Idle, Running, Done, Ended, asks_setting, next_value, request_awaited, stage_after_put, stage_after_settings, stage_of_next_setting}
+use Rattle.system_model.specs.Client.{AbstractJob, AbstractProgress, ClientView, AbstractTask, List_, Show, SetOnly, Scan, Batch, Greeting, Listing, Opening, Allowing, Describing, Putting, Getting, Starting, Shaping, Imaging, JobStage, Idle, Running, Done, Ended, asks_setting, next_value, request_awaited, stage_after_put, stage_after_settings, stage_of_next_setting}
 use Rattle.system_model.specs.ClientReplies.{after_page, begins_frame, client_after_bytes, close_frame, close_page, end_frame, finish_in, hear_at, hear_in, reads_on, stage_after_stop, start_refused}
 use Rattle.system_model.specs.Daemon.{FailureCounts}
 use Rattle.system_model.specs.Devices.{Make, accepts, frame_fills, frame_overflows, readable_options, resolve_setting}
@@ -52,7 +53,7 @@ value_late : (left : List ℕ) → IsLateStage (next_value left)
 value_late [] = tt
 value_late (n ∷ left) = tt
 
-settings_late : (task : Task) (known : List Descriptor) → IsLateStage (stage_after_settings task known)
+settings_late : (task : AbstractTask) (known : List Descriptor) → IsLateStage (stage_after_settings task known)
 settings_late List_ known = tt
 settings_late Show known = value_late (readable_options known)
 settings_late SetOnly known = tt
@@ -63,29 +64,29 @@ asks_late : (requested : RequestedSetting) (left : List RequestedSetting) (o : O
 asks_late requested left None = tt
 asks_late requested left (Some (n, value)) = tt
 
-next_late : (task : Task) (known : List Descriptor) (left : List RequestedSetting) → IsLateStage (stage_of_next_setting task known left)
+next_late : (task : AbstractTask) (known : List Descriptor) (left : List RequestedSetting) → IsLateStage (stage_of_next_setting task known left)
 next_late task known [] = settings_late task known
 next_late task known (requested ∷ left) = asks_late requested left (resolve_setting known requested)
 
-put_late : (task : Task) (known : List Descriptor) (left : List RequestedSetting) (reload : Bool) → IsLateStage (stage_after_put task known left reload)
+put_late : (task : AbstractTask) (known : List Descriptor) (left : List RequestedSetting) (reload : Bool) → IsLateStage (stage_after_put task known left reload)
 put_late task known left true = tt
 put_late task known left false = next_late task known left
 
 refused_late : (status : Status) (frames : List Frame) (pages : List (List Frame)) (m : ClientView) → IsLateStage (start_refused status frames pages m).stage
-refused_late words.Good frames pages m = tt
-refused_late words.Unsupported frames pages m = tt
-refused_late words.GivenUp frames pages m = tt
-refused_late words.Busy frames pages m = tt
-refused_late words.Inval frames pages m = tt
-refused_late words.Eof frames pages m = tt
-refused_late words.Jammed frames pages m = tt
-refused_late words.NoDocs [] [] m = tt
-refused_late words.NoDocs [] (page ∷ pages) m = tt
-refused_late words.NoDocs (f ∷ frames) pages m = tt
-refused_late words.CoverOpen frames pages m = tt
-refused_late words.IoError frames pages m = tt
-refused_late words.NoMem frames pages m = tt
-refused_late words.AccessDenied frames pages m = tt
+refused_late statuses.Good frames pages m = tt
+refused_late statuses.Unsupported frames pages m = tt
+refused_late statuses.Cancelled frames pages m = tt
+refused_late statuses.DeviceBusy frames pages m = tt
+refused_late statuses.Inval frames pages m = tt
+refused_late statuses.Eof frames pages m = tt
+refused_late statuses.Jammed frames pages m = tt
+refused_late statuses.NoDocs [] [] m = tt
+refused_late statuses.NoDocs [] (page ∷ pages) m = tt
+refused_late statuses.NoDocs (f ∷ frames) pages m = tt
+refused_late statuses.CoverOpen frames pages m = tt
+refused_late statuses.IoError frames pages m = tt
+refused_late statuses.NoMem frames pages m = tt
+refused_late statuses.AccessDenied frames pages m = tt
 
 begins_late : (params : Params) (b : Bool) → IsLateStage (begins_frame params b)
 begins_late params true = tt
@@ -212,29 +213,29 @@ page_late : (b : Bool) → IsLateStage (after_page b)
 page_late true = tt
 page_late false = tt
 
-closed_late : (last : Bool) (task : Task) (frame : Frame) (m : ClientView) → IsLateStage (close_page last task frame m).stage
+closed_late : (last : Bool) (task : AbstractTask) (frame : Frame) (m : ClientView) → IsLateStage (close_page last task frame m).stage
 closed_late true task frame m = page_late _
 closed_late false task frame m = tt
 
-framed_late : (fills : Bool) (task : Task) (params : Params) (heard : List ℕ) (m : ClientView) → IsLateStage (close_frame fills task params heard m).stage
+framed_late : (fills : Bool) (task : AbstractTask) (params : Params) (heard : List ℕ) (m : ClientView) → IsLateStage (close_frame fills task params heard m).stage
 framed_late true task params heard m = closed_late params.last_frame task _ m
 framed_late false task params heard m = tt
 
-end_late : (status : Status) (task : Task) (params : Params) (heard : List ℕ) (m : ClientView) → IsLateStage (end_frame status task params heard m).stage
-end_late words.Good task params heard m = tt
-end_late words.Unsupported task params heard m = tt
-end_late words.GivenUp task params heard m = tt
-end_late words.Busy task params heard m = tt
-end_late words.Inval task params heard m = tt
-end_late words.Eof task params heard m = framed_late (frame_fills params heard) task params heard m
-end_late words.Jammed task params heard m = tt
-end_late words.NoDocs task params heard m = tt
-end_late words.CoverOpen task params heard m = tt
-end_late words.IoError task params heard m = tt
-end_late words.NoMem task params heard m = tt
-end_late words.AccessDenied task params heard m = tt
+end_late : (status : Status) (task : AbstractTask) (params : Params) (heard : List ℕ) (m : ClientView) → IsLateStage (end_frame status task params heard m).stage
+end_late statuses.Good task params heard m = tt
+end_late statuses.Unsupported task params heard m = tt
+end_late statuses.Cancelled task params heard m = tt
+end_late statuses.DeviceBusy task params heard m = tt
+end_late statuses.Inval task params heard m = tt
+end_late statuses.Eof task params heard m = framed_late (frame_fills params heard) task params heard m
+end_late statuses.Jammed task params heard m = tt
+end_late statuses.NoDocs task params heard m = tt
+end_late statuses.CoverOpen task params heard m = tt
+end_late statuses.IoError task params heard m = tt
+end_late statuses.NoMem task params heard m = tt
+end_late statuses.AccessDenied task params heard m = tt
 
-finish_late : (stage : JobStage) (task : Task) (m : ClientView) (status : Status) → m.stage ≡ stage → IsImaging stage → IsLateStage (finish_in stage task m status).stage
+finish_late : (stage : JobStage) (task : AbstractTask) (m : ClientView) (status : Status) → m.stage ≡ stage → IsImaging stage → IsLateStage (finish_in stage task m status).stage
 finish_late stage task m status at (params, heard, is) =
     subst (λ (st : JobStage). IsLateStage (finish_in st task m status).stage) (sym is) (end_late status task params heard m)
 

@@ -46,7 +46,7 @@ woken_on (Ended status why) m e on = absurd on
 runs_by : (place : DeviceInfo → ℕ) (target : JobTarget) (job : model.AbstractJob) (pages : List (List Frame)) (o : Outcome) (progress : Progress) (notes : Notes) (past : JoinHistory) (m : ClientView) → IsUnderWay m.stage → OutcomeRefines place target job pages o progress notes past m → o ≡ outcomes.Running
 runs_by place target job pages outcomes.Running progress notes past m on h = refl
 runs_by place target job pages (outcomes.Done reports) progress notes past m on h = absurd (subst IsUnderWay h.stage on)
-runs_by place target job pages (outcomes.Ended status why) progress notes past m on h = absurd (subst IsUnderWay h.1.1 on)
+runs_by place target job pages (outcomes.Ended status why) progress notes past m on h = absurd (subst IsUnderWay h on)
 
 pub runs_there : (t : Ghost) (w : WorldCore) (i : ℕ) (p : Endpoint) → WorldRefines t w → slice_get w.endpoints i ≡ Some p → IsUnderWay (t.system.job i).client.stage → RunsAt w i
 runs_there t w i p h at on =

@@ -3,7 +3,7 @@ use Rattle.std.specs.List.{AllByRecursion}
 use Rattle.std.proofs.Common.{◌≡◌, ℕ, List, [], ◌∷◌, Bool, true, false, Option, Some, None, refl, eqb}
 use Rattle.page_picture.specs.Shows.{Frame}
 use Rattle.device_api.specs.Kinds.{Page}
-use Rattle.system_model.specs.AbstractMessages.{Challenge, AbstractRequest, Init, GetDevices, Open, Authorize, Describe, Get, Set, Parameters, Start, Cancel, Close, Exit, same_text}
+use Rattle.system_model.specs.AbstractMessages.{Challenge, AbstractRequest, GetDevices, Open, Authorize, Get, Set, Start, same_text}
 use Rattle.system_model.specs.AbstractDevices.{AbstractDevice, Begin, ScanPhase, Resting, Between, Reading, is_held_by, is_resting}
 use Rattle.system_model.specs.Causes.{Cause, SourceFailed, HadNoPicture, TrayRanOut, TrayWasEmpty, WasUnlisted, WasHeld, Disallowed}
 use Rattle.system_model.specs.Daemon.{AnswerEffect, Environment, FailureCounts, TransferState, Quiet, Waiting, Streaming, Ending, allow, answer, answer_awaited, answer_if, begin_page, begin_pass, empty_cause, get_reply, hand_out_device, held_cause, open_listed, put_reply, refuse, serve, set_reply, start_at, start_effect, start_or_fail, start_page, take_listed}
@@ -111,46 +111,22 @@ start_met k dev x Ending = (tt, shows_none Start, tt)
 -- ---- every request
 
 serve_met : (i : ℕ) (k : Make) (dev : AbstractDevice) (c : TransferState) (x : Environment) (q : AbstractRequest) → MeetsAt q dev (serve i k dev c x q)
-serve_met i k dev c x Init = (tt, shows_none Init, tt)
 serve_met i k dev c x GetDevices = (tt, λ ds e. refl, tt)
 serve_met i k dev c x Open = open_met i k dev c x.challenge dev.listed x.guarded
-serve_met i k dev c x (Authorize challenge) = (tt, shows_none (Authorize challenge), tt)
-serve_met i k dev c x Describe = (tt, shows_none Describe, tt)
 serve_met i k dev c x (Get n) = get_met k dev c n (has_readable_value k dev.options n)
 serve_met i k dev c x (Set n value) = set_met k dev c n value (is_resting dev.phase)
-serve_met i k dev c x Parameters = (tt, shows_none Parameters, tt)
 serve_met i k dev c x Start = start_met k dev x c
-serve_met i k dev c x Cancel = (tt, shows_none Cancel, tt)
-serve_met i k dev c x Close = (tt, shows_none Close, tt)
-serve_met i k dev c x Exit = (tt, shows_none Exit, tt)
+serve_met i k dev c x q = (tt, shows_none q, tt)
 
 refuse_met : (i : ℕ) (k : Make) (dev : AbstractDevice) (c : TransferState) (x : Environment) (q : AbstractRequest) → MeetsAt q dev (refuse i k dev c x q)
-refuse_met i k dev c x Init = (tt, shows_none Init, tt)
 refuse_met i k dev c x GetDevices = (tt, λ ds e. refl, tt)
 refuse_met i k dev c x Open = open_met i k dev c x.challenge dev.listed x.guarded
-refuse_met i k dev c x (Authorize challenge) = (tt, shows_none (Authorize challenge), tt)
-refuse_met i k dev c x Describe = (tt, shows_none Describe, tt)
-refuse_met i k dev c x (Get n) = (tt, shows_none (Get n), tt)
-refuse_met i k dev c x (Set n value) = (tt, shows_none (Set n value), tt)
-refuse_met i k dev c x Parameters = (tt, shows_none Parameters, tt)
-refuse_met i k dev c x Start = (tt, shows_none Start, tt)
-refuse_met i k dev c x Cancel = (tt, shows_none Cancel, tt)
-refuse_met i k dev c x Close = (tt, shows_none Close, tt)
-refuse_met i k dev c x Exit = (tt, shows_none Exit, tt)
+refuse_met i k dev c x q = (tt, shows_none q, tt)
 
 awaited_met : (i : ℕ) (k : Make) (dev : AbstractDevice) (c : TransferState) (x : Environment) (sent : Challenge) (q : AbstractRequest) → MeetsAt q dev (answer_awaited i k dev c x sent q)
-awaited_met i k dev c x sent Init = (tt, shows_none Init, tt)
 awaited_met i k dev c x sent GetDevices = (tt, λ ds e. refl, tt)
-awaited_met i k dev c x sent Open = (tt, shows_none Open, tt)
 awaited_met i k dev c x sent (Authorize challenge) = allow_met challenge i k dev c (same_text challenge sent) (x.allows sent)
-awaited_met i k dev c x sent Describe = (tt, shows_none Describe, tt)
-awaited_met i k dev c x sent (Get n) = (tt, shows_none (Get n), tt)
-awaited_met i k dev c x sent (Set n value) = (tt, shows_none (Set n value), tt)
-awaited_met i k dev c x sent Parameters = (tt, shows_none Parameters, tt)
-awaited_met i k dev c x sent Start = (tt, shows_none Start, tt)
-awaited_met i k dev c x sent Cancel = (tt, shows_none Cancel, tt)
-awaited_met i k dev c x sent Close = (tt, shows_none Close, tt)
-awaited_met i k dev c x sent Exit = (tt, shows_none Exit, tt)
+awaited_met i k dev c x sent q = (tt, shows_none q, tt)
 
 if_met : (b : Bool) (i : ℕ) (k : Make) (dev : AbstractDevice) (c : TransferState) (x : Environment) (q : AbstractRequest) → MeetsAt q dev (answer_if b i k dev c x q)
 if_met true i k dev c x q = serve_met i k dev c x q

@@ -25,10 +25,11 @@ use Rattle.event_world.specs.declared.endpoint.Endpoint.{Endpoint}
 use Rattle.event_world.specs.Worlds.{WorldCore}
 use Rattle.world_refines.specs.GhostStates.{Ghost, name_at, place_named}
 use Rattle.world_refines.specs.Speaks.{Awaits, Speaks}
-use Rattle.world_refines.specs.WorldRefinement.{IsServed, WorldRefines, session_by, slot_of_link}
+use Rattle.world_refines.specs.WorldRefinement.{HasNoStrangers, IsServed, WorldRefines, session_by, slot_of_link}
 use Rattle.world_refines.proofs.state.CoreCallsKeep.{holds_wanted}
 use Rattle.world_refines.proofs.state.Finding.{found_place, names_at}
 use Rattle.world_refines.proofs.state.Infos.{place_is}
+use Rattle.world_refines.proofs.state.Strangers.{far_nothing, far_table}
 use Rattle.world_refines.proofs.state.Taking.{served_table}
 use Rattle.scan_laws.specs.Passes.{IsInScan}
 use Rattle.scan_world.specs.Sessions.{Has, SessionAt}
@@ -82,9 +83,9 @@ lease_name t w l h o =
 abbrev pub HasIt : Ghost → WorldCore → ℕ → ℕ → List ℕ → Type 0
 HasIt t w k j name = (d : DeviceState) × Has w j name d × (t.system.device k ≡ abstract_device (Some j) d) × IsInScan d
 
-has_by : (t : Ghost) (w : WorldCore) (k j : ℕ) (name : List ℕ) (o : Option Endpoint) → slice_get w.endpoints j ≡ o → WorldRefines t w → (t.system.device k).holder ≡ Some j → name_at t.infos k ≡ Some name → HasIt t w k j name
-has_by t w k j name None at h is named = absurd (nothing_held k (table_holds j t.system.make [] w.daemon.registry t.system.device (h.beyond j (past_end w.endpoints j at)).table k is))
-has_by t w k j name (Some p) at h is named =
+has_by : (t : Ghost) (w : WorldCore) (k j : ℕ) (name : List ℕ) (o : Option Endpoint) → slice_get w.endpoints j ≡ o → WorldRefines t w → HasNoStrangers w → (t.system.device k).holder ≡ Some j → name_at t.infos k ≡ Some name → HasIt t w k j name
+has_by t w k j name None at h alone is named = absurd (nothing_held k (table_holds j t.system.make [] w.daemon.registry t.system.device (far_nothing t w j h alone (past_end w.endpoints j at)) k is))
+has_by t w k j name (Some p) at h alone is named =
     let l = lends j t.system.make w.daemon p.link (t.system.job j).served t.system.device (session_by j t.system.device (t.system.job j)) (h.endpoints j p at).served k is in
     let there : Some l.lease.device.info.name ≡ Some name = sym (lease_name t w l.lease h l.lent.own) ∙ (ap (name_at t.infos) l.place ∙ named) in (
       l.lease.device,
@@ -101,8 +102,8 @@ has_by t w k j name (Some p) at h is named =
       l.lent.made.in_scan,
     )
 
-pub holder_has : (t : Ghost) (w : WorldCore) (k j : ℕ) (name : List ℕ) → WorldRefines t w → (t.system.device k).holder ≡ Some j → name_at t.infos k ≡ Some name → HasIt t w k j name
-holder_has t w k j name h is named = has_by t w k j name (slice_get w.endpoints j) refl h is named
+pub holder_has : (t : Ghost) (w : WorldCore) (k j : ℕ) (name : List ℕ) → WorldRefines t w → HasNoStrangers w → (t.system.device k).holder ≡ Some j → name_at t.infos k ≡ Some name → HasIt t w k j name
+holder_has t w k j name h alone is named = has_by t w k j name (slice_get w.endpoints j) refl h alone is named
 
 -- ---- what is had is held by the model
 
@@ -162,7 +163,7 @@ listed_slot j make held k dev name (In s) r off = absurd (let clash : true ≡ f
 listed_slot j make held k dev name Out r off = absurd (let clash : true ≡ false = sym r.0 ∙ off in cc)
 
 pub table_of : (t : Ghost) (w : WorldCore) (i : ℕ) (o : Option Endpoint) → slice_get w.endpoints i ≡ o → WorldRefines t w → (held : List (Option (Lease DeviceState))) × TableRefines i t.system.make held w.daemon.registry t.system.device
-table_of t w i None at h = ([], (h.beyond i (past_end w.endpoints i at)).table)
+table_of t w i None at h = far_table t w i h (past_end w.endpoints i at)
 table_of t w i (Some p) at h = let s = served_table i t.system.make w.daemon p.link (t.system.job i).served t.system.device (session_by i t.system.device (t.system.job i)) (h.endpoints i p at).served in (s.held, s.shows)
 
 not_found : (t : Ghost) (w : WorldCore) (name : List ℕ) (o : Option ℕ) → find_name name w.daemon.registry ≡ o → WorldRefines t w → (t.system.device (place_named t.infos name)).listed ≡ false → o ≡ None

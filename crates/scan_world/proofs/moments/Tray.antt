@@ -4,7 +4,7 @@ use Rattle.page_picture.specs.Page.{PageView}
 use Rattle.device_api.specs.State.{DeviceState, HeldPage, Phase as AnyPhase, first_page, is_at_rest, page_of}
 use Rattle.device_api.specs.State.Phase.{AtRest as Rest, Between as Amid, Reading as Read}
 use Rattle.scan_laws.specs.Passes.{IsInScan}
-use Rattle.system_model.specs.AbstractMessages.{AbstractRequest, Init, GetDevices, Open, Authorize, Describe, Get, Set, Parameters, Start}
+use Rattle.system_model.specs.AbstractMessages.{AbstractRequest, Start}
 use Rattle.system_model.specs.AbstractDevices.{AbstractDevice, Begin, Between, Resting, is_resting}
 use Rattle.system_model.specs.Actions.{is_some_begun}
 use Rattle.system_model.specs.Client.{AbstractProgress, JobStage, Idle, Running, Done, Ended, Greeting, Listing, Opening, Allowing, Describing, Putting, Getting, Starting, Shaping, Imaging, ClientView, request_awaited}
@@ -16,6 +16,7 @@ use Rattle.system_model.specs.Transitions.{IsUnderWay}
 use Rattle.daemon_refines.specs.ContextRefinement.{abstract_device, page_views, pages_to_come}
 use Rattle.daemon_refines.proofs.Scanning.{rests}
 use Rattle.scan_world.proofs.Evident.{StartsDry, StartsEmpty}
+use Rattle.scan_world.proofs.NoPictures.{is_start}
 
 no_views : (pages : List HeldPage) → page_views pages ≡ [] → pages ≡ []
 no_views [] e = refl
@@ -41,18 +42,10 @@ abbrev Rests : ℕ → AbstractDevice → Type 0
 Rests i dev = (dev.holder ≡ Some i) × (dev.phase ≡ Resting)
 
 synced_rests : (i : ℕ) (k : Make) (b : SessionView) (m : ClientView) (dev : AbstractDevice) (g : AbstractProgress) (rest : List AbstractRequest) → Start ∷ rest ≡ request_awaited g → is_some_begun b.started ≡ false → InSync i k b m dev g → Rests i dev
-synced_rests i k b m dev Greeting rest e first h = absurd (let clash : Start ∷ rest ≡ Init ∷ [] = e in cc)
-synced_rests i k b m dev Listing rest e first h = absurd (let clash : Start ∷ rest ≡ GetDevices ∷ [] = e in cc)
-synced_rests i k b m dev Opening rest e first h = absurd (let clash : Start ∷ rest ≡ Open ∷ [] = e in cc)
-synced_rests i k b m dev (Allowing c) rest e first h = absurd (let clash : Start ∷ rest ≡ Authorize c ∷ [] = e in cc)
-synced_rests i k b m dev (Describing left) rest e first h = absurd (let clash : Start ∷ rest ≡ Describe ∷ [] = e in cc)
-synced_rests i k b m dev (Putting n value requested left) rest e first h = absurd (let clash : Start ∷ rest ≡ Set n value ∷ [] = e in cc)
-synced_rests i k b m dev (Getting n left) rest e first h = absurd (let clash : Start ∷ rest ≡ Get n ∷ [] = e in cc)
 synced_rests i k b m dev Starting rest e first (inl h) = (h.held.mine, h.held.phase_is)
 synced_rests i k b m dev Starting rest e first (inr h) =
     absurd (let clash : true ≡ false = sym (some_behind h.continues.earlier h.continues.begin) ∙ (sym (ap is_some_begun h.continues.started) ∙ first) in cc)
-synced_rests i k b m dev Shaping rest e first h = absurd (let clash : Start ∷ rest ≡ Parameters ∷ [] = e in cc)
-synced_rests i k b m dev (Imaging params heard) rest e first h = absurd (let clash : Start ∷ rest ≡ [] = e in cc)
+synced_rests i k b m dev g rest e first h = absurd (let clash : true ≡ false = ap is_start e in cc)
 
 none_asked : {A : Type 0} (todo rest : List AbstractRequest) → todo ≡ [] → todo ≡ Start ∷ rest → A
 none_asked todo rest none e = absurd (let clash : [] ≡ Start ∷ rest = sym none ∙ e in cc)
@@ -97,17 +90,9 @@ page_there holder dev s page later rest tray is scans =
 -- ---- at a start of a page its device is at rest
 
 synced_ready : (i : ℕ) (k : Make) (b : SessionView) (m : ClientView) (dev : AbstractDevice) (g : AbstractProgress) (rest : List AbstractRequest) → Start ∷ rest ≡ request_awaited g → dev.phase ≡ Resting → InSync i k b m dev g → Ready i k b m dev × (g ≡ Starting)
-synced_ready i k b m dev Greeting rest e rests h = absurd (let clash : Start ∷ rest ≡ Init ∷ [] = e in cc)
-synced_ready i k b m dev Listing rest e rests h = absurd (let clash : Start ∷ rest ≡ GetDevices ∷ [] = e in cc)
-synced_ready i k b m dev Opening rest e rests h = absurd (let clash : Start ∷ rest ≡ Open ∷ [] = e in cc)
-synced_ready i k b m dev (Allowing c) rest e rests h = absurd (let clash : Start ∷ rest ≡ Authorize c ∷ [] = e in cc)
-synced_ready i k b m dev (Describing left) rest e rests h = absurd (let clash : Start ∷ rest ≡ Describe ∷ [] = e in cc)
-synced_ready i k b m dev (Putting n value requested left) rest e rests h = absurd (let clash : Start ∷ rest ≡ Set n value ∷ [] = e in cc)
-synced_ready i k b m dev (Getting n left) rest e rests h = absurd (let clash : Start ∷ rest ≡ Get n ∷ [] = e in cc)
 synced_ready i k b m dev Starting rest e rests (inl h) = (h, refl)
 synced_ready i k b m dev Starting rest e rests (inr h) = absurd (let clash : Resting ≡ Between h.last (h.frame ∷ h.more) = sym rests ∙ h.held.phase_is in cc)
-synced_ready i k b m dev Shaping rest e rests h = absurd (let clash : Start ∷ rest ≡ Parameters ∷ [] = e in cc)
-synced_ready i k b m dev (Imaging params heard) rest e rests h = absurd (let clash : Start ∷ rest ≡ [] = e in cc)
+synced_ready i k b m dev g rest e rests h = absurd (let clash : true ≡ false = ap is_start e in cc)
 
 -- it is ready to start a page
 pub starts_ready : (i : ℕ) (k : Make) (p : JobState) (dev : AbstractDevice) (stage : JobStage) (rest : List AbstractRequest) → IsUnderWay stage → StageInvariant i k p dev stage → p.todo ≡ Start ∷ rest → dev.phase ≡ Resting → Ready i k p.session p.client dev × (stage ≡ Running Starting)

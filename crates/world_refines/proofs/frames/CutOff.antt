@@ -95,8 +95,8 @@ sits_retold t w j endpoint x y z e f g h =
     (subst (λ (a : JoinHistory). EndpointRefines t.users t.infos (t.jobs j) t.system.make t.system.device j (t.system.job j) (t.wires j) a z w.daemon endpoint) (sym f)
     (subst (λ (a : List JoinHistory). EndpointRefines t.users t.infos (t.jobs j) t.system.make t.system.device j (t.system.job j) (t.wires j) (t.history j) a w.daemon endpoint) (sym g) h))
 
-nobody_retold : (t : Ghost) (w : WorldCore) (x : ℕ → Wires) (y : ℕ → JoinHistory) (z : ℕ → List JoinHistory) (j : ℕ) → x j ≡ t.wires j → IsNobody t w j → IsNobody (retold t x y z) w j
-nobody_retold t w x y z j e h = record { stage = h.stage; linked = h.linked; transfer = h.transfer; image = ap (λ (a : Wires). a.image) e ∙ h.image; table = h.table }
+nobody_retold : (t : Ghost) (x : ℕ → Wires) (y : ℕ → JoinHistory) (z : ℕ → List JoinHistory) (j : ℕ) → x j ≡ t.wires j → IsNobody t j → IsNobody (retold t x y z) j
+nobody_retold t x y z j e h = record { stage = h.stage; linked = h.linked; transfer = h.transfer; image = ap (λ (a : Wires). a.image) e ∙ h.image }
 
 pub stands_retold : (t : Ghost) (w : WorldCore) (x : ℕ → Wires) (y : ℕ → JoinHistory) (z : ℕ → List JoinHistory) → ((j : ℕ) → x j ≡ t.wires j) → ((j : ℕ) → y j ≡ t.history j) → ((j : ℕ) → z j ≡ t.pages j) → WorldRefines t w → WorldRefines (retold t x y z) w
 stands_retold t w x y z e f g h =
@@ -106,11 +106,12 @@ stands_retold t w x y z e f g h =
       shown = h.shown;
       is_of = record { count = h.is_of.count; users = h.is_of.users; infos = h.is_of.infos; apart = h.is_of.apart; places = h.is_of.places; counts = h.is_of.counts };
       endpoints = λ j endpoint there. sits_retold t w j endpoint (x j) (y j) (z j) (e j) (f j) (g j) (h.endpoints j endpoint there);
-      beyond = λ j far. nobody_retold t w x y z j (e j) (h.beyond j far);
+      beyond = λ j far. nobody_retold t x y z j (e j) (h.beyond j far);
+      strangers = λ n. record { sits = (h.strangers n).sits; rests = (h.strangers n).rests };
       own = h.own;
       links = h.links;
       slots = h.slots;
-      slots_are = h.slots_are;
+      apart = h.apart;
       faithful = h.faithful;
       begun = h.begun;
     }

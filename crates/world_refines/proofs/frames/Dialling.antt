@@ -1,6 +1,7 @@
 -- The connection for a frame's data is made.
 use Rattle.std.specs.Prelude.{is_some, IsSome}
 use Rattle.std.proofs.Common.{◌≡◌, ◌⊎◌, inl, inr, ◌∙◌, ℕ, ◌<◌, List, [], ◌∷◌, ◌++◌, Option, Some, None, Bool, true, false, refl, sym, ap, subst, map, slice_get, slice_set}
+use Rattle.sane_fixed.specs.declared.status.Status.{Status}
 use Rattle.page_picture.specs.Shows.{Frame}
 use Rattle.sane_fixed.specs.declared.device_info.DeviceInfo.{DeviceInfo}
 use Rattle.data_records.specs.declared.records.RecordPhase.{RecordPhase}
@@ -24,7 +25,7 @@ use Rattle.client_replies.specs.declared.progress.Progress.TheVariants as stages
 use Rattle.client_replies.specs.ProtocolStates.{HistoryFits, FitsAt, progress_connected, target_of, is_running, suits}
 use Rattle.client_replies.specs.ProtocolStates as client
 use Rattle.net_client.specs.ClientStates.{phase_connected, protocol_of}
-use Rattle.system_model.specs.AbstractMessages.{AbstractReply, Status}
+use Rattle.system_model.specs.AbstractMessages.{AbstractReply}
 use Rattle.system_model.specs.Client as model
 use Rattle.system_model.specs.Client.{Idle, ClientView, JobStage, request_awaited}
 use Rattle.system_model.specs.Daemon.{TransferState, Quiet, Waiting, Streaming, Ending}

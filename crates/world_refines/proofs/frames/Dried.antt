@@ -80,7 +80,7 @@ reads_awake place target job pages protocol m r idle = by_outcome place target j
     by_outcome : (place : DeviceInfo → ℕ) (target : JobTarget) (job : model.AbstractJob) (pages : List (List Frame)) (protocol : ProtocolState) (m : ClientView) (o : Outcome) → protocol.outcome ≡ o → ClientRefines place target job pages protocol m → m.stage ≡ Idle → ⊥
     by_outcome place target job pages protocol m outcomes.Running e r idle = let g = (outcomes_alike place target job pages protocol m r).runs e in let clash : Idle ≡ Running g.0 = sym idle ∙ g.1 in absurd (cc)
     by_outcome place target job pages protocol m (outcomes.Done reports) e r idle = let d = (outcomes_alike place target job pages protocol m r).done reports e in let clash : Idle ≡ model.Done = sym idle ∙ d.stage in absurd (cc)
-    by_outcome place target job pages protocol m (outcomes.Ended status why) e r idle = let d = (outcomes_alike place target job pages protocol m r).ended status why e in let clash : Idle ≡ model.Ended _ d.0 = sym idle ∙ d.1.1 in absurd (cc)
+    by_outcome place target job pages protocol m (outcomes.Ended status why) e r idle = let d = (outcomes_alike place target job pages protocol m r).ended status why e in let clash : Idle ≡ model.Ended status why = sym idle ∙ d in absurd (cc)
 
 -- ---- the endpoint of a job that has heard something
 

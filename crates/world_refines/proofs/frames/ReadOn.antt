@@ -1,13 +1,11 @@
 -- What is left on the way of a frame's data, behind a piece of it.
 use Rattle.std.proofs.Common.{◌≡◌, ◌∙◌, ℕ, ◌+◌, ◌≤◌, List, [], ◌∷◌, ◌++◌, Option, Some, None, refl, sym, ap, subst, length, append-nil, append_assoc, length-append, arith}
-use Rattle.sane_fixed.specs.declared.status.Status.{Status as Code}
+use Rattle.sane_fixed.specs.declared.status.Status.{Status}
 use Rattle.sane_fixed.specs.declared.status.Status.TheVariants as codes
 use Rattle.sane_fixed.specs.Status.{status_code, status_of}
 use Rattle.data_records.specs.declared.records.RecordPhase.{RecordPhase}
 use Rattle.data_records.specs.declared.records.RecordPhase.TheVariants as phases
 use Rattle.data_records.specs.Records.{CarriesRecords, RecordsContinue, HasEnded, IsRecords, all_counted, end_record}
-use Rattle.system_model.specs.AbstractMessages.{Status}
-use Rattle.system_model.specs.Devices.{abstract_status}
 use Rattle.world_refines.specs.Wires.{CarriesFlight}
 use Rattle.world_refines.specs.DataDeliveries.{open_still}
 
@@ -60,8 +58,8 @@ left_behind old new used more flight given None step c =
 
 -- a reader that stands behind an end has read all of it
 pub record IsAtEnd (n : ℕ) (more flight given : List ℕ) (closing : Option Status) : Type 0 where
-  pub code : Code
-  pub closing_is : closing ≡ Some (abstract_status code)
+  pub code : Status
+  pub closing_is : closing ≡ Some code
   pub number : n ≡ status_code code
   pub more_is : more ≡ []
   pub flight_is : flight ≡ given
@@ -84,7 +82,7 @@ pub at_end : (old : RecordPhase) (n : ℕ) (used more flight given : List ℕ) (
 at_end old n used more flight given closing step c = let l = left_behind old (phases.Ended n) used more flight given closing step c in at_end_by n more flight given l.rest closing l.flight_is l.carried
 
 -- the status of its number
-pub code_at : (code : Code) → status_of (status_code code) ≡ Some code
+pub code_at : (code : Status) → status_of (status_code code) ≡ Some code
 code_at codes.Good = refl
 code_at codes.Unsupported = refl
 code_at codes.Cancelled = refl

@@ -3,6 +3,7 @@ use Rattle.std.specs.Prelude.{if◌then◌else◌, ◌==◌, ◌&&◌, cond, not
 use Rattle.std.specs.List.{AllByRecursion}
 use Rattle.std.proofs.lemmas.Bool.Decides.{nat_tests}
 use Rattle.std.proofs.Common.{◌≡◌, ◌≢◌, ◌⊎◌, inl, inr, ◌∙◌, ℕ, zero, suc, ◌≤◌, ◌<◌, ◌+◌, nat_lt, List, [], ◌∷◌, ◌++◌, Option, Some, None, Bool, true, false, refl, sym, ap, subst, map, length, slice_get, slice_set, append-nil, append_assoc, arith}
+use Rattle.sane_fixed.specs.declared.status.Status.{Status}
 use Rattle.option_desc.specs.declared.descriptor.Descriptor.{Descriptor}
 use Rattle.page_picture.specs.Page.{IsPageView}
 use Rattle.sane_fixed.specs.declared.device_info.DeviceInfo.{DeviceInfo}
@@ -24,7 +25,7 @@ use Rattle.client_replies.specs.ProtocolStates.{target_of, is_batch, is_imaging,
 use Rattle.client_replies.specs.ProtocolStates as client
 use Rattle.net_client.specs.ClientStates.{ClientRepresents, ClientState, protocol_of}
 use Rattle.net_client.proofs.Ending.{receives_at}
-use Rattle.system_model.specs.AbstractMessages.{AbstractReply, AbstractRequest, Status}
+use Rattle.system_model.specs.AbstractMessages.{AbstractReply, AbstractRequest}
 use Rattle.system_model.specs.Devices.{Make}
 use Rattle.system_model.specs.Client as model
 use Rattle.system_model.specs.Client.{ClientView, Running, JobStage}
@@ -349,7 +350,7 @@ is_reader t w i p image h at low has runs =
       heard = is.1;
       stage = is.2;
       images = frame;
-      few = fewer_pages (t.history i) (t.pages i) me.client.pages (model.further_pages me.session.job.task) reads.files.all frame.continues.fewer (subst (λ (x : model.Task). model.further_pages x ≤ 15) (sym task) (few_further (t.jobs i).task (h.is_of.counts i low)));
+      few = fewer_pages (t.history i) (t.pages i) me.client.pages (model.further_pages me.session.job.task) reads.files.all frame.continues.fewer (subst (λ (x : model.AbstractTask). model.further_pages x ≤ 15) (sym task) (few_further (t.jobs i).task (h.is_of.counts i low)));
       made = s.means.image some;
       unended = s.means.unended;
       runs = runs;

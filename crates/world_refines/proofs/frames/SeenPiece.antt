@@ -2,8 +2,9 @@
 use Rattle.std.specs.Prelude.{if◌then◌else◌, min, IsSome, is_some}
 use Rattle.std.proofs.Common.{◌≡◌, ◌⊎◌, inl, inr, ◌∙◌, ℕ, ◌≤◌, ◌<◌, ◌+◌, List, [], ◌∷◌, ◌++◌, Option, Some, None, Bool, true, false, refl, sym, ap, subst, map, length, append-nil, append_assoc, length-append, arith}
 use Rattle.std.proofs.lemmas.List.{length-map, take-append-drop}
+use Rattle.scan_job.specs.declared.outcome.Why.{Why}
 use Rattle.sane_fixed.specs.declared.params.Params.{Params}
-use Rattle.sane_fixed.specs.declared.status.Status.{Status as Code}
+use Rattle.sane_fixed.specs.declared.status.Status.{Status}
 use Rattle.sane_fixed.specs.declared.status.Status.TheVariants as statuses
 use Rattle.page_picture.specs.Shows.{Frame}
 use Rattle.data_records.specs.declared.records.RecordPhase.{RecordPhase}
@@ -28,9 +29,8 @@ use Rattle.client_replies.specs.ProtocolStates as client
 use Rattle.sane_fixed.specs.Status.{status_of}
 use Rattle.net_client.specs.ClientStates.{ClientRepresents, ClientState, protocol_of}
 use Rattle.net_client.specs.FramePieces.{Receives}
-use Rattle.system_model.specs.AbstractMessages as words
-use Rattle.system_model.specs.AbstractMessages.{AbstractReply, AbstractRequest, Status}
-use Rattle.system_model.specs.Devices.{Make, frame_fills, frame_overflows, abstract_status}
+use Rattle.system_model.specs.AbstractMessages.{AbstractReply, AbstractRequest}
+use Rattle.system_model.specs.Devices.{Make, frame_fills, frame_overflows}
 use Rattle.system_model.specs.Client as model
 use Rattle.system_model.specs.Client.{Imaging, ClientView, Running, JobStage, further_pages, requests_sent}
 use Rattle.system_model.specs.Causes.{ClientOutOfMemory, IsCauseAmong, LinkOutOfMemory}
@@ -129,27 +129,27 @@ page_flows : (b : Bool) (c : TransferState) (progress : Progress) (phase : Recor
 page_flows true c progress phase = record { image_is = refl; flight_is = refl; ending_is = refl }
 page_flows false c progress phase = tt
 
-close_flows : (b : Bool) (task : model.Task) (f : Frame) (m : ClientView) (c : TransferState) (progress : Progress) (phase : RecordPhase) → FlightMatches (close_page b task f m).stage c progress phase None [] None
+close_flows : (b : Bool) (task : model.AbstractTask) (f : Frame) (m : ClientView) (c : TransferState) (progress : Progress) (phase : RecordPhase) → FlightMatches (close_page b task f m).stage c progress phase None [] None
 close_flows true task f m c progress phase = page_flows _ c progress phase
 close_flows false task f m c progress phase = record { image_is = refl; flight_is = refl; ending_is = refl }
 
-frame_flows : (b : Bool) (task : model.Task) (params : Params) (heard : List ℕ) (m : ClientView) (c : TransferState) (progress : Progress) (phase : RecordPhase) → FlightMatches (close_frame b task params heard m).stage c progress phase None [] None
+frame_flows : (b : Bool) (task : model.AbstractTask) (params : Params) (heard : List ℕ) (m : ClientView) (c : TransferState) (progress : Progress) (phase : RecordPhase) → FlightMatches (close_frame b task params heard m).stage c progress phase None [] None
 frame_flows true task params heard m c progress phase = close_flows params.last_frame task _ m c progress phase
 frame_flows false task params heard m c progress phase = tt
 
-end_flows : (status : Status) (task : model.Task) (params : Params) (heard : List ℕ) (m : ClientView) (c : TransferState) (progress : Progress) (phase : RecordPhase) → FlightMatches (end_frame status task params heard m).stage c progress phase None [] None
-end_flows words.Eof task params heard m c progress phase = frame_flows (frame_fills params heard) task params heard m c progress phase
-end_flows words.Good task params heard m c progress phase = tt
-end_flows words.Unsupported task params heard m c progress phase = tt
-end_flows words.GivenUp task params heard m c progress phase = tt
-end_flows words.Busy task params heard m c progress phase = tt
-end_flows words.Inval task params heard m c progress phase = tt
-end_flows words.Jammed task params heard m c progress phase = tt
-end_flows words.NoDocs task params heard m c progress phase = tt
-end_flows words.CoverOpen task params heard m c progress phase = tt
-end_flows words.IoError task params heard m c progress phase = tt
-end_flows words.NoMem task params heard m c progress phase = tt
-end_flows words.AccessDenied task params heard m c progress phase = tt
+end_flows : (status : Status) (task : model.AbstractTask) (params : Params) (heard : List ℕ) (m : ClientView) (c : TransferState) (progress : Progress) (phase : RecordPhase) → FlightMatches (end_frame status task params heard m).stage c progress phase None [] None
+end_flows statuses.Eof task params heard m c progress phase = frame_flows (frame_fills params heard) task params heard m c progress phase
+end_flows statuses.Good task params heard m c progress phase = tt
+end_flows statuses.Unsupported task params heard m c progress phase = tt
+end_flows statuses.Cancelled task params heard m c progress phase = tt
+end_flows statuses.DeviceBusy task params heard m c progress phase = tt
+end_flows statuses.Inval task params heard m c progress phase = tt
+end_flows statuses.Jammed task params heard m c progress phase = tt
+end_flows statuses.NoDocs task params heard m c progress phase = tt
+end_flows statuses.CoverOpen task params heard m c progress phase = tt
+end_flows statuses.IoError task params heard m c progress phase = tt
+end_flows statuses.NoMem task params heard m c progress phase = tt
+end_flows statuses.AccessDenied task params heard m c progress phase = tt
 
 -- what is so of a client view behind an end: it knows its descriptors, is connected, and is done with a page that is whole alone
 pub record IsEnd (m old : ClientView) : Type 0 where
@@ -161,30 +161,30 @@ page_end : (b : Bool) (m : ClientView) (f : Frame) → IsEnd (record m { stage =
 page_end true m f = record { known = refl; alive = λ e. let clash : Running model.Starting ≡ model.Idle = e in absurd (cc); done = λ e. (m.frames ++ f ∷ [], refl) }
 page_end false m f = record { known = refl; alive = λ e. let clash : model.Done ≡ model.Idle = e in absurd (cc); done = λ e. (m.frames ++ f ∷ [], refl) }
 
-close_end : (b : Bool) (task : model.Task) (f : Frame) (m : ClientView) → IsEnd (close_page b task f m) m
+close_end : (b : Bool) (task : model.AbstractTask) (f : Frame) (m : ClientView) → IsEnd (close_page b task f m) m
 close_end true task f m = page_end _ m f
 close_end false task f m = record { known = refl; alive = λ e. let clash : Running model.Starting ≡ model.Idle = e in absurd (cc); done = λ e. let clash : Running model.Starting ≡ model.Done = e in absurd (cc) }
 
-stopped_end : (status : Status) (why : words.Why) (m : ClientView) → IsEnd (record m { stage = model.Ended status why }) m
+stopped_end : (status : Status) (why : Why) (m : ClientView) → IsEnd (record m { stage = model.Ended status why }) m
 stopped_end status why m = record { known = refl; alive = λ e. let clash : model.Ended status why ≡ model.Idle = e in absurd (cc); done = λ e. let clash : model.Ended status why ≡ model.Done = e in absurd (cc) }
 
-frame_end : (b : Bool) (task : model.Task) (params : Params) (heard : List ℕ) (m : ClientView) → IsEnd (close_frame b task params heard m) m
+frame_end : (b : Bool) (task : model.AbstractTask) (params : Params) (heard : List ℕ) (m : ClientView) → IsEnd (close_frame b task params heard m) m
 frame_end true task params heard m = close_end params.last_frame task _ m
-frame_end false task params heard m = stopped_end words.IoError words.Short m
+frame_end false task params heard m = stopped_end statuses.IoError whys.Short m
 
-end_end : (status : Status) (task : model.Task) (params : Params) (heard : List ℕ) (m : ClientView) → IsEnd (end_frame status task params heard m) m
-end_end words.Eof task params heard m = frame_end (frame_fills params heard) task params heard m
-end_end words.Good task params heard m = stopped_end words.IoError words.Malformed m
-end_end words.Unsupported task params heard m = stopped_end words.Unsupported words.Answer m
-end_end words.GivenUp task params heard m = stopped_end words.GivenUp words.Answer m
-end_end words.Busy task params heard m = stopped_end words.Busy words.Answer m
-end_end words.Inval task params heard m = stopped_end words.Inval words.Answer m
-end_end words.Jammed task params heard m = stopped_end words.Jammed words.Answer m
-end_end words.NoDocs task params heard m = stopped_end words.NoDocs words.Answer m
-end_end words.CoverOpen task params heard m = stopped_end words.CoverOpen words.Answer m
-end_end words.IoError task params heard m = stopped_end words.IoError words.Answer m
-end_end words.NoMem task params heard m = stopped_end words.NoMem words.Answer m
-end_end words.AccessDenied task params heard m = stopped_end words.AccessDenied words.Answer m
+end_end : (status : Status) (task : model.AbstractTask) (params : Params) (heard : List ℕ) (m : ClientView) → IsEnd (end_frame status task params heard m) m
+end_end statuses.Eof task params heard m = frame_end (frame_fills params heard) task params heard m
+end_end statuses.Good task params heard m = stopped_end statuses.IoError whys.Malformed m
+end_end statuses.Unsupported task params heard m = stopped_end statuses.Unsupported whys.Answer m
+end_end statuses.Cancelled task params heard m = stopped_end statuses.Cancelled whys.Answer m
+end_end statuses.DeviceBusy task params heard m = stopped_end statuses.DeviceBusy whys.Answer m
+end_end statuses.Inval task params heard m = stopped_end statuses.Inval whys.Answer m
+end_end statuses.Jammed task params heard m = stopped_end statuses.Jammed whys.Answer m
+end_end statuses.NoDocs task params heard m = stopped_end statuses.NoDocs whys.Answer m
+end_end statuses.CoverOpen task params heard m = stopped_end statuses.CoverOpen whys.Answer m
+end_end statuses.IoError task params heard m = stopped_end statuses.IoError whys.Answer m
+end_end statuses.NoMem task params heard m = stopped_end statuses.NoMem whys.Answer m
+end_end statuses.AccessDenied task params heard m = stopped_end statuses.AccessDenied whys.Answer m
 
 -- the frames of a client that is done with a page are whole
 joined_by : (b : Bool) (past : JoinHistory) (front : List (List Frame)) (x : List Frame) → is_joined past.ended ≡ b → front ++ x ∷ [] ≡ front ++ wholes past.ended → b ≡ true
@@ -412,7 +412,7 @@ ends t i p n image piece mid given number past sent h whole kept b out e =
     let short = within i (make_for t.system i) me (device_for t.system i) h.params h.heard given [] h.images flight in
     let heard = h.heard ++ given in
     let was : JobState = reading me h.params heard [] in
-    let status = abstract_status a.code in
+    let status = a.code in
     let now : JobState = job_after_frame_end was status in
     let come = read_actions given ++ actions.Finishes status ∷ [] in
     let read = party_reads me h.params h.heard given [] h.stage flight short in
@@ -420,7 +420,7 @@ ends t i p n image piece mid given number past sent h whole kept b out e =
     let is_end : IsEnd now.client me.client = record { known = ended.known; alive = ended.alive; done = ended.done } in
     let closes : EndRecordRefines place p.client.target me.session.job shown (t.history i).given past mid now.client sent =
     subst (λ (m : ClientView). EndRecordRefines place p.client.target me.session.job shown (t.history i).given past mid (finish_in m.stage me.session.job.task m status) sent) (read_is me.client h.params h.heard given h.stage short)
-    (subst (λ (o : Option Code). EndByteRefines place p.client.target me.session.job shown (t.history i).given past mid (client_after_bytes me.client.stage me.client given) sent o) (ap status_of a.number ∙ code_at a.code) e) in
+    (subst (λ (o : Option Status). EndByteRefines place p.client.target me.session.job shown (t.history i).given past mid (client_after_bytes me.client.stage me.client given) sent o) (ap status_of a.number ∙ code_at a.code) e) in
     let word : mid.notes.word ≡ 0 = kept.word ∙ h.exchanges.word h.runs in
     let spell : SpellsSentAt (target_of (t.jobs i)) 0 mid.progress sent me.session.job now.client =
     subst (λ (x : JobTarget). SpellsSentAt x 0 mid.progress sent me.session.job now.client) h.exchanges.target (subst (λ (w : ℕ). SpellsSentAt p.client.target w mid.progress sent me.session.job now.client) word closes.spells) in
@@ -474,7 +474,7 @@ starved_else e = absurd (cc)
 
 starves : (t : Ghost) (i : ℕ) (p : Endpoint) (n : ℕ) (image : Image) (piece : List ℕ) (mid : ClientState) (given more : List ℕ) (phase : RecordPhase) (past : JoinHistory) → IsReader t i p image.bytes → piece ++ bytes_not_delivered n image.bytes ≡ image.bytes → IsKept p.client mid → RecordsBring p.client.phase phase piece (given ++ more) → mid.out ≡ p.client.out →
     mid.outcome ≡ outcomes.Ended statuses.NoMem whys.Memory → ClientRepresents past mid → past.given ≡ (t.history i).given →
-    ClientRefines (place_of_info t.infos) p.client.target (t.system.job i).session.job (map (λ (q : JoinHistory). q.ended) (t.pages i)) (protocol_of mid past) (client_after_stop words.NoMem words.Memory (client_after_bytes (t.system.job i).client.stage (t.system.job i).client given)) → IsMid t i p piece (bytes_not_delivered n image.bytes) (handed n image p) mid
+    ClientRefines (place_of_info t.infos) p.client.target (t.system.job i).session.job (map (λ (q : JoinHistory). q.ended) (t.pages i)) (protocol_of mid past) (client_after_stop statuses.NoMem whys.Memory (client_after_bytes (t.system.job i).client.stage (t.system.job i).client given)) → IsMid t i p piece (bytes_not_delivered n image.bytes) (handed n image p) mid
 starves t i p n image piece mid given more phase past h whole kept b out outcome serves given_is r =
     let me = t.system.job i in
     let rest = bytes_not_delivered n image.bytes in
@@ -485,7 +485,7 @@ starves t i p n image piece mid given more phase past h whole kept b out outcome
     let flight : me.session.flight ≡ given ++ (more ++ behind.rest) = behind.flight_is ∙ append_assoc given more behind.rest in
     let short = within i (make_for t.system i) me (device_for t.system i) h.params h.heard given (more ++ behind.rest) h.images flight in
     let was : JobState = reading me h.params (h.heard ++ given) (more ++ behind.rest) in
-    let now : JobState = record was { client = client_after_stop words.NoMem words.Memory was.client; session = with_cause was.session ClientOutOfMemory } in
+    let now : JobState = record was { client = client_after_stop statuses.NoMem whys.Memory was.client; session = with_cause was.session ClientOutOfMemory } in
     let read = party_reads me h.params h.heard given (more ++ behind.rest) h.stage flight short in
     let over : is_running mid.outcome ≡ false = ap is_running outcome in
     let still = turns_over mid.outcome mid.progress over in
@@ -497,7 +497,7 @@ starves t i p n image piece mid given more phase past h whole kept b out outcome
       history = past;
       told =
           told_mid t i p image.bytes n image mid past now.client h kept serves given_is
-          (subst (λ (m : ClientView). ClientRefines place p.client.target me.session.job shown (protocol_of mid past) (client_after_stop words.NoMem words.Memory m)) (read_is me.client h.params h.heard given h.stage short) r);
+          (subst (λ (m : ClientView). ClientRefines place p.client.target me.session.job shown (protocol_of mid past) (client_after_stop statuses.NoMem whys.Memory m)) (read_is me.client h.params h.heard given h.stage short) r);
       input = kept.input;
       sent = [];
       out = out ∙ sym (append-nil p.client.out);
@@ -514,7 +514,7 @@ starves t i p n image piece mid given more phase past h whole kept b out outcome
         due = refl;
         todo = sym (append-nil me.todo);
         known = refl;
-        alive = λ e. let clash : model.Ended words.NoMem words.Memory ≡ model.Idle = e in absurd (cc);
+        alive = λ e. let clash : model.Ended statuses.NoMem whys.Memory ≡ model.Idle = e in absurd (cc);
         image = λ _. h.made;
         last = λ _. refl;
         unended = h.unended;

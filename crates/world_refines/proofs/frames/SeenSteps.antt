@@ -1,8 +1,9 @@
 -- Steps that the client of a job takes alone: bytes and the end of its frame, and out of memory.
 use Rattle.std.proofs.Common.{◌≡◌, ◌≢◌, ◌∙◌, ℕ, List, [], ◌∷◌, ◌++◌, Some, Bool, false, refl, sym, ap, subst, append-nil}
+use Rattle.scan_job.specs.declared.outcome.Why.TheVariants.{Memory}
+use Rattle.sane_fixed.specs.declared.status.Status.TheVariants.{NoMem}
 use Rattle.sane_fixed.specs.declared.params.Params.{Params}
 use Rattle.frame_join.specs.FrameHistory.{JoinHistory}
-use Rattle.system_model.specs.AbstractMessages.{NoMem, Memory}
 use Rattle.system_model.specs.Devices.{Make, frame_overflows}
 use Rattle.system_model.specs.Client.{Imaging, ClientView, Running, JobStage}
 use Rattle.system_model.specs.ClientReplies.{client_after_bytes, reads_on, client_after_stop}

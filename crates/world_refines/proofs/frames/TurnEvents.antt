@@ -1,6 +1,7 @@
 -- A turn of a job's data connection.
 use Rattle.std.specs.Prelude.{is_some, option_map, IsSome}
 use Rattle.std.proofs.Common.{◌≡◌, ◌⊎◌, inl, inr, ◌∙◌, ℕ, ◌<◌, List, [], ◌∷◌, ◌++◌, Option, Some, None, Bool, true, false, refl, sym, ap, subst, slice_get, slice_set}
+use Rattle.sane_fixed.specs.declared.status.Status.{Status}
 use Rattle.sane_fixed.specs.declared.status.Status.TheVariants as codes
 use Rattle.sane_fixed.specs.Status.{status_code}
 use Rattle.sane_fixed.specs.declared.device_info.DeviceInfo.{DeviceInfo}
@@ -21,7 +22,6 @@ use Rattle.saned_requests.specs.Holding.{held_by}
 use Rattle.daemon_refines.proofs.Cores.{own_slot}
 use Rattle.scan_job.specs.declared.job.Job.{Job}
 use Rattle.client_replies.specs.declared.progress.Progress.{Progress}
-use Rattle.system_model.specs.AbstractMessages.{Status}
 use Rattle.system_model.specs.Causes.{Cause, IsCauseAmong, Names, NamesEof, SourceFailed, LinkOutOfMemory}
 use Rattle.system_model.specs.Client as model
 use Rattle.system_model.specs.Client.{Idle, JobStage}

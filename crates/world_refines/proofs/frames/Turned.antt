@@ -3,7 +3,8 @@ use Rattle.std.specs.Int.{w32, to_be_bytes}
 use Rattle.std.specs.Prelude.{Result, Ok, Err}
 use Rattle.std.proofs.Common.{◌≡◌, ◌∙◌, ℕ, ◌+◌, ◌≤◌, ◌<◌, List, ◌∷◌, ◌++◌, Option, Some, None, Bool, true, false, refl, sym, ap, subst, length, take, drop, arith}
 use Rattle.std.proofs.lemmas.List.{length-take}
-use Rattle.sane_fixed.specs.declared.status.Status.{Status as Code}
+use Rattle.sane_fixed.specs.declared.status.Status.TheVariants.{Cancelled, Eof, IoError}
+use Rattle.sane_fixed.specs.declared.status.Status.{Status}
 use Rattle.sane_fixed.specs.declared.status.Status.TheVariants as codes
 use Rattle.sane_fixed.specs.Status.{status_code}
 use Rattle.data_records.specs.Records.{counted_record, end_record}
@@ -18,12 +19,11 @@ use Rattle.saned_core.specs.declared.session_slot.DataStep.TheVariants as did
 use Rattle.saned_core.specs.DaemonStates.{Core}
 use Rattle.saned_core.specs.Turns.{Records, StreamsFrom, StreamsIn}
 use Rattle.saned_core.proofs.Streaming.{window_short}
-use Rattle.system_model.specs.AbstractMessages.{Status, Eof, GivenUp, IoError}
 use Rattle.system_model.specs.Causes.{Cause, Names, NamesEof, SourceFailed}
 use Rattle.system_model.specs.Daemon.{TransferState, FailureCounts, Quiet}
 use Rattle.system_model.specs.Actions as actions
 use Rattle.system_model.specs.Actions.{Action, device_after, job_after_action}
-use Rattle.system_model.specs.Devices.{Make, abstract_status}
+use Rattle.system_model.specs.Devices.{Make}
 use Rattle.system_model.specs.AbstractDevices.{AbstractDevice, ScanPhase, Resting, ended_phase, read_on}
 use Rattle.system_model.specs.SystemStates.{SessionView, JobState}
 use Rattle.daemon_refines.specs.Streams.{SendsAs}
@@ -34,7 +34,7 @@ use Rattle.world_refines.specs.GhostEvents.{IsRecordOf}
 pub data Turn : Type 0 where
   Gives : (bytes : List ℕ) → Turn
   Whole : Turn
-  Named : (code : Code) → Turn
+  Named : (code : Status) → Turn
   Short : Turn
   Failed : (fault : FailureCounts) → Turn
   Off : Turn
@@ -42,7 +42,7 @@ pub data Turn : Type 0 where
 abbrev pub action_of : Turn → Action
 action_of (Gives bytes) = actions.Turns bytes
 action_of Whole = actions.TurnsLast
-action_of (Named code) = actions.TurnsNamed (abstract_status code)
+action_of (Named code) = actions.TurnsNamed code
 action_of Short = actions.TurnsShort
 action_of (Failed fault) = actions.TurnsFault fault
 action_of Off = actions.TurnsOff
@@ -93,10 +93,10 @@ flight_after Off flight = flight
 abbrev pub ending_after : Turn → Option Status → Option Status
 ending_after (Gives bytes) old = old
 ending_after Whole old = Some Eof
-ending_after (Named code) old = Some (abstract_status code)
+ending_after (Named code) old = Some code
 ending_after Short old = Some Eof
 ending_after (Failed fault) old = Some IoError
-ending_after Off old = Some GivenUp
+ending_after Off old = Some Cancelled
 
 abbrev pub carriage_after : Turn → TransferState → TransferState
 carriage_after (Gives bytes) c = c
@@ -109,7 +109,7 @@ carriage_after Off c = Quiet
 abbrev pub met_after : Turn → List Cause → List Cause
 met_after (Gives bytes) met = met
 met_after Whole met = met
-met_after (Named code) met = Names (abstract_status code) ∷ met
+met_after (Named code) met = Names code ∷ met
 met_after Short met = NamesEof ∷ met
 met_after (Failed fault) met = SourceFailed ∷ met
 met_after Off met = met
@@ -160,7 +160,7 @@ pub record IsTurn (action : Action) (step : DataStep) (buf : List ℕ) : Type 0 
 gives_step : (bytes : List ℕ) (step : DataStep) (buf : List ℕ) (n : ℕ) (d : Core) (p : Endpoint) (e : Core) (q : Endpoint) → SendsAs step buf (actions.Turns bytes) → world.SendsStep n step buf d p e q → world.SendsRecord n (counted_record bytes) false d p e q
 gives_step bytes step buf n d p e q s h = subst (λ (text : List ℕ). world.SendsRecord n text false d p e q) s.1 (subst (λ (x : DataStep). world.SendsStep n x buf d p e q) s.0 h)
 
-end_step : (status : Code) (step : DataStep) (buf : List ℕ) (n : ℕ) (d : Core) (p : Endpoint) (e : Core) (q : Endpoint) → (step ≡ did.Last 5) × (take 5 buf ≡ end_record (status_code status)) → world.SendsStep n step buf d p e q → world.SendsRecord n (end_record (status_code status)) true d p e q
+end_step : (status : Status) (step : DataStep) (buf : List ℕ) (n : ℕ) (d : Core) (p : Endpoint) (e : Core) (q : Endpoint) → (step ≡ did.Last 5) × (take 5 buf ≡ end_record (status_code status)) → world.SendsStep n step buf d p e q → world.SendsRecord n (end_record (status_code status)) true d p e q
 end_step status step buf n d p e q s h = subst (λ (text : List ℕ). world.SendsRecord n text true d p e q) s.1 (subst (λ (x : DataStep). world.SendsStep n x buf d p e q) s.0 h)
 
 pub is_turn : (action : Action) (step : DataStep) (buf : List ℕ) → SendsAs step buf action → IsTurn action step buf
@@ -196,7 +196,7 @@ short_bytes n window bytes buf most e a b =
     let long : length (take n window) ≡ length bytes = ap (λ (x : List ℕ). length x) same in
     omega (arith, most, long, length-take n window)
 
-short_records : (answer : Result ℕ Code) (window bytes : List ℕ) (step : DataStep) (buf : List ℕ) → length window ≤ 65536 → Records answer window step buf → SendsAs step buf (actions.Turns bytes) → length bytes < 4294967295
+short_records : (answer : Result ℕ Status) (window bytes : List ℕ) (step : DataStep) (buf : List ℕ) → length window ≤ 65536 → Records answer window step buf → SendsAs step buf (actions.Turns bytes) → length bytes < 4294967295
 short_records (Ok n) window bytes step buf most r s =
     let sizes : 4 + n ≡ 4 + length bytes = ap size_of (sym r.0 ∙ s.0) in
     short_bytes n window bytes buf most (omega (arith, sizes)) r.1 s.1

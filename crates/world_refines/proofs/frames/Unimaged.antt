@@ -1,6 +1,9 @@
 -- The loss of a data connection.
 use Rattle.std.specs.Prelude.{option_map, is_some, IsSome}
 use Rattle.std.proofs.Common.{◌≡◌, ◌⊎◌, inl, inr, ◌∙◌, ℕ, ◌<◌, List, [], ◌∷◌, Option, Some, None, Bool, true, false, refl, sym, ap, subst, map, slice_get, slice_set}
+use Rattle.scan_job.specs.declared.outcome.Why.TheVariants.{Lost}
+use Rattle.sane_fixed.specs.declared.status.Status.{Status}
+use Rattle.sane_fixed.specs.declared.status.Status.TheVariants.{IoError}
 use Rattle.page_picture.specs.Shows.{Frame}
 use Rattle.sane_fixed.specs.declared.device_info.DeviceInfo.{DeviceInfo}
 use Rattle.data_records.specs.declared.records.RecordPhase.{RecordPhase}
@@ -17,7 +20,6 @@ use Rattle.client_replies.specs.declared.progress.Progress.{Progress}
 use Rattle.client_replies.specs.declared.progress.Progress.TheVariants as stages
 use Rattle.client_replies.specs.ProtocolStates.{ProtocolState, target_of, is_imaging, is_lost_by, is_running}
 use Rattle.net_client.specs.ClientStates.{ClientState, protocol_of}
-use Rattle.system_model.specs.AbstractMessages.{IoError, Lost, Status}
 use Rattle.system_model.specs.Client as model
 use Rattle.system_model.specs.Client.{Idle, ClientView, JobStage}
 use Rattle.system_model.specs.ClientReplies.{client_after_stop, stage_after_stop}

@@ -38,9 +38,10 @@ use Rattle.event_world.specs.Endpoints.{IsNew, budget_of, no_pages}
 use Rattle.event_world.specs.JobEvents.{is_done}
 use Rattle.event_world.specs.Worlds.{AreNew, WorldCore}
 use Rattle.world_refines.specs.GhostStates.{name_at, place_of_info, abstract_job}
-use Rattle.world_refines.specs.WorldRefinement.{HaveDifferentNames, SlotsAreOfEndpoints, IsBelow, IsFaithful, IsFaithfulPlace, IsFaithfulSessionSlot, IsFaithfulPage, KeepsFiles, Means, EndpointRefines, EndpointRefinesAt, EndpointClientRefines, info_at, is_laid}
-use Rattle.world_refines.proofs.state.EndpointSlots.{none_in_slot}
-use Rattle.world_refines.specs.NewWorlds.{HaveSourcesAt, info_of_state, initial_ghost, IsNewDaemon, PageSources, make_of, NewWorldsRefine, wires_of}
+use Rattle.world_refines.specs.WorldRefinement.{HaveDifferentNames, HaveDifferentNumbers, IsBelow, IsFaithful, IsFaithfulPlace, IsFaithfulSessionSlot, IsFaithfulPage, KeepsFiles, Means, EndpointRefines, EndpointRefinesAt, EndpointClientRefines, info_at, is_laid, stranger_of}
+use Rattle.world_refines.proofs.state.Strangers.{none_yet}
+use Rattle.world_refines.proofs.state.EndpointSlots.{no_slot_yet, none_in_slot}
+use Rattle.world_refines.specs.NewWorlds.{HaveSourcesAt, info_of_state, initial_ghost, IsNewDaemon, PageSources, make_of, NewWorldsAreAlone, NewWorldsRefine, wires_of}
 use Rattle.world_refines.proofs.state.Faithful.{cancel_true}
 use Rattle.world_refines.proofs.state.Waiting.{waits_first}
 use Rattle.world_refines.proofs.state.WorldPending.{no_reply_none, no_request_none, receives_greeting}
@@ -168,7 +169,7 @@ new_at (job ∷ jobs) [] i p h e = absurd h
 new_at (job ∷ jobs) (q ∷ endpoints) zero p h e = let same : q ≡ p = cc in record { job = job; at = refl; new = subst (λ (x : Endpoint). IsNew job x) same h.0 }
 new_at (job ∷ jobs) (q ∷ endpoints) (suc i) p h e = let more = new_at jobs endpoints i p h.1 e in record { job = more.job; at = more.at; new = more.new }
 
-as_many : (jobs : List Job) (endpoints : List Endpoint) → AreNew jobs endpoints → length jobs ≡ length endpoints
+pub as_many : (jobs : List Job) (endpoints : List Endpoint) → AreNew jobs endpoints → length jobs ≡ length endpoints
 as_many [] [] h = refl
 as_many [] (q ∷ endpoints) h = absurd h
 as_many (job ∷ jobs) [] h = absurd h
@@ -256,13 +257,14 @@ new_sits sources jobs other devices w i p only d n at =
       pends = record { asking = no_request_none; telling = λ on. no_reply_none p.client.progress; reading = λ e. absurd (receives_greeting p.client.outcome p.client.progress (ap (λ (v : ClientState). v.progress) n.new.client.value) e) };
     })))
 
-unlinked : (jobs : List Job) (i : ℕ) (p : Endpoint) (id : SessionId) → IsNewAt jobs i p → p.link ≡ Some id → ⊥
+pub unlinked : (jobs : List Job) (i : ℕ) (p : Endpoint) (id : SessionId) → IsNewAt jobs i p → p.link ≡ Some id → ⊥
 unlinked jobs i p id n e = let clash : None ≡ Some id = sym (ap (λ (x : Endpoint). x.link) n.new.rest) ∙ e in absurd (cc)
 
 pub new_worlds_stand : NewWorldsRefine
 new_worlds_stand sources jobs other devices w new d names limits only fit =
     let t = initial_ghost sources jobs other devices w.daemon.users w.endpoints in
     let all = all_each HasLimits devices limits in
+    let below : AllByRecursion (IsBelow w.daemon.opened) w.daemon.slots = subst (λ (slots : List (Option (SessionSlot DeviceState))). AllByRecursion (IsBelow w.daemon.opened) slots) (sym d.slots) (tt, (tt, (tt, (tt, (tt, (tt, (tt, (tt, tt)))))))) in
     record {
       sound = beginning_sound t.system.make t.system.device (λ i. abstract_job w.daemon.users t.infos (slice_index_or jobs i other)) t.system.places (λ k. free_at (slice_get devices k))
           (λ k. fit_at (sources k) (slice_get devices k) (λ s e. all_there HasLimits devices k s all e));
@@ -282,15 +284,21 @@ new_worlds_stand sources jobs other devices w new d names limits only fit =
         linked = refl;
         transfer = refl;
         image = ap (λ (o : Option Endpoint). (wires_of o).image) (past_end w.endpoints i high);
-        table = subst (λ (r : Table). TableRefines i t.system.make [] r t.system.device) (sym d.registry) (new_table sources i devices only);
+      };
+      strangers = λ n. record {
+        sits = λ session is nobodys. absurd (let clash : None ≡ Some session = sym (none_yet w.daemon.opened w.daemon.slots n below (subst (λ (m : ℕ). m ≤ n) (sym d.opened) (omega arith))) ∙ is in cc);
+        rests = λ either. subst (λ (r : Table). TableRefines (stranger_of w n) t.system.make [] r t.system.device) (sym d.registry) (new_table sources (stranger_of w n) devices only);
       };
       own = λ i j a b x y at_a at_b is_x is_y same. absurd (unlinked jobs i a x (new_at jobs w.endpoints i a new at_a) is_x);
       links = λ i p id at is. absurd (unlinked jobs i p id (new_at jobs w.endpoints i p new at) is);
-      slots = subst (λ (slots : List (Option (SessionSlot DeviceState))). AllByRecursion (IsBelow w.daemon.opened) slots) (sym d.slots) (tt, (tt, (tt, (tt, (tt, (tt, (tt, (tt, tt))))))));
-      slots_are = subst (λ (slots : List (Option (SessionSlot DeviceState))). SlotsAreOfEndpoints slots w.endpoints) (sym d.slots) (none_in_slot w.endpoints);
+      slots = below;
+      apart = subst HaveDifferentNumbers (sym d.slots) none_in_slot;
       faithful = record {
         lying = subst (λ (r : Table). AllByRecursion IsFaithfulPlace r) (sym d.registry) (table_true devices all);
         lent = subst (λ (slots : List (Option (SessionSlot DeviceState))). AllByRecursion IsFaithfulSessionSlot slots) (sym d.slots) (tt, (tt, (tt, (tt, (tt, (tt, (tt, (tt, tt))))))));
       };
       begun = λ i steady. tt;
     }
+
+pub new_worlds_alone : NewWorldsAreAlone
+new_worlds_alone devices w d k slot at = absurd (no_slot_yet k slot (ap (λ (slots : List (Option (SessionSlot DeviceState))). slice_get slots k) (sym d.slots) ∙ at))

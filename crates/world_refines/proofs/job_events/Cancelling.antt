@@ -1,6 +1,7 @@
 -- A job that is given up.
 use Rattle.std.proofs.Common.{◌≡◌, ◌≢◌, ◌⊎◌, inl, inr, ◌∙◌, ℕ, ◌<◌, List, [], ◌∷◌, ◌++◌, Option, Some, Bool, true, false, refl, sym, ap, subst, map, slice_get, slice_set, append_assoc}
 use Rattle.std.specs.Prelude.{cond}
+use Rattle.scan_job.specs.declared.outcome.Why.TheVariants.{Cancelled}
 use Rattle.sane_fixed.specs.declared.device_info.DeviceInfo.{DeviceInfo}
 use Rattle.page_picture.specs.Shows.{Frame}
 use Rattle.frame_join.specs.FrameHistory.{JoinHistory, is_joined}
@@ -17,7 +18,7 @@ use Rattle.client_replies.specs.ProtocolStates.{target_of, is_batch, is_running}
 use Rattle.net_client.specs.Sending.{requests_text}
 use Rattle.net_client.specs.ClientStates.{ClientState, after_client_end, protocol_of}
 use Rattle.wire_format.specs.Writer.{behind}
-use Rattle.system_model.specs.AbstractMessages.{Cancelled, GivenUp, AbstractRequest}
+use Rattle.system_model.specs.AbstractMessages.{AbstractRequest}
 use Rattle.system_model.specs.Client.{Done, Ended, Idle, ClientView, Running, JobStage, abstract_farewell}
 use Rattle.system_model.specs.Client as model
 use Rattle.system_model.specs.ClientReplies.{client_after_stop, stage_after_stop}
@@ -63,7 +64,7 @@ given_up out p = record (after_move p) { client = record (after_client_end statu
 
 -- the job by the model
 abbrev stops_by : JobState → JobState
-stops_by p = record p { client = client_after_stop GivenUp Cancelled p.client; todo = p.todo ++ abstract_farewell p.client.stage; session = with_cause p.session GaveUp }
+stops_by p = record p { client = client_after_stop statuses.Cancelled Cancelled p.client; todo = p.todo ++ abstract_farewell p.client.stage; session = with_cause p.session GaveUp }
 
 -- no job that runs has laid its last page by
 pub laid_not : (task : Task) (o : Outcome) (past : JoinHistory) → is_done o ≡ false → is_laid task o past ≡ false
@@ -87,7 +88,7 @@ record Says (place : DeviceInfo → ℕ) (target : JobTarget) (job : model.Abstr
   pub text : List ℕ
   pub out_is : out ≡ old.out ++ text
   pub spells : SpellsSent target text (asks_of 0 m.known (abstract_farewell (client_at_greeting m.stage m).stage))
-  pub reads : ClientRefines place target job pages (protocol_of (after_client_end statuses.Cancelled whys.Cancelled old) past) (client_at_greeting (stage_after_stop GivenUp Cancelled m.stage) (client_after_stop GivenUp Cancelled m))
+  pub reads : ClientRefines place target job pages (protocol_of (after_client_end statuses.Cancelled whys.Cancelled old) past) (client_at_greeting (stage_after_stop statuses.Cancelled Cancelled m.stage) (client_after_stop statuses.Cancelled Cancelled m))
 
 said : (place : DeviceInfo → ℕ) (target : JobTarget) (job : model.AbstractJob) (pages : List (List Frame)) (old : ClientState) (past : JoinHistory) (m : ClientView) (out : List ℕ) → old.target ≡ target → old.notes.word ≡ 0 → is_running old.outcome ≡ true →
     behind old.out (requests_text (client.farewell old.notes.word old.progress)) ≡ Some out → ClientRefines place target job pages (protocol_of old past) (client_at_greeting m.stage m) → Says place target job pages old past m out
@@ -103,8 +104,8 @@ said place target job pages old past m out errand_is word runs text r =
           (subst (λ (k : ℕ). SpellsSent old.target c.0 (asks_of k m.known (abstract_farewell (client_at_greeting m.stage m).stage))) word
           (subst (λ (known : List _). SpellsSent old.target c.0 (asks_of old.notes.word known (abstract_farewell (client_at_greeting m.stage m).stage))) (woken_known m.stage m) c.2));
       reads =
-          subst (λ (x : ClientView). ClientRefines place target job pages (protocol_of new past) x) (stopped_woken GivenUp Cancelled m.stage m refl under)
-          (subst (λ (x : JobTarget). ClientRefines place x job pages (protocol_of new past) (client_after_stop GivenUp Cancelled (client_at_greeting m.stage m))) errand_is c.3);
+          subst (λ (x : ClientView). ClientRefines place target job pages (protocol_of new past) x) (stopped_woken statuses.Cancelled Cancelled m.stage m refl under)
+          (subst (λ (x : JobTarget). ClientRefines place x job pages (protocol_of new past) (client_after_stop statuses.Cancelled Cancelled (client_at_greeting m.stage m))) errand_is c.3);
     }
 
 -- ---- what stands of the job then
@@ -119,8 +120,8 @@ exchanges_stopped place job past pages p old out h runs c s =
       over = λ _. refl;
       serves = c.serves past h.serves;
       reads = s.reads;
-      idle = λ e. absurd (stops_idle GivenUp Cancelled p.client.stage e);
-      begun = λ _. inr (stops_over GivenUp Cancelled p.client.stage);
+      idle = λ e. absurd (stops_idle statuses.Cancelled Cancelled p.client.stage e);
+      begun = λ _. inr (stops_over statuses.Cancelled Cancelled p.client.stage);
       files = let f = subst (λ (b : Bool). KeepsFiles b past pages old) (laid_not job.task old.client.outcome past (not_done old.client.outcome runs)) h.files in
           record { file = f.file; each = f.each; count = f.count; room = f.room };
       finished = h.finished;
@@ -159,10 +160,10 @@ means_stopped place job x p old out text h alive s =
       image = h.image;
       last = h.last;
       unended = h.unended;
-      first = λ e. absurd (stops_idle GivenUp Cancelled p.client.stage e);
+      first = λ e. absurd (stops_idle statuses.Cancelled Cancelled p.client.stage e);
       up = λ served. asked_then job p.client p.todo x.asking x.up text (λ e. alive served e) (h.up served) s;
-      down = λ u. absurd (stops_over GivenUp Cancelled p.client.stage u);
-      flow = flows_over (stage_after_stop GivenUp Cancelled p.client.stage) p.session.transfer _ _ x.image p.session.flight p.session.ending (stops_over GivenUp Cancelled p.client.stage);
+      down = λ u. absurd (stops_over statuses.Cancelled Cancelled p.client.stage u);
+      flow = flows_over (stage_after_stop statuses.Cancelled Cancelled p.client.stage) p.session.transfer _ _ x.image p.session.flight p.session.ending (stops_over statuses.Cancelled Cancelled p.client.stage);
       starved = λ met. h.starved (other_cause LinkOutOfMemory GaveUp p.session.met starved_else met);
     }
 

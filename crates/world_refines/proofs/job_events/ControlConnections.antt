@@ -1,5 +1,8 @@
 -- A control connection is made.
 use Rattle.std.proofs.Common.{◌≡◌, ◌≢◌, ◌⊎◌, inl, inr, ◌∙◌, ℕ, ◌<◌, List, [], ◌∷◌, ◌++◌, Option, Some, None, Bool, true, false, refl, sym, ap, subst, map, slice_get, slice_set, arith}
+use Rattle.scan_job.specs.declared.outcome.Why.TheVariants.{Lost}
+use Rattle.sane_fixed.specs.declared.status.Status.{Status}
+use Rattle.sane_fixed.specs.declared.status.Status.TheVariants.{IoError}
 use Rattle.sane_fixed.specs.declared.device_info.DeviceInfo.{DeviceInfo}
 use Rattle.device_api.specs.State.{DeviceState}
 use Rattle.data_records.specs.declared.records.RecordPhase.{RecordPhase}
@@ -13,7 +16,7 @@ use Rattle.client_replies.specs.declared.progress.Link.TheVariants as links
 use Rattle.client_replies.specs.declared.progress.Progress.{Progress}
 use Rattle.client_replies.specs.ProtocolStates.{target_of, is_running}
 use Rattle.net_client.specs.ClientStates.{protocol_of}
-use Rattle.system_model.specs.AbstractMessages.{Init, IoError, Lost, Status}
+use Rattle.system_model.specs.AbstractMessages.{Init}
 use Rattle.system_model.specs.Client.{Idle, ClientView, JobStage, Greeting, Running, with_progress}
 use Rattle.system_model.specs.ClientReplies.{client_after_stop, stage_after_stop}
 use Rattle.system_model.specs.Causes.{LinkOutOfMemory}

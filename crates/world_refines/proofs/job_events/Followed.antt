@@ -26,7 +26,7 @@ use Rattle.event_world.specs.Worlds.{AtEndpoint, Leads, Runs, WorldCore}
 use Rattle.event_world.proofs.Events.{stands_run}
 use Rattle.event_world.proofs.FilesSay.{none_tells, page_none_tells, short_tells}
 use Rattle.world_refines.specs.GhostStates.{Ghost, Wires}
-use Rattle.world_refines.specs.WorldRefinement.{WorldRefines}
+use Rattle.world_refines.specs.WorldRefinement.{HasNoStrangers, WorldRefines}
 use Rattle.world_refines.specs.Costs.{Pays}
 use Rattle.world_refines.specs.GhostEvents.{GhostCan, CanLoad, CanUnplug, GhostConnects, Dials, GivesUp, GhostHappens, LaysIn, GhostLeads, GhostLeadsTo, LosesControl, LosesImage, GhostSends, GhostTakes, TakesOut, GhostTurns}
 use Rattle.world_refines.specs.FailedSources.{AllAlong, FailsIn, FailsInSome, HasFailed, InEvent, IsInSome}
@@ -35,7 +35,8 @@ use Rattle.world_refines.specs.ClientDeliveries.{Delivers, GhostHears}
 use Rattle.world_refines.specs.DataDeliveries.{GhostSees}
 use Rattle.world_refines.specs.WorldPromises.{HasCause, IsOutcome}
 use Rattle.world_refines.specs.MainTheorem.{AllIsKept, AreFittingLoads, AreTrueLoads, GhostComes, GhostComesAll, EventsFollow, IsFittingLoad, IsTrueLoad}
-use Rattle.world_refines.proofs.job_events.Beginnings.{new_worlds_stand}
+use Rattle.world_refines.proofs.job_events.Beginnings.{new_worlds_alone, new_worlds_stand}
+use Rattle.world_refines.proofs.job_events.LeftAlone.{event_alone}
 use Rattle.world_refines.proofs.job_events.Constant.{Fixed, makes_stay, stays_fixed}
 use Rattle.world_refines.proofs.moves.Budgets.{Owns, new_worlds_pay, none_left, pays_at, pays_loads, pays_unplugs, rests_over, same_pays}
 use Rattle.world_refines.proofs.job_events.Cancelling.{cancel_decides}
@@ -65,9 +66,9 @@ use Rattle.world_refines.proofs.job_events.Unplugging.{unplugs_follow}
 
 -- ---- the steps of an event are enabled, and lead to what stands then
 
-record LeadsLegally (t : Ghost) (steps : List Transition) (u : Ghost) : Type 0 where
-  legal : IsHistory t.system steps
-  rules_are : u.system ≡ after_all t.system steps
+pub record LeadsLegally (t : Ghost) (steps : List Transition) (u : Ghost) : Type 0 where
+  pub legal : IsHistory t.system steps
+  pub rules_are : u.system ≡ after_all t.system steps
 
 of_takes : (t : Ghost) (i : ℕ) (steps : List Transition) (x : Wires) (u : Ghost) → GhostTakes t i steps x u → LeadsLegally t steps u
 of_takes t i steps x u h = record { legal = h.legal; rules_are = ap (λ (v : Ghost). v.system) h.then_is }
@@ -109,14 +110,14 @@ of_happens May Done t steps u does h (inr never) = of_none t u steps (h.cannot n
 
 -- ---- one event
 
-record Behind (source : Source → SourceState) (e : Event) (t : Ghost) (w v : WorldCore) : Type 0 where
-  steps : List Transition
-  ghost_then : Ghost
-  comes : GhostComes source e t steps ghost_then
-  leads : LeadsLegally t steps ghost_then
-  failures : AllAlong (FailsIn t w v.daemon) t.system steps
-  stands : WorldRefines ghost_then v
-  pays : Pays t w → Pays ghost_then v
+pub record Behind (source : Source → SourceState) (e : Event) (t : Ghost) (w v : WorldCore) : Type 0 where
+  pub steps : List Transition
+  pub ghost_then : Ghost
+  pub comes : GhostComes source e t steps ghost_then
+  pub leads : LeadsLegally t steps ghost_then
+  pub failures : AllAlong (FailsIn t w v.daemon) t.system steps
+  pub stands : WorldRefines ghost_then v
+  pub pays : Pays t w → Pays ghost_then v
 
 behind : (source : Source → SourceState) (e : Event) (t : Ghost) (w v : WorldCore) (May : Type 0) (Does : List Transition → Ghost → Type 0) → ((steps : List Transition) (u : Ghost) → GhostHappens May (Does steps u) t steps u → GhostComes source e t steps u) → ((steps : List Transition) (u : Ghost) → Does steps u → LeadsLegally t steps u) → (l : GhostLeadsTo May Does t v) → AllAlong (FailsIn t w v.daemon) t.system l.steps → (Pays t w → Pays l.ghost_then v) →
     Behind source e t w v
@@ -175,7 +176,7 @@ unplugged_pays : (t : Ghost) (w v : WorldCore) (name : List ℕ) → WorldRefine
 unplugged_pays t w v name h endpoints steps u d pays =
     pays_unplugs t u w v d.place h (subst (IsHistory t.system) d.steps_are d.legal).0 (d.then_is ∙ ap (λ (xs : List Transition). record t { system = after_all t.system xs }) d.steps_are) endpoints pays
 
-one_event : (source : Source → SourceState) (e : Event) (t : Ghost) (w v : WorldCore) → WorldRefines t w → IsTrueLoad source e → IsFittingLoad source t.infos t.system.make e → Leads source e w v → Behind source e t w v
+pub one_event : (source : Source → SourceState) (e : Event) (t : Ghost) (w v : WorldCore) → WorldRefines t w → IsTrueLoad source e → IsFittingLoad source t.infos t.system.make e → Leads source e w v → Behind source e t w v
 one_event source (Connect i) t w v h page_view fits at =
     to_job source (Connect i) i actions.Connect GhostConnects (record { decides = connect_decides; owns = λ t u w v i p q steps h k at there can d. connects_own t w i p steps u h at can d; legal = λ t. of_connects t i; comes = λ t steps u x. x }) (λ t. connects_quiet t i) t w v h at
 one_event source (ToDaemon i n) t w v h page_view fits at =
@@ -216,6 +217,7 @@ record AllBehind (source : Source → SourceState) (events : List Event) (t : Gh
   leads : LeadsLegally t steps ghost_then
   failures : AllAlong (FailsInSome source events t w v) t.system steps
   stands : WorldRefines ghost_then v
+  alone : HasNoStrangers w → HasNoStrangers v
   pays : Pays t w → Pays ghost_then v
 
 -- what is so in the first event, or in a later one
@@ -236,7 +238,7 @@ all_failures source e es t u w mid v steps more jobs rules_are leads rest first 
     along_then (FailsInSome source (e ∷ es) t w v) t.system steps more now (subst (λ (s : SystemState). AllAlong (FailsInSome source (e ∷ es) t w v) s more) rules_are then_on)
 
 all_events : (source : Source → SourceState) (events : List Event) (t : Ghost) (w v : WorldCore) → WorldRefines t w → AreTrueLoads source events → AreFittingLoads source t.infos t.system.make events → Runs source events w v → AllBehind source events t w v
-all_events source [] t w v h page_views fits run = record { ghost_then = t; steps = []; comes = (refl, refl); leads = record { legal = tt; rules_are = refl }; failures = tt; stands = subst (WorldRefines t) (sym run) h; pays = λ pays. subst (Pays t) (sym run) pays }
+all_events source [] t w v h page_views fits run = record { ghost_then = t; steps = []; comes = (refl, refl); leads = record { legal = tt; rules_are = refl }; failures = tt; stands = subst (WorldRefines t) (sym run) h; alone = λ alone. subst HasNoStrangers (sym run) alone; pays = λ pays. subst (Pays t) (sym run) pays }
 all_events source (e ∷ es) t w v h page_views fits (u, first, rest) =
     let one = one_event source e t w u h page_views.0 fits.0 first in
     let infos : one.ghost_then.infos ≡ t.infos = ap (λ (f : Fixed). f.1) (stays_fixed source e t one.steps one.ghost_then one.comes) in
@@ -255,6 +257,7 @@ all_events source (e ∷ es) t w v h page_views fits (u, first, rest) =
       };
       failures = all_failures source e es t one.ghost_then w u v one.steps more.steps (ap (λ (f : Fixed). f.3) (stays_fixed source e t one.steps one.ghost_then one.comes)) one.leads.rules_are first rest one.failures more.failures;
       stands = more.stands;
+      alone = λ alone. more.alone (event_alone source e t w u h first alone);
       pays = λ pays. more.pays (one.pays pays);
     }
 
@@ -270,13 +273,14 @@ events_follow source events t w v h page_views fits run =
       marks = λ d. histories_legal d t.system all.steps h.sound all.leads.legal;
       failures = all.failures;
       stands = all.stands;
+      alone = all.alone;
       pays = all.pays;
     }
 
-ended_named : (u : Ghost) (v : WorldCore) (i : ℕ) (endpoint : Endpoint) (status : Status) (why : Why) → WorldRefines u v → slice_get v.endpoints i ≡ Some endpoint → AllSpared u.system → endpoint.client.outcome ≡ Ended status why → (status ≢ Good) × (status ≢ Eof)
+pub ended_named : (u : Ghost) (v : WorldCore) (i : ℕ) (endpoint : Endpoint) (status : Status) (why : Why) → WorldRefines u v → slice_get v.endpoints i ≡ Some endpoint → AllSpared u.system → endpoint.client.outcome ≡ Ended status why → (status ≢ Good) × (status ≢ Eof)
 ended_named u v i endpoint status why h at spared e =
     let cause : HasCause u i status why = subst (IsOutcome u i) e (outcomes_are_right u v i endpoint h at) in
-    refuses (make_for u.system i) (u.system.job i) status cause.0 (spared i) cause.2
+    refuses (make_for u.system i) (u.system.job i) status why (spared i) cause
 
 pub all_kept : AllIsKept
 all_kept source events sources jobs other devices w v new daemon names limits fit page_views only fits run =
@@ -287,6 +291,7 @@ all_kept source events sources jobs other devices w v new daemon names limits fi
     let spared : AllSpared u.system = subst AllSpared (sym stood.rules_are) (all_spared _ stood.steps stood.legal (λ i none. none)) in
     record {
       run = stood;
+      alone = stood.alone (new_worlds_alone devices w daemon);
       promises = record {
         outcomes = λ i endpoint at. outcomes_are_right u v i endpoint stood.stands at;
         statuses = λ i endpoint status why at e. ended_named u v i endpoint status why stood.stands at spared e;

@@ -28,7 +28,7 @@ use Rattle.world_refines.proofs.state.Taking.{same_session}
 
 -- ---- its slot
 
-other_slot : (slots : List (Option (SessionSlot DeviceState))) (new : SessionSlot DeviceState) (m : ℕ) → is_slot_number m (Some new) ≡ false → session_slot_of (with_session_slot slots new) m ≡ session_slot_of slots m
+pub other_slot : (slots : List (Option (SessionSlot DeviceState))) (new : SessionSlot DeviceState) (m : ℕ) → is_slot_number m (Some new) ≡ false → session_slot_of (with_session_slot slots new) m ≡ session_slot_of slots m
 unfolding session_slot_of with_session_slot
 other_slot [] new m e = refl
 other_slot (None ∷ slots) new m e = rw e refl
@@ -54,7 +54,7 @@ fresh_there d port n closed below e =
 
 -- ---- what it leaves
 
-number_other : (d : Core) (port m : ℕ) → m < d.opened → is_slot_number m (Some (new_session_slot d.strings d.opened port)) ≡ false
+pub number_other : (d : Core) (port m : ℕ) → m < d.opened → is_slot_number m (Some (new_session_slot d.strings d.opened port)) ≡ false
 number_other d port m low = let apart : (d.opened == m) ≡ false = grind (arith, nat_tests) in apart
 
 pub leaves_opened : (i : ℕ) (make : ℕ → Make) (d : Core) (port : ℕ) (table device : ℕ → AbstractDevice) → AllByRecursion (IsBelow d.opened) d.slots → AreFaithful d → ((k : ℕ) → device k ≡ table k) → TableRefines i make [] d.registry table → Leaves i make None d (after_open_session d port) table device

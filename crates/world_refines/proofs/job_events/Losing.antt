@@ -1,6 +1,8 @@
 -- The loss of a control connection, and of a data connection.
 use Rattle.std.specs.Prelude.{option_map, is_some, IsSome}
 use Rattle.std.proofs.Common.{◌≡◌, ◌≢◌, ◌⊎◌, inl, inr, ◌∙◌, ℕ, ◌<◌, List, [], ◌∷◌, Option, Some, None, Bool, true, false, refl, sym, ap, subst, map, slice_get, slice_set}
+use Rattle.scan_job.specs.declared.outcome.Why.TheVariants.{Lost}
+use Rattle.sane_fixed.specs.declared.status.Status.TheVariants.{IoError}
 use Rattle.sane_fixed.specs.declared.device_info.DeviceInfo.{DeviceInfo}
 use Rattle.device_api.specs.State.{DeviceState}
 use Rattle.frame_join.specs.FrameHistory.{JoinHistory}
@@ -11,7 +13,6 @@ use Rattle.scan_job.specs.declared.job.Job.{Job}
 use Rattle.client_replies.specs.declared.progress.Link.TheVariants as links
 use Rattle.client_replies.specs.ProtocolStates.{target_of, is_running}
 use Rattle.net_client.specs.ClientStates.{ClientState, protocol_of}
-use Rattle.system_model.specs.AbstractMessages.{IoError, Lost}
 use Rattle.system_model.specs.ClientReplies.{client_after_stop, stage_after_stop}
 use Rattle.system_model.specs.Causes.{Cause, LinkLost, IsCauseAmong, LinkOutOfMemory}
 use Rattle.system_model.specs.Daemon.{Quiet}
@@ -121,7 +122,7 @@ unlinked_stands t w i p id h at low link =
         pends = pends_if (is_running p.client.outcome) p.client (t.wires i) bytes no_request_none refl s.pends;
       });
       link = λ x none. absurd (let clash : None ≡ Some x = none in cc);
-      replaces = subst (λ (x : Option SessionId). Replaces x None w.daemon e) (sym link) (replaces_ended w.daemon id h.slots_are.apart);
+      replaces = subst (λ (x : Option SessionId). Replaces x None w.daemon e) (sym link) (replaces_ended w.daemon id h.apart);
       begun = subst (λ (x : JobState). AreStartedViews t.system.make x) (sym job_state) (h.begun i);
     }))
 

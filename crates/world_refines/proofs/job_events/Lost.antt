@@ -1,6 +1,8 @@
 -- A client that loses a connection.
 use Rattle.std.specs.Prelude.{if◌then◌else◌, length, slice_get}
 use Rattle.std.proofs.Common.{◌≡◌, ◌⊎◌, inl, inr, ◌∙◌, ℕ, List, [], Option, Some, None, Bool, true, false, refl, sym, ap, subst, map}
+use Rattle.scan_job.specs.declared.outcome.Why.TheVariants.{Lost}
+use Rattle.sane_fixed.specs.declared.status.Status.TheVariants.{IoError}
 use Rattle.sane_fixed.specs.declared.device_info.DeviceInfo.{DeviceInfo}
 use Rattle.page_picture.specs.Shows.{Frame}
 use Rattle.frame_join.specs.FrameHistory.{JoinHistory}
@@ -18,7 +20,6 @@ use Rattle.client_replies.specs.declared.progress.Progress.TheVariants as stages
 use Rattle.client_replies.specs.ProtocolStates.{HistoryFits, target_of, is_lost_by, is_running}
 use Rattle.client_replies.proofs.Fitting.{may_end}
 use Rattle.net_client.specs.ClientStates.{ClientRepresents, ClientState, after_client_end, protocol_of}
-use Rattle.system_model.specs.AbstractMessages.{IoError, Lost}
 use Rattle.system_model.specs.Client as model
 use Rattle.system_model.specs.Client.{ClientView}
 use Rattle.system_model.specs.ClientReplies.{client_after_stop, stage_after_stop}

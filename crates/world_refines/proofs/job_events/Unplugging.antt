@@ -1,5 +1,5 @@
 -- A device is taken out.
-use Rattle.std.proofs.Common.{◌≡◌, ◌≢◌, ◌⊎◌, inl, inr, ◌∙◌, ℕ, List, [], ◌∷◌, Option, Some, None, Bool, true, false, refl, sym, ap, subst, map, length, slice_get, arith}
+use Rattle.std.proofs.Common.{◌≡◌, ◌≢◌, ◌⊎◌, inl, inr, ◌∙◌, ℕ, List, [], ◌∷◌, Option, Some, None, Bool, true, false, refl, sym, ap, subst, map, slice_get}
 use Rattle.std.specs.Prelude.{Ok}
 use Rattle.device_api.specs.State.{DeviceState}
 use Rattle.sane_fixed.specs.declared.device_info.DeviceInfo.{DeviceInfo}
@@ -29,12 +29,13 @@ use Rattle.daemon_refines.proofs.OtherSessions.{IsThere}
 use Rattle.daemon_refines.proofs.TableRefinement.{unplugs_agree}
 use Rattle.event_world.specs.Worlds.{WorldCore}
 use Rattle.world_refines.specs.GhostStates.{Ghost, name_at}
-use Rattle.world_refines.specs.WorldRefinement.{HaveDifferentNames, IsServed, WorldRefines, info_at, session_by}
+use Rattle.world_refines.specs.WorldRefinement.{HaveDifferentNames, IsServed, StrangerStands, WorldRefines, info_at, session_by, stranger_of}
 use Rattle.world_refines.specs.GhostEvents.{CanUnplug, GhostLeadsTo, TakesOut, UnplugsFollow}
 use Rattle.world_refines.proofs.state.Held.{held_after_all}
 use Rattle.world_refines.proofs.state.ListedPlaces.{shown_after}
 use Rattle.world_refines.proofs.state.CoreCallsKeep.{slot_infos}
 use Rattle.world_refines.proofs.state.Faithful.{slot_true}
+use Rattle.world_refines.proofs.state.Strangers.{nobody_holds}
 use Rattle.world_refines.proofs.state.Finding.{find_there, found_place, names_at, names_out}
 use Rattle.world_refines.proofs.state.ListEntries.{is_same}
 
@@ -103,6 +104,14 @@ served_out j make d (Some id) true table p name h apart is =
 served_out j make d None false table p name h apart is = (refl, table_out j make [] d.registry table name h is.1)
 served_out j make d (Some id) false table p name h apart is = (is.0, table_out j make [] d.registry table name h is.1)
 
+stranger_out : (t : Ghost) (w : WorldCore) (n : ℕ) (name : List ℕ) → (h : IsIn w.daemon.registry name) → HaveDifferentNames (map info_at w.daemon.registry) → StrangerStands t w n → StrangerStands (record t { system = after_all t.system (Unplugs h.place ∷ []) }) (record w { daemon = core_out w.daemon h.place }) n
+stranger_out t w n name h apart s =
+    let j = stranger_of w n in
+    record {
+      sits = λ session is nobodys. let old = s.sits session is nobodys in (old.0, record { session = old.1.session; stands = old.1.stands; shows = shows_out j t.system.make _ t.system.device _ name h apart old.1.shows; begun = old.1.begun });
+      rests = λ either. table_out j t.system.make [] w.daemon.registry t.system.device name h (s.rests either);
+    }
+
 -- ---- the world
 
 -- what nobody sees of the device: it is listed, and nobody holds it
@@ -113,9 +122,9 @@ listed_in i make k dev p s e h =
 
 out_stands : (t : Ghost) (w : WorldCore) (name : List ℕ) → WorldRefines t w → (d : IsIn w.daemon.registry name) → GhostLeadsTo (CanUnplug t name) (TakesOut t name) t (record w { daemon = core_out w.daemon d.place })
 out_stands t w name h d =
-    let n = length w.endpoints in
+    let n = stranger_of w w.daemon.opened in
     let apart : HaveDifferentNames (map info_at w.daemon.registry) = subst HaveDifferentNames h.is_of.infos h.is_of.apart in
-    let view : PlaceRefines n (t.system.make d.place) [] d.place (t.system.device d.place) (Some d.at) = subst (λ (o : Option (Place DeviceState)). PlaceRefines n (t.system.make d.place) [] d.place (t.system.device d.place) o) d.is_at ((h.beyond n (omega arith)).table.places d.place) in
+    let view : PlaceRefines n (t.system.make d.place) [] d.place (t.system.device d.place) (Some d.at) = subst (λ (o : Option (Place DeviceState)). PlaceRefines n (t.system.make d.place) [] d.place (t.system.device d.place) o) d.is_at ((nobody_holds t w h).places d.place) in
     let seen = listed_in n (t.system.make d.place) d.place (t.system.device d.place) d.at d.state d.is_in view in
     let f = found_place w.daemon.registry name d.place d.found in
     let named : name_at t.infos d.place ≡ Some name = ap (λ (infos : List DeviceInfo). name_at infos d.place) h.is_of.infos ∙ (names_at w.daemon.registry d.place f.place f.at ∙ ap (λ (x : List ℕ). Some x) f.name_is) in
@@ -153,11 +162,12 @@ out_stands t w name h d =
               waits = s.waits;
               pends = s.pends;
             };
-        beyond = λ j high. let b = h.beyond j high in record { stage = b.stage; linked = b.linked; transfer = b.transfer; image = b.image; table = table_out j t.system.make [] w.daemon.registry t.system.device name d b.table };
+        beyond = λ j high. let b = h.beyond j high in record { stage = b.stage; linked = b.linked; transfer = b.transfer; image = b.image };
+        strangers = λ m. stranger_out t w m name d apart (h.strangers m);
         own = h.own;
         links = h.links;
         slots = h.slots;
-        slots_are = h.slots_are;
+        apart = h.apart;
         faithful = record { lying = slot_true w.daemon.registry d.place Gone tt h.faithful.lying; lent = h.faithful.lent };
         begun = h.begun;
       };
@@ -176,10 +186,10 @@ slot_in i make k dev name (In s) listed free h = (s, refl)
 slot_in i make k dev name Out listed free (is, inl holds) = absurd (nothing holds.word holds.lease holds.stands)
 slot_in i make k dev name Out listed free (is, inr away) = absurd (let clash : None ≡ Some away.other = sym free ∙ away.holder in cc)
 
-place_in : (t : Ghost) (w : WorldCore) (name : List ℕ) (can : CanUnplug t name) (o : Option (Place DeviceState)) → WorldRefines t w → slice_get w.daemon.registry can.place ≡ o → PlaceRefines (length w.endpoints) (t.system.make can.place) [] can.place (t.system.device can.place) o → IsIn w.daemon.registry name
+place_in : (t : Ghost) (w : WorldCore) (name : List ℕ) (can : CanUnplug t name) (o : Option (Place DeviceState)) → WorldRefines t w → slice_get w.daemon.registry can.place ≡ o → PlaceRefines (stranger_of w w.daemon.opened) (t.system.make can.place) [] can.place (t.system.device can.place) o → IsIn w.daemon.registry name
 place_in t w name can None h e view = absurd (let clash : false ≡ true = sym view.0 ∙ can.listed in cc)
 place_in t w name can (Some p) h e view =
-    let s = slot_in (length w.endpoints) (t.system.make can.place) can.place (t.system.device can.place) p.info.name p.slot can.listed can.free view in
+    let s = slot_in (stranger_of w w.daemon.opened) (t.system.make can.place) can.place (t.system.device can.place) p.info.name p.slot can.listed can.free view in
     let named : Some p.info.name ≡ Some name = sym (names_at w.daemon.registry can.place p e) ∙ (ap (λ (infos : List DeviceInfo). name_at infos can.place) (sym h.is_of.infos) ∙ can.named) in
     record {
       place = can.place;
@@ -197,8 +207,8 @@ refused t w name h same never =
       steps = [];
       ghost_then = t;
       happens = record {
-        either = inr (λ can. never (place_in t w name can (slice_get w.daemon.registry can.place) h refl ((h.beyond (length w.endpoints) (omega arith)).table.places can.place)));
-        does = λ can. absurd (never (place_in t w name can (slice_get w.daemon.registry can.place) h refl ((h.beyond (length w.endpoints) (omega arith)).table.places can.place)));
+        either = inr (λ can. never (place_in t w name can (slice_get w.daemon.registry can.place) h refl ((nobody_holds t w h).places can.place)));
+        does = λ can. absurd (never (place_in t w name can (slice_get w.daemon.registry can.place) h refl ((nobody_holds t w h).places can.place)));
         cannot = λ _. (refl, refl);
       };
       stands = h;

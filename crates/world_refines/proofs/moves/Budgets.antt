@@ -74,7 +74,7 @@ pays_at action Does decides owns t i w v h at l pays = by_place (there w.endpoin
 
     by_place : ((p : Endpoint) × (slice_get w.endpoints i ≡ Some p)) ⊎ (length w.endpoints ≤ i) → Pays l.ghost_then v
     by_place (inr high) =
-        none (λ can. nobody_can t w i action (h.beyond i high) (subst (λ (n : ℕ). n ≤ i) (sym h.is_of.count) high) can) (ap (λ (x : WorldCore). x.endpoints) (at.beyond high))
+        none (λ can. nobody_can t i action (h.beyond i high) (subst (λ (n : ℕ). n ≤ i) (sym h.is_of.count) high) can) (ap (λ (x : WorldCore). x.endpoints) (at.beyond high))
     by_place (inl (p, is)) = by_can (decides t w i p h is (subst (λ (n : ℕ). i < n) (sym h.is_of.count) (within w.endpoints i p is))).either
       where
         low : i < t.count

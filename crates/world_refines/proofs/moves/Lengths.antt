@@ -61,21 +61,21 @@ asked_one model.Starting = omega arith
 asked_one model.Shaping = omega arith
 asked_one (model.Imaging params heard) = omega arith
 
-bye_two : (task : model.Task) → length (model.abstract_goodbye task) ≤ 2
+bye_two : (task : model.AbstractTask) → length (model.abstract_goodbye task) ≤ 2
 bye_two model.List_ = omega arith
 bye_two model.Show = omega arith
 bye_two model.SetOnly = omega arith
 bye_two model.Scan = omega arith
 bye_two (model.Batch n) = omega arith
 
-sends_two : (task : model.Task) (st : model.JobStage) → length (model.requests_sent task st) ≤ 2
+sends_two : (task : model.AbstractTask) (st : model.JobStage) → length (model.requests_sent task st) ≤ 2
 sends_two task model.Idle = omega arith
 sends_two task (model.Running g) = asked_one g
 sends_two task model.Done = bye_two task
 sends_two task (model.Ended status why) = omega arith
 
 -- what a client asks for as it comes into a stage
-pub sends_within : (job : Job) (m : model.ClientView) (task : model.Task) (st : model.JobStage) (text : List ℕ) → SpellsAsked job m (model.requests_sent task st) text → length text ≤ exchange_cost
+pub sends_within : (job : Job) (m : model.ClientView) (task : model.AbstractTask) (st : model.JobStage) (text : List ℕ) → SpellsAsked job m (model.requests_sent task st) text → length text ≤ exchange_cost
 sends_within job m task st text s = asked_within job m (model.requests_sent task st) text (sends_two task st) s
 
 pub first_within : (job : Job) (m : model.ClientView) (r : AbstractRequest) (text : List ℕ) → SpellsAsked job m (r ∷ []) text → length text ≤ exchange_cost

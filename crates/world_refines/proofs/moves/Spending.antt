@@ -1,8 +1,8 @@
 -- What each event does to its job is paid before.
 use Rattle.std.specs.Prelude.{IsSome, option_map, is_some}
 use Rattle.std.proofs.Common.{◌≡◌, ◌≢◌, ◌⊎◌, inl, inr, ◌∙◌, ℕ, ◌+◌, ◌≤◌, List, [], ◌∷◌, ◌++◌, Bool, true, false, Option, Some, None, refl, sym, ap, subst, length, length-append, slice_get, arith}
+use Rattle.sane_fixed.specs.declared.status.Status.{Status}
 use Rattle.frame_join.specs.FrameHistory.{JoinHistory}
-use Rattle.system_model.specs.AbstractMessages.{Status}
 use Rattle.system_model.specs.Client as model
 use Rattle.system_model.specs.Client.{Done, Ended, Idle, ClientView, Running, JobStage}
 use Rattle.system_model.specs.Actions as actions

@@ -2,6 +2,7 @@
 use Rattle.std.specs.Prelude.{IsSome, ◌<◌, ◌≤◌, not}
 use Rattle.std.proofs.Common.{◌≡◌, ◌≢◌, ◌⊎◌, inl, inr, ◌∙◌, ℕ, ◌+◌, List, [], ◌∷◌, ◌++◌, true, false, Option, Some, None, option_map, refl, sym, ap, subst, map, length, slice_get, arith, append-nil, Bool}
 use Rattle.std.proofs.lemmas.List.{length-append}
+use Rattle.sane_fixed.specs.declared.status.Status.{Status}
 use Rattle.data_records.specs.Records.{RecordsContinue, HasEnded, IsInBody, IsRecords, all_counted, end_record}
 use Rattle.data_records.specs.declared.records.RecordPhase.{RecordPhase}
 use Rattle.data_records.specs.declared.records.RecordPhase.TheVariants as phases
@@ -13,7 +14,7 @@ use Rattle.net_client.specs.ClientStates.{protocol_of}
 use Rattle.client_replies.specs.ProtocolStates.{target_of, is_running}
 use Rattle.client_refines.specs.RequestRefinement.{AreRequests, asks_of}
 use Rattle.scan_job.specs.declared.job.Job.{Job}
-use Rattle.system_model.specs.AbstractMessages.{Authorize, Describe, Get, GetDevices, Init, Open, Parameters, AbstractReply, AbstractRequest, Set, Start, Status}
+use Rattle.system_model.specs.AbstractMessages.{AbstractReply, AbstractRequest}
 use Rattle.system_model.specs.Client as model
 use Rattle.system_model.specs.Client.{Done, Ended, Idle, ClientView, Running, JobStage, request_awaited}
 use Rattle.system_model.specs.Daemon.{TransferState, Quiet, Streaming, Waiting}
@@ -156,16 +157,8 @@ told_move t w i p g h at runs under told =
     inr (inr (inl (told.linked, some, omega arith)))
 
 asking_move : (t : Ghost) (w : WorldCore) (i : ℕ) (p : Endpoint) (g : model.AbstractProgress) → WorldRefines t w → slice_get w.endpoints i ≡ Some p → i < t.count → is_running p.client.outcome ≡ true → (t.system.job i).client.stage ≡ Running g → sound.RequestInFlight i (make_for t.system i) (t.system.job i) (device_for t.system i) g → CanMove t i
-asking_move t w i p model.Greeting h at low runs stage a = asks_move t w i p model.Greeting Init h at refl a
-asking_move t w i p model.Listing h at low runs stage a = asks_move t w i p model.Listing GetDevices h at refl a
-asking_move t w i p model.Opening h at low runs stage a = asks_move t w i p model.Opening Open h at refl a
-asking_move t w i p (model.Allowing challenge) h at low runs stage a = asks_move t w i p (model.Allowing challenge) (Authorize challenge) h at refl a
-asking_move t w i p (model.Describing left) h at low runs stage a = asks_move t w i p (model.Describing left) Describe h at refl a
-asking_move t w i p (model.Putting n value requested left) h at low runs stage a = asks_move t w i p (model.Putting n value requested left) (Set n value) h at refl a
-asking_move t w i p (model.Getting n left) h at low runs stage a = asks_move t w i p (model.Getting n left) (Get n) h at refl a
-asking_move t w i p model.Starting h at low runs stage a = asks_move t w i p model.Starting Start h at refl a
-asking_move t w i p model.Shaping h at low runs stage a = asks_move t w i p model.Shaping Parameters h at refl a
 asking_move t w i p (model.Imaging params heard) h at low runs stage a = imaging_move t w i p params heard h at low runs stage a.in_sync
+asking_move t w i p g h at low runs stage a = asks_move t w i p g _ h at refl a
 
 by_stage : (t : Ghost) (w : WorldCore) (i : ℕ) (p : Endpoint) (st : JobStage) → WorldRefines t w → slice_get w.endpoints i ≡ Some p → i < t.count → is_running p.client.outcome ≡ true → (t.system.job i).client.stage ≡ st → IsUnderWay st → sound.StageInvariant i (make_for t.system i) (t.system.job i) (device_for t.system i) st → CanMove t i
 by_stage t w i p Idle h at low runs stage u k = inl (low, stage)

@@ -1,13 +1,16 @@
 -- No cause names GOOD, so no job ends with it; nor with EOF.
 use Rattle.std.proofs.Common.{◌≡◌, ◌≢◌, inl, inr, ◌∙◌, ℕ, List, [], ◌∷◌, ◌++◌, Bool, true, false, cond, eqb, Option, sym, ap, subst}
-use Rattle.sane_fixed.specs.declared.status.Status.{Status as Code}
+use Rattle.scan_job.specs.declared.outcome.Why.{Why}
+use Rattle.sane_fixed.specs.declared.status.Status.TheVariants.{Good, Cancelled, DeviceBusy, Inval, Eof, NoDocs}
+use Rattle.sane_fixed.specs.declared.status.Status.TheVariants.{IoError, NoMem, AccessDenied}
+use Rattle.sane_fixed.specs.declared.status.Status.{Status}
 use Rattle.sane_fixed.specs.declared.status.Status.TheVariants as codes
-use Rattle.system_model.specs.AbstractMessages.{Challenge, AbstractRequest, Status, Good, GivenUp, Busy, Inval, Eof, NoDocs, IoError, NoMem, AccessDenied, Why}
+use Rattle.system_model.specs.AbstractMessages.{Challenge, AbstractRequest}
 use Rattle.system_model.specs.Causes.{Cause, GaveUp, LinkLost, LinkOutOfMemory, WasUnsaid, SourceFailed, NamesEof, Names, Unforced, WasUnlisted, HadNoPicture, WasHeld, Disallowed, TrayWasEmpty, TrayRanOut, ClientOutOfMemory, IsExplained, Explains, IsCauseAmong}
 use Rattle.system_model.specs.Daemon.{Environment, FailureCounts}
 use Rattle.system_model.specs.Actions as actions
 use Rattle.system_model.specs.Actions.{answer_next, environment_of, break_causes, loss_cause, job_after_action, served_by}
-use Rattle.system_model.specs.Devices.{Make, abstract_status}
+use Rattle.system_model.specs.Devices.{Make}
 use Rattle.system_model.specs.Grounds.{HasGround, HaveGrounds}
 use Rattle.system_model.specs.AbstractDevices.{AbstractDevice}
 use Rattle.system_model.specs.Invariants.{IsCaused}
@@ -94,8 +97,8 @@ all_spared s (x ∷ xs) legal h = all_spared (after_transition s x) xs legal.1 (
 abbrev IsRefusal : Status → Type 0
 IsRefusal status = (status ≢ Good) × (status ≢ Eof)
 
-given_up : (s : Status) → s ≡ GivenUp → IsRefusal s
-given_up s e = (λ g. let clash : Good ≡ GivenUp = sym g ∙ e in cc, λ g. let clash : Eof ≡ GivenUp = sym g ∙ e in cc)
+given_up : (s : Status) → s ≡ Cancelled → IsRefusal s
+given_up s e = (λ g. let clash : Good ≡ Cancelled = sym g ∙ e in cc, λ g. let clash : Eof ≡ Cancelled = sym g ∙ e in cc)
 
 io_error : (s : Status) → s ≡ IoError → IsRefusal s
 io_error s e = (λ g. let clash : Good ≡ IoError = sym g ∙ e in cc, λ g. let clash : Eof ≡ IoError = sym g ∙ e in cc)
@@ -103,8 +106,8 @@ io_error s e = (λ g. let clash : Good ≡ IoError = sym g ∙ e in cc, λ g. le
 inval : (s : Status) → s ≡ Inval → IsRefusal s
 inval s e = (λ g. let clash : Good ≡ Inval = sym g ∙ e in cc, λ g. let clash : Eof ≡ Inval = sym g ∙ e in cc)
 
-busy : (s : Status) → s ≡ Busy → IsRefusal s
-busy s e = (λ g. let clash : Good ≡ Busy = sym g ∙ e in cc, λ g. let clash : Eof ≡ Busy = sym g ∙ e in cc)
+busy : (s : Status) → s ≡ DeviceBusy → IsRefusal s
+busy s e = (λ g. let clash : Good ≡ DeviceBusy = sym g ∙ e in cc, λ g. let clash : Eof ≡ DeviceBusy = sym g ∙ e in cc)
 
 denied : (s : Status) → s ≡ AccessDenied → IsRefusal s
 denied s e = (λ g. let clash : Good ≡ AccessDenied = sym g ∙ e in cc, λ g. let clash : Eof ≡ AccessDenied = sym g ∙ e in cc)
@@ -142,7 +145,7 @@ caused_refuses k b s w n (inl h) = explained_refuses s w b.met n h
 caused_refuses k b s w n (inr h) = inval s h.1.0
 
 -- the same of the codes
-pub refuses : (k : Make) (p : JobState) (code : Code) (w : Why) → (IsCauseAmong (Names Good) p.session.met → ⊥) → IsCaused k p.session (abstract_status code) w → (code ≢ codes.Good) × (code ≢ codes.Eof)
+pub refuses : (k : Make) (p : JobState) (code : Status) (w : Why) → (IsCauseAmong (Names Good) p.session.met → ⊥) → IsCaused k p.session code w → (code ≢ codes.Good) × (code ≢ codes.Eof)
 refuses k p code w n h =
-    let r = caused_refuses k p.session (abstract_status code) w n h in
-    (λ g. r.0 (ap abstract_status g), λ g. r.1 (ap abstract_status g))
+    let r = caused_refuses k p.session code w n h in
+    (λ g. r.0 (g), λ g. r.1 (g))

@@ -14,13 +14,13 @@ use Rattle.scan_job.specs.declared.outcome.Outcome.{Outcome}
 use Rattle.scan_job.specs.declared.outcome.Outcome.TheVariants as outcomes
 use Rattle.scan_job.specs.declared.outcome.Why.{Why}
 use Rattle.scan_job.specs.declared.report.Reports.{Reports}
-use Rattle.sane_fixed.specs.declared.status.Status.{Status as Code}
+use Rattle.sane_fixed.specs.declared.status.Status.{Status}
 use Rattle.option_desc.specs.declared.descriptor.Descriptor.{Descriptor}
 use Rattle.option_desc.specs.declared.value.Value.{Value}
 use Rattle.client_replies.specs.ProtocolStates.{target_of, is_batch, shows}
 use Rattle.net_client.specs.ClientStates.{protocol_of}
 use Rattle.system_model.specs.AbstractMessages as words
-use Rattle.system_model.specs.Devices.{Make, OptionsInForce, descriptors_in_force, abstract_status}
+use Rattle.system_model.specs.Devices.{Make, OptionsInForce, descriptors_in_force}
 use Rattle.system_model.specs.Client as model
 use Rattle.system_model.specs.Client.{Idle, ClientView, JobStage}
 use Rattle.system_model.specs.AbstractInForce as ruled
@@ -54,7 +54,7 @@ woken_done (model.Running g) m e h = sym e ∙ h
 woken_done model.Done m e h = refl
 woken_done (model.Ended status why) m e h = sym e ∙ h
 
-woken_ended : (st : JobStage) (m : ClientView) (status : words.Status) (why : words.Why) → m.stage ≡ st → (client_at_greeting st m).stage ≡ model.Ended status why → st ≡ model.Ended status why
+woken_ended : (st : JobStage) (m : ClientView) (status : Status) (why : Why) → m.stage ≡ st → (client_at_greeting st m).stage ≡ model.Ended status why → st ≡ model.Ended status why
 woken_ended Idle m status why e h = absurd (let clash : model.Running model.Greeting ≡ model.Ended status why = h in cc)
 woken_ended (model.Running g) m status why e h = sym e ∙ h
 woken_ended model.Done m status why e h = sym e ∙ h
@@ -96,7 +96,7 @@ options_shown t i reports sound stage ruled task same h =
     }
 
 -- the settings of a job that is done are those of the model's fold
-settled_for : (k : Make) (b : SessionView) (m : ClientView) (task : model.Task) → task ≢ model.List_ → IsRightlyDone k b m task → (o : OptionsInForce) × AllInForce k b.job b.sent m.reports o
+settled_for : (k : Make) (b : SessionView) (m : ClientView) (task : model.AbstractTask) → task ≢ model.List_ → IsRightlyDone k b m task → (o : OptionsInForce) × AllInForce k b.job b.sent m.reports o
 settled_for k b m model.List_ n h = absurd (n refl)
 settled_for k b m model.Show n h = (h.options, h.settled)
 settled_for k b m model.SetOnly n h = h
@@ -140,11 +140,11 @@ kept_promise t w i endpoint reports h at e =
       devices = λ l. list_told t i reports.devices (lists_right t.system i h.sound stage (task ∙ ap task_of l) ∙ ap (λ (x : List ℕ). Some x) (ap (λ (m : ClientView). m.devices) (sym same) ∙ d.devices)) (h.shown i);
     }
 
-has_cause : (t : Ghost) (w : WorldCore) (i : ℕ) (endpoint : Endpoint) (status : Code) (why : Why) → WorldRefines t w → slice_get w.endpoints i ≡ Some endpoint → endpoint.client.outcome ≡ outcomes.Ended status why → HasCause t i status why
+has_cause : (t : Ghost) (w : WorldCore) (i : ℕ) (endpoint : Endpoint) (status : Status) (why : Why) → WorldRefines t w → slice_get w.endpoints i ≡ Some endpoint → endpoint.client.outcome ≡ outcomes.Ended status why → HasCause t i status why
 has_cause t w i endpoint status why h at e =
     let me = t.system.job i in
     let d = (end_alike t w i endpoint h at).ended status why e in
-    (d.0, d.1.0, ends_caused t.system i (abstract_status status) d.0 h.sound (woken_ended me.client.stage me.client (abstract_status status) d.0 refl d.1.1))
+    ends_caused t.system i status why h.sound (woken_ended me.client.stage me.client status why refl d)
 
 by_outcome : (t : Ghost) (w : WorldCore) (i : ℕ) (endpoint : Endpoint) (o : Outcome) → WorldRefines t w → slice_get w.endpoints i ≡ Some endpoint → endpoint.client.outcome ≡ o → IsOutcome t i o
 by_outcome t w i endpoint outcomes.Running h at e = let g = (end_alike t w i endpoint h at).runs e in woken_under (t.system.job i).client.stage (t.system.job i).client refl (under_by _ g.0 g.1)

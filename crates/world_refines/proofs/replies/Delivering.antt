@@ -2,6 +2,7 @@
 use Rattle.std.specs.Prelude.{IsSome, option_map}
 use Rattle.std.specs.List.{AllByRecursion}
 use Rattle.std.proofs.Common.{◌≡◌, ◌≢◌, ◌⊎◌, inl, inr, ◌∙◌, ℕ, ◌<◌, List, [], ◌∷◌, ◌++◌, Option, Some, None, Bool, true, refl, sym, ap, subst, slice_get, slice_set}
+use Rattle.sane_fixed.specs.declared.status.Status.{Status}
 use Rattle.page_picture.specs.Page.{IsPageView}
 use Rattle.sane_fixed.specs.declared.device_info.DeviceInfo.{DeviceInfo}
 use Rattle.device_api.specs.State.{DeviceState}
@@ -14,7 +15,7 @@ use Rattle.saned_core.specs.Feeding.{input_in}
 use Rattle.client_replies.specs.declared.progress.Progress.{Progress}
 use Rattle.client_replies.specs.ProtocolStates.{ProtocolState, target_of, is_batch, is_imaging, is_running}
 use Rattle.client_replies.specs.ProtocolStates as client
-use Rattle.system_model.specs.AbstractMessages.{AbstractReply, AbstractRequest, Status}
+use Rattle.system_model.specs.AbstractMessages.{AbstractReply, AbstractRequest}
 use Rattle.system_model.specs.Client as model
 use Rattle.system_model.specs.Client.{Done, Ended, Idle, ClientView, Running, JobStage, request_awaited, requests_sent}
 use Rattle.system_model.specs.ClientReplies.{hear_in}
@@ -73,12 +74,12 @@ delivered_stands t w i n p q id steps x past after h at low link stays to keeps 
     let e = world.without_taken id.number n w.daemon in
     let old = subst (λ (l : Option SessionId). IsServed i t.system.make w.daemon l me.served t.system.device (session_by i t.system.device me)) link s.served in
     let now : IsServed i t.system.make e (Some id) me.served u.system.device (session_by i u.system.device after) =
-    served_taken i n t.system.make w.daemon id me.served t.system.device u.system.device me (session_by i u.system.device after) h.slots_are.apart to.devices (keeps.session i u.system.device) old in
+    served_taken i n t.system.make w.daemon id me.served t.system.device u.system.device me (session_by i u.system.device after) h.apart to.devices (keeps.session i u.system.device) old in
     let same : IsServed i t.system.make e q.link after.served u.system.device (session_by i u.system.device after) =
     subst (λ (l : Option SessionId). IsServed i t.system.make e l after.served u.system.device (session_by i u.system.device after)) (sym (stays ∙ link))
     (subst (λ (b : Bool). IsServed i t.system.make e (Some id) b u.system.device (session_by i u.system.device after)) (sym keeps.served) now) in
     let session : session_in (slot_of_link e q.link) ≡ session_in (slot_of_link w.daemon p.link) =
-    ap (λ (l : Option SessionId). session_in (slot_of_link e l)) (stays ∙ link) ∙ (taken_session n w.daemon id.number h.slots_are.apart ∙ sym (ap (λ (l : Option SessionId). session_in (slot_of_link w.daemon l)) link)) in
+    ap (λ (l : Option SessionId). session_in (slot_of_link e l)) (stays ∙ link) ∙ (taken_session n w.daemon id.number h.apart ∙ sym (ap (λ (l : Option SessionId). session_in (slot_of_link w.daemon l)) link)) in
     let here : (l : Option SessionId) → l ≡ Some id → WiresMatch x (slot_of_link e l) q = λ l is. subst (λ (y : Option SessionId). WiresMatch x (slot_of_link e y) q) (sym is) carries in
     stands_change t u w i p q e h at (subst (λ (m : ℕ). i < m) h.is_of.count low) (record {
       told = to.change;
@@ -118,10 +119,10 @@ carries_taken t w i n p q id telling text h at link out rest image =
     record {
       up = out ∙ ap (λ (l : List ℕ). l ++ text) c.up;
       asking =
-          taken_input n d id.number h.slots_are.apart
+          taken_input n d id.number h.apart
           ∙ (ap (λ (b : Bool). asking_left b (bytes_not_delivered n (replies_of d id.number)) (input_in (session_slot_of d.slots id.number))) served
           ∙ (ap (λ (l : List ℕ). asking_left me.served (bytes_not_delivered n l) (input_in (session_slot_of d.slots id.number))) c.down ∙ ap (asking_left me.served (bytes_not_delivered n (t.wires i).down)) c.asking));
-      down = taken_replies n d id.number h.slots_are.apart ∙ ap (bytes_not_delivered n) c.down;
+      down = taken_replies n d id.number h.apart ∙ ap (bytes_not_delivered n) c.down;
       telling = rest;
       image = ap (option_map (λ (im : Image). im.bytes)) image ∙ c.image;
     }

@@ -2,6 +2,8 @@
 use Rattle.std.specs.Prelude.{is_some, IsSome, min}
 use Rattle.std.proofs.Common.{arith, zero, suc, ◌≡◌, ◌≢◌, ◌⊎◌, inl, inr, ◌∙◌, ℕ, ◌<◌, List, [], ◌∷◌, ◌++◌, Option, Some, None, Bool, true, false, refl, sym, ap, subst, map, slice_get, slice_set, append-nil}
 use Rattle.std.proofs.lemmas.List.{take-append-drop}
+use Rattle.scan_job.specs.declared.outcome.Why.TheVariants.{Memory}
+use Rattle.sane_fixed.specs.declared.status.Status.TheVariants.{NoMem}
 use Rattle.page_picture.specs.Shows.{Frame}
 use Rattle.sane_fixed.specs.declared.device_info.DeviceInfo.{DeviceInfo}
 use Rattle.data_records.specs.declared.records.RecordPhase.{RecordPhase}
@@ -18,7 +20,7 @@ use Rattle.client_replies.specs.declared.progress.Progress.TheVariants as stages
 use Rattle.client_replies.specs.ProtocolStates.{ProtocolState, target_of, is_batch, is_imaging, is_running, HistoryFits, FitsAt, IsBetweenFrames, turns}
 use Rattle.client_replies.specs.ProtocolStates as client
 use Rattle.net_client.specs.ClientStates.{ClientState, protocol_of}
-use Rattle.system_model.specs.AbstractMessages.{Memory, NoMem, AbstractReply, AbstractRequest}
+use Rattle.system_model.specs.AbstractMessages.{AbstractReply, AbstractRequest}
 use Rattle.system_model.specs.Client as model
 use Rattle.system_model.specs.Client.{Done, Ended, Idle, ClientView, Running, JobStage, request_awaited, requests_sent}
 use Rattle.system_model.specs.ClientReplies.{client_after_stop}

@@ -1,6 +1,8 @@
 -- What a client makes of a piece of the reply that is due to it.
 use Rattle.std.proofs.Common.{◌≡◌, ◌≢◌, ◌⊎◌, inl, inr, ◌∙◌, ℕ, List, [], ◌∷◌, ◌++◌, Some, true, false, refl, sym, ap, subst, append_assoc, append-nil}
 use Rattle.std.specs.Prelude.{IsSome}
+use Rattle.scan_job.specs.declared.outcome.Why.TheVariants.{Memory}
+use Rattle.sane_fixed.specs.declared.status.Status.TheVariants.{NoMem}
 use Rattle.sane_fixed.specs.declared.device_info.DeviceInfo.{DeviceInfo}
 use Rattle.page_picture.specs.Shows.{Frame}
 use Rattle.frame_join.specs.FrameHistory.{JoinHistory}
@@ -24,7 +26,7 @@ use Rattle.net_client.specs.Sending.{requests_text}
 use Rattle.net_client.specs.ClientStates.{ClientRepresents, ClientState, protocol_of}
 use Rattle.net_client.specs.ReplyPieces.{OutOfMemoryAtOnce, Garbled, HasHeard, HearsReplies, Heeds, EndsOutOfMemoryHere, IsGarbled, OutOfMemoryBehind, WantsReply, Whole, awaited_procedure}
 use Rattle.net_client.proofs.Hearings.{hears_ends, hears_gives}
-use Rattle.system_model.specs.AbstractMessages.{Memory, NoMem, AbstractReply}
+use Rattle.system_model.specs.AbstractMessages.{AbstractReply}
 use Rattle.system_model.specs.Client as model
 use Rattle.system_model.specs.Client.{ClientView, requests_sent}
 use Rattle.system_model.specs.ClientReplies.{hear_in, client_after_stop}

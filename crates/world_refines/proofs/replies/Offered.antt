@@ -23,7 +23,7 @@ use Rattle.saned_requests.specs.Holding.{free_word, held_by}
 use Rattle.saned_requests.specs.RequestAnswers.{RequestContext, kind_of, options_of_lease}
 use Rattle.wire_message.specs.WireValues.{wire_of}
 use Rattle.saned_core.specs.Feeding as daemon
-use Rattle.system_model.specs.AbstractMessages.{Authorize, Challenge, Describe, Get, GetDevices, Init, Open, Parameters, AbstractReply, AbstractRequest, Set, Start}
+use Rattle.system_model.specs.AbstractMessages.{Authorize, Challenge, AbstractReply, AbstractRequest, Set}
 use Rattle.system_model.specs.Client as model
 use Rattle.system_model.specs.Client.{ClientView, Running, JobStage, request_awaited}
 use Rattle.system_model.specs.Devices.{Make, OptionsInForce, AbstractAcceptedSet, accept_value, has_readable_value, readable_value}
@@ -121,20 +121,18 @@ sync_at i s r rest a f e = subst (λ (g : model.AbstractProgress). InSync i (mak
 
 -- ---- its device is at rest where a setting is put
 
-other_request : (x y : AbstractRequest) (n : ℕ) (value : Value) → x ∷ [] ≡ y ∷ [] → y ≡ Set n value → x ≡ Set n value
-other_request x y n value e f = same_request x y e ∙ f
+-- what is asked begins with a value put, or with an answer to a challenge
+abbrev sets : List AbstractRequest → Bool
+sets (Set n value ∷ rest) = true
+sets asked = false
+
+abbrev authorizes : List AbstractRequest → Bool
+authorizes (Authorize challenge ∷ rest) = true
+authorizes asked = false
 
 rests_at : (i : ℕ) (k : Make) (b : SessionView) (m : ClientView) (dev : AbstractDevice) (g : model.AbstractProgress) (r : AbstractRequest) (n : ℕ) (value : Value) → request_awaited g ≡ r ∷ [] → r ≡ Set n value → InSync i k b m dev g → is_resting dev.phase ≡ true
 rests_at i k b m dev (model.Putting o request_awaited requested left) r n value e f h = ap is_resting h.settles.held.phase_is
-rests_at i k b m dev model.Greeting r n value e f h = absurd (let clash : Init ≡ Set n value = other_request Init r n value e f in cc)
-rests_at i k b m dev model.Listing r n value e f h = absurd (let clash : GetDevices ≡ Set n value = other_request GetDevices r n value e f in cc)
-rests_at i k b m dev model.Opening r n value e f h = absurd (let clash : Open ≡ Set n value = other_request Open r n value e f in cc)
-rests_at i k b m dev (model.Allowing challenge) r n value e f h = absurd (let clash : Authorize challenge ≡ Set n value = other_request (Authorize challenge) r n value e f in cc)
-rests_at i k b m dev (model.Describing left) r n value e f h = absurd (let clash : Describe ≡ Set n value = other_request Describe r n value e f in cc)
-rests_at i k b m dev (model.Getting o left) r n value e f h = absurd (let clash : Get o ≡ Set n value = other_request (Get o) r n value e f in cc)
-rests_at i k b m dev model.Starting r n value e f h = absurd (let clash : Start ≡ Set n value = other_request Start r n value e f in cc)
-rests_at i k b m dev model.Shaping r n value e f h = absurd (let clash : Parameters ≡ Set n value = other_request Parameters r n value e f in cc)
-rests_at i k b m dev (model.Imaging params heard) r n value e f h = absurd (let clash : [] ≡ r ∷ [] = e in cc)
+rests_at i k b m dev g r n value e f h = absurd (let clash : false ≡ true = ap sets e ∙ ap (λ (x : AbstractRequest). sets (x ∷ [])) f in cc)
 
 pub rests : (i : ℕ) (s : SystemState) (r : AbstractRequest) (rest : List AbstractRequest) → IsAsking i s r rest → (n : ℕ) (value : Value) → r ≡ Set n value → is_resting (device_for s i).phase ≡ true
 rests i s r rest a n value e = rests_at i (make_for s i) (s.job i).session (s.job i).client (device_for s i) a.progress r n value a.only e a.asks.in_sync
@@ -161,15 +159,7 @@ free_zero i make d device p h n =
 -- so it is of one that asks to be allowed
 pub authorize_free : (i : ℕ) (k : Make) (b : SessionView) (m : ClientView) (dev : AbstractDevice) (g : model.AbstractProgress) (c : Challenge) → request_awaited g ≡ Authorize c ∷ [] → InSync i k b m dev g → dev.holder ≢ Some i
 authorize_free i k b m dev (model.Allowing challenge) c e h = h.0.free
-authorize_free i k b m dev model.Greeting c e h = absurd (let clash : Init ≡ Authorize c = same_request Init (Authorize c) e in cc)
-authorize_free i k b m dev model.Listing c e h = absurd (let clash : GetDevices ≡ Authorize c = same_request GetDevices (Authorize c) e in cc)
-authorize_free i k b m dev model.Opening c e h = absurd (let clash : Open ≡ Authorize c = same_request Open (Authorize c) e in cc)
-authorize_free i k b m dev (model.Describing left) c e h = absurd (let clash : Describe ≡ Authorize c = same_request Describe (Authorize c) e in cc)
-authorize_free i k b m dev (model.Putting n value requested left) c e h = absurd (let clash : Set n value ≡ Authorize c = same_request (Set n value) (Authorize c) e in cc)
-authorize_free i k b m dev (model.Getting n left) c e h = absurd (let clash : Get n ≡ Authorize c = same_request (Get n) (Authorize c) e in cc)
-authorize_free i k b m dev model.Starting c e h = absurd (let clash : Start ≡ Authorize c = same_request Start (Authorize c) e in cc)
-authorize_free i k b m dev model.Shaping c e h = absurd (let clash : Parameters ≡ Authorize c = same_request Parameters (Authorize c) e in cc)
-authorize_free i k b m dev (model.Imaging params heard) c e h = absurd (let clash : [] ≡ Authorize c ∷ [] = e in cc)
+authorize_free i k b m dev g c e h = absurd (let clash : false ≡ true = ap authorizes e in cc)
 
 -- ---- what the client knows of its options is what the device has
 
@@ -240,28 +230,28 @@ allowed_here t i s d h = (h.sound.fit (s.job i).session.job.wants).allowed
 pub comes_by : (t : Ghost) (i : ℕ) (s : SystemState) (d : RequestContext) (q : Asked) (r : AbstractRequest) (rest : List AbstractRequest) (said : RequestAnswer) (reply : AbstractReply) (text : List ℕ) (progress : Progress) (notes : Notes) (past : JoinHistory) → IsOffered t i s d q r rest said reply text → WaitsAs (s.job i).session.job progress notes past (s.job i).client → IsApt (target_of (t.jobs i)) progress notes →
     (s.job i).client.known ≡ descs notes.known → WaitsQuietly progress (r ∷ rest) → SpellsAwaitedReply (place_of_info t.infos) progress reply text
 comes_by t i s d q r rest said reply text stages.Greeting notes past offer w apt known waits =
-    let o = offered_at t i s d q r Init rest said reply text model.Greeting w.0 refl offer in
+    let o = offered_at t i s d q r _ rest said reply text model.Greeting w.0 refl offer in
     greeting_comes (place_of_info t.infos) (make_for s i) (device_for s i).options (listed_devices s) (target_of (t.jobs i)) (s.job i).client.known (manner d 0) q reply said text o.is o.for_it o.shape o.spelled o.says
 comes_by t i s d q r rest said reply text stages.Listing notes past offer w apt known waits =
-    let o = offered_at t i s d q r GetDevices rest said reply text model.Listing w.0 refl offer in
+    let o = offered_at t i s d q r _ rest said reply text model.Listing w.0 refl offer in
     listing_comes (place_of_info t.infos) (make_for s i) (device_for s i).options (listed_devices s) (target_of (t.jobs i)) (s.job i).client.known (manner d 0) q reply said text (infos_at t i s d o.in_context) o.is o.for_it o.shape o.spelled o.says
 comes_by t i s d q r rest said reply text stages.Opening notes past offer w apt known waits =
-    let o = offered_at t i s d q r Open rest said reply text model.Opening w.0 refl offer in
+    let o = offered_at t i s d q r _ rest said reply text model.Opening w.0 refl offer in
     let sync = sync_at i s r rest offer.asking model.Opening w.0 in
     open_comes (place_of_info t.infos) (make_for s i) (device_for s i).options (listed_devices s) (target_of (t.jobs i)) (s.job i).client.known (manner d 0) q reply said text (free_at t i s d o.in_context sync.0.free) o.is o.for_it o.shape o.spelled o.says
 comes_by t i s d q r rest said reply text (stages.Allowing resource answer) notes past offer w apt known waits =
     let challenge = w.0.0 in
-    let o = offered_at t i s d q r (Authorize challenge) rest said reply text (model.Allowing challenge) w.0.1.0 refl offer in
+    let o = offered_at t i s d q r _ rest said reply text (model.Allowing challenge) w.0.1.0 refl offer in
     let sync = sync_at i s r rest offer.asking (model.Allowing challenge) w.0.1.0 in
     authorize_comes (place_of_info t.infos) (make_for s i) (device_for s i).options (listed_devices s) (target_of (t.jobs i)) (s.job i).client.known (manner d 0) challenge resource answer q reply said text (free_at t i s d o.in_context sync.0.free) o.is o.for_it o.shape o.spelled o.says
 comes_by t i s d q r rest said reply text stages.Reopening notes past offer w apt known waits = absurd (let clash : r ∷ rest ≡ [] = waits.silent refl in cc)
 comes_by t i s d q r rest said reply text stages.Describing notes past offer w apt known waits =
-    let o = offered_at t i s d q r Describe rest said reply text (model.Describing _) w.0 refl offer in
+    let o = offered_at t i s d q r _ rest said reply text (model.Describing _) w.0 refl offer in
     describing_comes (place_of_info t.infos) (make_for s i) (device_for s i).options (listed_devices s) (target_of (t.jobs i)) (s.job i).client.known (manner d 0) q reply said text o.is o.for_it o.shape o.spelled o.says
 comes_by t i s d q r rest said reply text (stages.Putting n kind name asked_) notes past offer w apt known waits =
     let requested = w.0.0 in
     let g = model.Putting n asked_ requested _ in
-    let o = offered_at t i s d q r (Set n asked_) rest said reply text g w.0.1.0 refl offer in
+    let o = offered_at t i s d q r _ rest said reply text g w.0.1.0 refl offer in
     let sync = sync_at i s r rest offer.asking g w.0.1.0 in
     let is = table_is (make_for s i) (s.job i).client.known sync.options (device_for s i).options sync.known sync.settles.held.options_are in
     set_comes (place_of_info t.infos) (make_for s i) (device_for s i).options (listed_devices s) (target_of (t.jobs i)) (s.job i).client.known (manner d 0) q n kind name asked_ reply said text
@@ -269,17 +259,17 @@ comes_by t i s d q r rest said reply text (stages.Putting n kind name asked_) no
 comes_by t i s d q r rest said reply text (stages.Getting n kind size) notes past offer w apt known waits =
     let left = w.0.0 in
     let g = model.Getting n left in
-    let o = offered_at t i s d q r (Get n) rest said reply text g w.0.1.0 refl offer in
+    let o = offered_at t i s d q r _ rest said reply text g w.0.1.0 refl offer in
     let sync = sync_at i s r rest offer.asking g w.0.1.0 in
     let is = table_is (make_for s i) (s.job i).client.known sync.options (device_for s i).options sync.known sync.held.options_are in
     let own_is = word_descriptors i s.make d s.device (s.job i) o.in_context.shows sync.held.mine in
     get_comes (place_of_info t.infos) (make_for s i) (device_for s i).options (listed_devices s) (target_of (t.jobs i)) (s.job i).client.known (manner d 0) q n kind size reply said text
     (λ w2 on sent value get. get_back (make_for s i) (device_for s i).options (target_of (t.jobs i)) (s.job i).client.known (manner d 0).descriptors notes n kind size left is own_is (allowed_here t i s d o.in_context) known w.0.1.1 apt w2 on sent value get) o.is o.for_it o.shape o.spelled o.says
 comes_by t i s d q r rest said reply text (stages.Starting first) notes past offer w apt known waits =
-    let o = offered_at t i s d q r Start rest said reply text model.Starting w.0 refl offer in
+    let o = offered_at t i s d q r _ rest said reply text model.Starting w.0 refl offer in
     start_comes (place_of_info t.infos) (make_for s i) (device_for s i).options (listed_devices s) (target_of (t.jobs i)) (s.job i).client.known (manner d 0) q first reply said text o.is o.for_it o.shape o.spelled o.says
 comes_by t i s d q r rest said reply text (stages.Shaping port order) notes past offer w apt known waits =
-    let o = offered_at t i s d q r Parameters rest said reply text model.Shaping w.0 refl offer in
+    let o = offered_at t i s d q r _ rest said reply text model.Shaping w.0 refl offer in
     shaping_comes (place_of_info t.infos) (make_for s i) (device_for s i).options (listed_devices s) (target_of (t.jobs i)) (s.job i).client.known (manner d 0) q port order reply said text o.is o.for_it o.shape o.spelled o.says
 comes_by t i s d q r rest said reply text (stages.Imaging port made) notes past offer w apt known waits =
     absurd (let clash : [] ≡ r ∷ [] = sym (ap request_awaited (asked_for i s r rest offer.asking (model.Imaging w.params w.payload) w.stage)) ∙ offer.asking.only in cc)

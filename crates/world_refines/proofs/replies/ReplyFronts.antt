@@ -123,7 +123,6 @@ unfolding reply
 begins procedures.Init n = begun _ (nothing ++ nothing) _ (two _ _ nothing nothing statuses.Good _ good (two _ _ zeros [] 0 _ (zero_word _ 0 refl) (refl, refl)))
 begins procedures.GetDevices n = begun _ (nothing ++ (nothing ++ [])) _ (two _ _ nothing (nothing ++ []) statuses.Good _ good (two _ _ nothing [] [] _ no_devices (refl, refl)))
 begins procedures.Open n = begun _ (nothing ++ (zeros ++ (nothing ++ []))) _ (two _ _ nothing _ statuses.Good _ good (two _ _ zeros _ 0 _ (zero_word _ 0 refl) (two _ _ nothing [] [] _ empty_string (refl, refl))))
-begins procedures.Close n = begun _ nothing _ (two _ _ zeros [] 0 _ (zero_word _ 0 refl) (refl, refl))
 begins procedures.GetOptionDescriptors n = begun _ (nothing ++ []) _ (two _ _ nothing [] [] _ no_descriptors (refl, refl))
 begins procedures.ControlOption n =
     begun _ (nothing ++ (zeros ++ (zeros ++ ((zeros ++ (zeros ++ ([] ++ []))) ++ (nothing ++ []))))) _
@@ -133,9 +132,8 @@ begins procedures.GetParameters n =
 begins procedures.Start n =
     begun _ (nothing ++ (zeros ++ (to_be_bytes w32 4660 ++ (nothing ++ [])))) _
     (two _ _ nothing _ statuses.Good _ good (two _ _ zeros _ 0 _ (zero_word _ 0 refl) (two _ _ (to_be_bytes w32 4660) _ Little _ little (two _ _ nothing [] [] _ empty_string (refl, refl)))))
-begins procedures.Cancel n = begun _ nothing _ (two _ _ zeros [] 0 _ (zero_word _ 0 refl) (refl, refl))
-begins procedures.Authorize n = begun _ nothing _ (two _ _ zeros [] 0 _ (zero_word _ 0 refl) (refl, refl))
 begins procedures.Exit n = absurd (n refl)
+begins q n = begun _ nothing _ (two _ _ zeros [] 0 _ (zero_word _ 0 refl) (refl, refl))
 
 -- no job waits for a reply to EXIT
 awaits_some : (progress : Progress) (p : Procedure) → awaited_procedure progress ≡ Some p → p ≡ procedures.Exit → ⊥

@@ -1,8 +1,9 @@
 -- What is told to a client that waits for it, as a reply of the wire.
 use Rattle.std.proofs.Common.{◌≡◌, ◌≢◌, ◌⊎◌, inl, inr, ◌∙◌, ℕ, List, [], ◌∷◌, ◌++◌, Option, Some, None, Bool, true, refl, sym, ap, subst, map, slice_get, append-nil}
+use Rattle.sane_fixed.specs.declared.status.Status.TheVariants.{Good}
 use Rattle.sane_fixed.specs.declared.byte_order.ByteOrder.{ByteOrder}
 use Rattle.sane_fixed.specs.declared.kind.Kind.{Kind}
-use Rattle.sane_fixed.specs.declared.status.Status.{Status as Code}
+use Rattle.sane_fixed.specs.declared.status.Status.{Status}
 use Rattle.sane_fixed.specs.declared.status.Status.TheVariants as code
 use Rattle.option_desc.specs.declared.descriptor.Descriptor.{Descriptor}
 use Rattle.option_desc.specs.declared.value.Value.{Value}
@@ -31,8 +32,8 @@ use Rattle.saned_requests.specs.RequestAnswers.{kind_of, no_info, no_params, own
 use Rattle.saned_requests.specs.OptionValues.{sent_as, size_of}
 use Rattle.wire_message.specs.WireValues.{wire_of}
 use Rattle.saned_core.specs.Feeding as daemon
-use Rattle.system_model.specs.AbstractMessages.{Authorize, Begun, Challenge, Challenged, Describe, Described, Gave, Get, GetDevices, Good, Got, Greeted, Init, Listed, Open, Opened, Parameters, Refused, AbstractReply, Set, Shaped, Start, Status}
-use Rattle.system_model.specs.Devices.{Make, OptionsInForce, AbstractAcceptedSet, accept_value, abstract_status, has_readable_value, readable_value}
+use Rattle.system_model.specs.AbstractMessages.{Authorize, Begun, Challenge, Challenged, Describe, Described, Gave, Get, GetDevices, Got, Greeted, Init, Listed, Open, Opened, Parameters, Refused, AbstractReply, Set, Shaped, Start}
+use Rattle.system_model.specs.Devices.{Make, OptionsInForce, AbstractAcceptedSet, accept_value, has_readable_value, readable_value}
 use Rattle.client_refines.specs.DecodedReplies.{Says, gave_or_acked, reply_if_good, got_or_acked, opened_reply, decoded_reply_at}
 use Rattle.client_refines.specs.DecodedReplies as senses
 use Rattle.client_refines.specs.RequestRefinement.{IsRequest}
@@ -61,7 +62,7 @@ told_as place progress procedure r w v text waits is same says decoded first =
       word = first;
     }
 
-good_refused : (name : Code) (r : AbstractReply) → abstract_status name ≢ Good → reply_if_good name r ≡ Says (Refused (abstract_status name))
+good_refused : (name : Status) (r : AbstractReply) → name ≢ Good → reply_if_good name r ≡ Says (Refused name)
 good_refused code.Good r n = absurd (n refl)
 good_refused name r n = refl
 
@@ -109,16 +110,16 @@ plain_told m q r w n (inl s) = s
 plain_told m q r w n (inr d) = absurd (n d.resource d.is)
 
 -- a refusal
-refused_by : (place : DeviceInfo → ℕ) (progress : Progress) (procedure : Procedure) (m : Manner) (q : Asked) (status : Status) (w : Wire) (text : List ℕ) (v : Code → Wire) (answer : Code → AbstractReply) → awaited_procedure progress ≡ Some procedure → ((name : Code) → replied_procedure (v name) ≡ procedure) → ((name : Code) → refused_to q m.order name ≡ v name) →
-    ((name : Code) → decoded_reply_at place progress (v name) ≡ reply_if_good name (answer name)) → ((name : Code) → HasFirstWord (v name)) → wire.Spells m q (Refused status) w × (status ≢ Good) → daemon.Says w text → SpellsReply place progress (Refused status) text
+refused_by : (place : DeviceInfo → ℕ) (progress : Progress) (procedure : Procedure) (m : Manner) (q : Asked) (status : Status) (w : Wire) (text : List ℕ) (v : Status → Wire) (answer : Status → AbstractReply) → awaited_procedure progress ≡ Some procedure → ((name : Status) → replied_procedure (v name) ≡ procedure) → ((name : Status) → refused_to q m.order name ≡ v name) →
+    ((name : Status) → decoded_reply_at place progress (v name) ≡ reply_if_good name (answer name)) → ((name : Status) → HasFirstWord (v name)) → wire.Spells m q (Refused status) w × (status ≢ Good) → daemon.Says w text → SpellsReply place progress (Refused status) text
 refused_by place progress procedure m q status w text v answer waits is same decoded first s says =
     let name = s.0.0 in
-    let status_is : status ≡ abstract_status name = s.0.1 in
+    let status_is : status ≡ name = s.0.1 in
     told_as place progress procedure (Refused status) w (v name) text waits (is name) (s.0.2 ∙ same name) says
     (decoded name ∙ (good_refused name (answer name) (λ e. s.1 (status_is ∙ e)) ∙ ap (λ (x : Status). Says (Refused x)) (sym status_is))) (first name)
 
-refused_as : (place : DeviceInfo → ℕ) (progress : Progress) (procedure : Procedure) (m : Manner) (q : Asked) (status : Status) (text : List ℕ) (v : Code → Wire) (answer : Code → AbstractReply) → awaited_procedure progress ≡ Some procedure → ((name : Code) → replied_procedure (v name) ≡ procedure) → ((name : Code) → refused_to q m.order name ≡ v name) →
-    ((name : Code) → decoded_reply_at place progress (v name) ≡ reply_if_good name (answer name)) → ((name : Code) → HasFirstWord (v name)) → Offer m q (Refused status) text → SpellsReply place progress (Refused status) text
+refused_as : (place : DeviceInfo → ℕ) (progress : Progress) (procedure : Procedure) (m : Manner) (q : Asked) (status : Status) (text : List ℕ) (v : Status → Wire) (answer : Status → AbstractReply) → awaited_procedure progress ≡ Some procedure → ((name : Status) → replied_procedure (v name) ≡ procedure) → ((name : Status) → refused_to q m.order name ≡ v name) →
+    ((name : Status) → decoded_reply_at place progress (v name) ≡ reply_if_good name (answer name)) → ((name : Status) → HasFirstWord (v name)) → Offer m q (Refused status) text → SpellsReply place progress (Refused status) text
 refused_as place progress procedure m q status text v answer waits is same decoded first o =
     refused_by place progress procedure m q status o.wire_reply text v answer waits is same decoded first
     (plain_told m q (Refused status) o.wire_reply (λ c e. let clash : Refused status ≡ Challenged c = e in absurd (cc)) o.told) o.says

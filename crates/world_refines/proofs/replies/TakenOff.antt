@@ -50,7 +50,7 @@ standing_number None (b ∷ bytes) slot new e = ap (λ (x : SessionSlot DeviceSt
 pub taken_number : (c : ℕ) (slot new : SessionSlot DeviceState) → after_taken c slot ≡ Some new → new.number ≡ slot.number
 taken_number c slot new e = standing_number slot.session (drop c slot.replies) (after_reply_bytes c slot) new e
 
-standing_all : (P : Option (SessionSlot DeviceState) → Type 0) (session : Option (RequestSession DeviceState)) (replies : List ℕ) (slot : SessionSlot DeviceState) → P None → P (Some slot) → P (slot_if_open session replies slot)
+pub standing_all : (P : Option (SessionSlot DeviceState) → Type 0) (session : Option (RequestSession DeviceState)) (replies : List ℕ) (slot : SessionSlot DeviceState) → P None → P (Some slot) → P (slot_if_open session replies slot)
 standing_all P (Some s) replies slot none some = some
 standing_all P None [] slot none some = none
 standing_all P None (b ∷ bytes) slot none some = some

@@ -1,6 +1,7 @@
 -- What answers leave of what stands: all but the requests, the replies and the session of the client that is answered.
 use Rattle.std.proofs.Common.{◌≡◌, ◌≢◌, ◌⊎◌, inl, inr, ◌∙◌, ℕ, List, [], ◌∷◌, ◌++◌, Option, None, false, refl, sym, subst}
-use Rattle.system_model.specs.AbstractMessages.{Challenge, AbstractRequest, Status}
+use Rattle.sane_fixed.specs.declared.status.Status.{Status}
+use Rattle.system_model.specs.AbstractMessages.{Challenge, AbstractRequest}
 use Rattle.system_model.specs.Devices.{Make}
 use Rattle.system_model.specs.AbstractDevices.{AbstractDevice}
 use Rattle.system_model.specs.Causes.{Cause, IsCauseAmong, LinkOutOfMemory, WasUnsaid}

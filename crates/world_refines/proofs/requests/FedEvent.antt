@@ -2,6 +2,7 @@
 use Rattle.std.specs.Prelude.{is_some, length, map, not, IsSome}
 use Rattle.std.specs.List.{AllByRecursion}
 use Rattle.std.proofs.Common.{◌≡◌, ◌≢◌, ◌⊎◌, inl, inr, ◌∙◌, ℕ, zero, suc, ◌<◌, List, [], ◌∷◌, ◌++◌, Option, Some, None, Bool, true, false, refl, sym, ap, subst, slice_get, slice_set, append_assoc, append-nil, arith}
+use Rattle.sane_fixed.specs.declared.status.Status.{Status}
 use Rattle.frame_join.specs.FrameHistory.{JoinHistory}
 use Rattle.device_api.specs.State.{DeviceState, after_cancel}
 use Rattle.saned_requests.specs.declared.session.Session.{Session as RequestSession}
@@ -28,7 +29,7 @@ use Rattle.scan_job.specs.declared.job.Job.{Job}
 use Rattle.client_replies.specs.declared.progress.Progress.{Progress}
 use Rattle.client_replies.specs.ProtocolStates.{target_of, is_running}
 use Rattle.net_client.specs.ClientStates.{ClientState, protocol_of}
-use Rattle.system_model.specs.AbstractMessages.{AbstractRequest, Status}
+use Rattle.system_model.specs.AbstractMessages.{AbstractRequest}
 use Rattle.system_model.specs.AbstractMessages as words
 use Rattle.system_model.specs.Devices.{Make}
 use Rattle.system_model.specs.Causes.{IsCauseAmong, LinkOutOfMemory}
@@ -392,7 +393,7 @@ off_so t w i n p q id session e fed context rest text down steps memory r f endp
     let x = t.wires i in
     let s = after_all t.system steps in
     let now = s.job i in
-    let over = slot_over fed context rest text id.number w.daemon.slots r.slot f.off h.slots_are.apart r.slot_is in
+    let over = slot_over fed context rest text id.number w.daemon.slots r.slot f.off h.apart r.slot_is in
     let there : session_slot_of e.slots id.number ≡ session_slot_of (on_session_slot (slot_or_none_after_feed fed context rest text) id.number w.daemon.slots) id.number = ap (λ (ss : TakesSlot). session_slot_of ss id.number) f.slots in
     let none : session_in (session_slot_of e.slots id.number) ≡ None = ap session_in there ∙ over.session in
     let way : (p.client.progress ≡ stages.Over) ⊎ IsUnderWay now.client.stage = way_or p.client.outcome p.client.progress now.client.stage (is_running p.client.outcome) refl sits.exchanges.over

@@ -2,7 +2,7 @@
 use Rattle.std.proofs.Common.{◌≡◌, ℕ, List, [], ◌∷◌, Bool, true, false, Option, Some, None, refl}
 use Rattle.option_desc.specs.declared.value.Value.{Value}
 use Rattle.page_picture.specs.Shows.{Frame}
-use Rattle.system_model.specs.AbstractMessages.{Acked, Authorize, Begun, Cancel, Challenge, Challenged, Close, Describe, Described, Exit, Gave, Get, GetDevices, Got, Greeted, Init, Listed, Open, Opened, Parameters, Refused, AbstractReply, AbstractRequest, Set, Shaped, Start, same_text}
+use Rattle.system_model.specs.AbstractMessages.{Acked, Authorize, Begun, Cancel, Challenge, Challenged, Close, Describe, Described, Gave, Get, GetDevices, Got, Greeted, Init, Listed, Open, Opened, Parameters, Refused, AbstractReply, AbstractRequest, Set, Shaped, Start, same_text}
 use Rattle.device_api.specs.Kinds.{Page}
 use Rattle.system_model.specs.Devices.{Make, AbstractAcceptedSet, picture_frames, accept_value, has_readable_value, readable_value}
 use Rattle.system_model.specs.AbstractDevices.{Between, AbstractDevice, ScanPhase, Reading, Resting, is_held_by, is_resting}
@@ -109,32 +109,17 @@ start_fits k dev Ending x = tt
 -- ---- any request
 
 serve_fits : (i : ℕ) (k : Make) (dev : AbstractDevice) (c : TransferState) (x : Environment) (q : AbstractRequest) → AllFit k dev x q (serve i k dev c x q).told
-serve_fits i k dev c x Init = tt
 serve_fits i k dev c x GetDevices = refl
 serve_fits i k dev c x Open = open_fits i k dev c x x.challenge dev.listed x.guarded
-serve_fits i k dev c x (Authorize challenge) = tt
-serve_fits i k dev c x Describe = tt
 serve_fits i k dev c x (Get n) = get_fits k dev c x n (has_readable_value k dev.options n) refl
 serve_fits i k dev c x (Set n value) = set_fits k dev c x n value (is_resting dev.phase)
-serve_fits i k dev c x Parameters = tt
 serve_fits i k dev c x Start = start_fits k dev c x
-serve_fits i k dev c x Cancel = tt
-serve_fits i k dev c x Close = tt
-serve_fits i k dev c x Exit = tt
+serve_fits i k dev c x q = tt
 
 refuse_fits : (i : ℕ) (k : Make) (dev : AbstractDevice) (c : TransferState) (x : Environment) (q : AbstractRequest) → AllFit k dev x q (refuse i k dev c x q).told
-refuse_fits i k dev c x Init = tt
 refuse_fits i k dev c x GetDevices = refl
 refuse_fits i k dev c x Open = open_fits i k dev c x x.challenge dev.listed x.guarded
-refuse_fits i k dev c x (Authorize challenge) = tt
-refuse_fits i k dev c x Describe = tt
-refuse_fits i k dev c x (Get n) = tt
-refuse_fits i k dev c x (Set n value) = tt
-refuse_fits i k dev c x Parameters = tt
-refuse_fits i k dev c x Start = tt
-refuse_fits i k dev c x Cancel = tt
-refuse_fits i k dev c x Close = tt
-refuse_fits i k dev c x Exit = tt
+refuse_fits i k dev c x q = tt
 
 if_fits : (b : Bool) (i : ℕ) (k : Make) (dev : AbstractDevice) (c : TransferState) (x : Environment) (q : AbstractRequest) → AllFit k dev x q (answer_if b i k dev c x q).told
 if_fits true i k dev c x q = serve_fits i k dev c x q

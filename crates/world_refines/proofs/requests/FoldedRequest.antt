@@ -57,17 +57,7 @@ device_is i s r rest challenge fault e = ap (λ (qs : List AbstractRequest). wit
 
 pub own_init : (target : JobTarget) (known : List Descriptor) (q : Asked) (r : AbstractRequest) → IsRequest target 0 known q r → IsOwnInit q
 own_init target known (requests.Init version user) words.Init is = is.0
-own_init target known (requests.Init version user) words.GetDevices is = absurd is
-own_init target known (requests.Init version user) words.Open is = absurd is
-own_init target known (requests.Init version user) (words.Authorize c) is = absurd is
-own_init target known (requests.Init version user) words.Describe is = absurd is
-own_init target known (requests.Init version user) (words.Get n) is = absurd is
-own_init target known (requests.Init version user) (words.Set n v) is = absurd is
-own_init target known (requests.Init version user) words.Parameters is = absurd is
-own_init target known (requests.Init version user) words.Start is = absurd is
-own_init target known (requests.Init version user) words.Cancel is = absurd is
-own_init target known (requests.Init version user) words.Close is = absurd is
-own_init target known (requests.Init version user) words.Exit is = absurd is
+own_init target known (requests.Init version user) q is = absurd is
 own_init target known q r is = tt
 
 -- ---- where it ends

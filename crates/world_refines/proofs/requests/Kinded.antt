@@ -2,7 +2,7 @@
 use Rattle.std.proofs.Common.{◌≡◌, ℕ, List, [], ◌∷◌, Bool, true, false, Option, Some, None, refl}
 use Rattle.option_desc.specs.declared.value.Value.{Value}
 use Rattle.page_picture.specs.Shows.{Frame}
-use Rattle.system_model.specs.AbstractMessages.{Acked, Authorize, Begun, Cancel, Challenge, Challenged, Close, Describe, Described, Exit, Gave, Get, GetDevices, Got, Greeted, Init, Listed, Open, Opened, Parameters, Refused, AbstractReply, AbstractRequest, Set, Shaped, Start, same_text}
+use Rattle.system_model.specs.AbstractMessages.{Acked, Authorize, Begun, Cancel, Challenge, Challenged, Close, Describe, Described, Gave, Get, GetDevices, Got, Greeted, Init, Listed, Open, Opened, Parameters, Refused, AbstractReply, AbstractRequest, Set, Shaped, Start, same_text}
 use Rattle.device_api.specs.Kinds.{Page}
 use Rattle.system_model.specs.Devices.{Make, OptionsInForce, AbstractAcceptedSet, picture_frames, accept_value, has_readable_value, readable_value}
 use Rattle.system_model.specs.AbstractDevices.{Between, AbstractDevice, ScanPhase, Reading, Resting, is_held_by, is_resting}
@@ -97,30 +97,15 @@ start_for k o ds dev x Streaming = tt
 start_for k o ds dev x Ending = tt
 
 if_for : (b : Bool) (i : ℕ) (k : Make) (dev : AbstractDevice) (c : TransferState) (x : Environment) (q : AbstractRequest) → AreFor k dev.options x.listed q (answer_if b i k dev c x q).told
-if_for true i k dev c x Init = tt
 if_for true i k dev c x GetDevices = refl
 if_for true i k dev c x Open = open_for k dev.options x.listed i dev c x.challenge dev.listed x.guarded
-if_for true i k dev c x (Authorize challenge) = tt
-if_for true i k dev c x Describe = tt
 if_for true i k dev c x (Get n) = get_for k dev x.listed c n (has_readable_value k dev.options n) refl
 if_for true i k dev c x (Set n value) = set_for k dev x.listed c n value (is_resting dev.phase)
-if_for true i k dev c x Parameters = tt
 if_for true i k dev c x Start = start_for k dev.options x.listed dev x c
-if_for true i k dev c x Cancel = tt
-if_for true i k dev c x Close = tt
-if_for true i k dev c x Exit = tt
-if_for false i k dev c x Init = tt
+if_for true i k dev c x q = tt
 if_for false i k dev c x GetDevices = refl
 if_for false i k dev c x Open = open_for k dev.options x.listed i dev c x.challenge dev.listed x.guarded
-if_for false i k dev c x (Authorize challenge) = tt
-if_for false i k dev c x Describe = tt
-if_for false i k dev c x (Get n) = tt
-if_for false i k dev c x (Set n value) = tt
-if_for false i k dev c x Parameters = tt
-if_for false i k dev c x Start = tt
-if_for false i k dev c x Cancel = tt
-if_for false i k dev c x Close = tt
-if_for false i k dev c x Exit = tt
+if_for false i k dev c x q = tt
 
 awaited_for : (i : ℕ) (k : Make) (dev : AbstractDevice) (c : TransferState) (x : Environment) (sent : Challenge) (q : AbstractRequest) → AreFor k dev.options x.listed q (answer_awaited i k dev c x sent q).told
 awaited_for i k dev c x sent (Authorize challenge) = allow_for k dev.options x.listed challenge i dev c (same_text challenge sent) (x.allows sent)

@@ -40,29 +40,15 @@ opens_one users d name (Some word) (Some place) said new (inr now) = (_, now.tak
 
 free_shape : (users : List Entry) (d : RequestContext) (q : Asked) (said : RequestAnswer) (new : RequestContext) → AnswersFree users d q said new → session_goes_on said ≡ true → HasShape q said
 free_shape users d (requests.Init version user) said new g on = greeting_one (version / 16777216 == 1) _ _ said g.0 on
-free_shape users d requests.GetDevices said new g on = (_, g.0)
 free_shape users d (requests.Open name) said new g on = opens_one users d name (free_word d.session.held) (find_name name d.registry) said new g
-free_shape users d (requests.Close w) said new g on = (_, g.0)
-free_shape users d (requests.GetOptionDescriptors w) said new g on = (_, g.0)
-free_shape users d (requests.ControlOption w n action kind value) said new g on = (_, g.0)
-free_shape users d (requests.GetParameters w) said new g on = (_, g.0)
 free_shape users d (requests.Start w) said new g on = (_, g.gives.0)
-free_shape users d (requests.Cancel w) said new g on = (_, g.0)
 free_shape users d (requests.Authorize resource user password) said new g on = absurd (never_last said None g.0 on)
 free_shape users d requests.Exit said new g on = absurd (never_last said None g.0 on)
+free_shape users d q said new g on = (_, g.0)
 
 awaiting_shape : (users : List Entry) (d : RequestContext) (awaited : AwaitedAuthorization) (q : Asked) (said : RequestAnswer) (new : RequestContext) → AnswersAwaiting users d awaited q said new → session_goes_on said ≡ true → HasShape q said
 awaiting_shape users d awaited (requests.Authorize resource user password) said new g on = (_, g.gives.0)
-awaiting_shape users d awaited (requests.Init version user) said new g on = absurd (never_last said None g.0 on)
-awaiting_shape users d awaited requests.GetDevices said new g on = absurd (never_last said None g.0 on)
-awaiting_shape users d awaited (requests.Open name) said new g on = absurd (never_last said None g.0 on)
-awaiting_shape users d awaited (requests.Close w) said new g on = absurd (never_last said None g.0 on)
-awaiting_shape users d awaited (requests.GetOptionDescriptors w) said new g on = absurd (never_last said None g.0 on)
-awaiting_shape users d awaited (requests.ControlOption w n action kind value) said new g on = absurd (never_last said None g.0 on)
-awaiting_shape users d awaited (requests.GetParameters w) said new g on = absurd (never_last said None g.0 on)
-awaiting_shape users d awaited (requests.Start w) said new g on = absurd (never_last said None g.0 on)
-awaiting_shape users d awaited (requests.Cancel w) said new g on = absurd (never_last said None g.0 on)
-awaiting_shape users d awaited requests.Exit said new g on = absurd (never_last said None g.0 on)
+awaiting_shape users d awaited q said new g on = absurd (never_last said None g.0 on)
 
 greeted_shape : (users : List Entry) (d : RequestContext) (a : Option AwaitedAuthorization) (q : Asked) (said : RequestAnswer) (new : RequestContext) → AnswersGreeted users d a q said new → session_goes_on said ≡ true → HasShape q said
 greeted_shape users d None q said new g on = free_shape users d q said new g on
@@ -70,16 +56,7 @@ greeted_shape users d (Some awaited) q said new g on = awaiting_shape users d aw
 
 first_shape : (d : RequestContext) (q : Asked) (said : RequestAnswer) (new : RequestContext) → IsContextOutcome (first_answer d q) said new → session_goes_on said ≡ true → HasShape q said
 first_shape d (requests.Init version user) said new g on = greeting_one (version / 16777216 == 1) _ _ said g.0 on
-first_shape d requests.GetDevices said new g on = absurd (never_last said None g.0 on)
-first_shape d (requests.Open name) said new g on = absurd (never_last said None g.0 on)
-first_shape d (requests.Close w) said new g on = absurd (never_last said None g.0 on)
-first_shape d (requests.GetOptionDescriptors w) said new g on = absurd (never_last said None g.0 on)
-first_shape d (requests.ControlOption w n action kind value) said new g on = absurd (never_last said None g.0 on)
-first_shape d (requests.GetParameters w) said new g on = absurd (never_last said None g.0 on)
-first_shape d (requests.Start w) said new g on = absurd (never_last said None g.0 on)
-first_shape d (requests.Cancel w) said new g on = absurd (never_last said None g.0 on)
-first_shape d (requests.Authorize resource user password) said new g on = absurd (never_last said None g.0 on)
-first_shape d requests.Exit said new g on = absurd (never_last said None g.0 on)
+first_shape d q said new g on = absurd (never_last said None g.0 on)
 
 by_shape : (users : List Entry) (d : RequestContext) (b : Bool) (q : Asked) (said : RequestAnswer) (new : RequestContext) → AnswersBy b users d q said new → session_goes_on said ≡ true → HasShape q said
 by_shape users d true q said new g on = greeted_shape users d d.session.awaited q said new g on
@@ -90,16 +67,7 @@ said_shape users d q said new g on = by_shape users d d.session.greeted q said n
 
 pub either_shape : (q : Asked) (said : RequestAnswer) → HasShape q said → IsOne said ⊎ ((resource user password : List ℕ) × (r : Wire) × (q ≡ requests.Authorize resource user password) × (said ≡ Two replies.Authorize r))
 either_shape (requests.Authorize resource user password) said h = inr (resource, user, password, h.0, refl, h.1)
-either_shape (requests.Init version user) said h = inl h
-either_shape requests.GetDevices said h = inl h
-either_shape (requests.Open name) said h = inl h
-either_shape (requests.Close w) said h = inl h
-either_shape (requests.GetOptionDescriptors w) said h = inl h
-either_shape (requests.ControlOption w n action kind value) said h = inl h
-either_shape (requests.GetParameters w) said h = inl h
-either_shape (requests.Start w) said h = inl h
-either_shape (requests.Cancel w) said h = inl h
-either_shape requests.Exit said h = inl h
+either_shape q said h = inl h
 
 -- ---- the reply of OPEN behind AUTHORIZE's word
 

@@ -1,8 +1,10 @@
 -- Answers that ask for no AUTHORIZE: all but those to an OPEN of a listed device that is guarded. No refusal has the status GOOD.
 use Rattle.std.proofs.Common.{◌≡◌, ◌≢◌, ◌⊎◌, inl, inr, ◌∙◌, ℕ, List, [], ◌∷◌, Bool, true, false, cond, Option, Some, None, refl, sym, ap}
+use Rattle.sane_fixed.specs.declared.status.Status.TheVariants.{Good, DeviceBusy, Inval, NoDocs, IoError}
+use Rattle.sane_fixed.specs.declared.status.Status.TheVariants.{AccessDenied}
 use Rattle.option_desc.specs.declared.value.Value.{Value}
 use Rattle.page_picture.specs.Shows.{Frame}
-use Rattle.system_model.specs.AbstractMessages.{AccessDenied, Authorize, Busy, Cancel, Challenge, Challenged, Close, Describe, Exit, Get, GetDevices, Good, Inval, Init, IoError, NoDocs, Open, Parameters, Refused, AbstractReply, AbstractRequest, Set, Start, same_text}
+use Rattle.system_model.specs.AbstractMessages.{Authorize, Challenge, Challenged, Exit, Get, Open, Parameters, Refused, AbstractReply, AbstractRequest, Set, Start, same_text}
 use Rattle.device_api.specs.Kinds.{Page}
 use Rattle.system_model.specs.Devices.{Make, AbstractAcceptedSet, picture_frames, accept_value, has_readable_value}
 use Rattle.system_model.specs.AbstractDevices.{Between, AbstractDevice, ScanPhase, Reading, Resting, is_held_by, is_resting, device_let_go, put_back}
@@ -18,7 +20,7 @@ pub record Plain (v : AnswerEffect) : Type 0 where
   pub told : IsPlain v.told
   pub awaited : v.awaited ≡ None
 
-busy : Busy ≢ Good
+busy : DeviceBusy ≢ Good
 busy = λ e. cc
 
 inval : Inval ≢ Good
@@ -91,30 +93,17 @@ start_plain k dev x Streaming = record { told = busy; awaited = refl }
 start_plain k dev x Ending = record { told = busy; awaited = refl }
 
 if_plain : (b : Bool) (i : ℕ) (k : Make) (dev : AbstractDevice) (c : TransferState) (x : Environment) (q : AbstractRequest) → (q ≡ Open → dev.listed ≡ true → x.guarded ≡ true → ⊥) → Plain (answer_if b i k dev c x q)
-if_plain true i k dev c x Init n = record { told = tt; awaited = refl }
-if_plain true i k dev c x GetDevices n = record { told = tt; awaited = refl }
 if_plain true i k dev c x Open n = open_plain i k dev c x.challenge dev.listed x.guarded (n refl)
-if_plain true i k dev c x (Authorize challenge) n = record { told = tt; awaited = refl }
-if_plain true i k dev c x Describe n = record { told = tt; awaited = refl }
 if_plain true i k dev c x (Get o) n = get_plain k dev c o (has_readable_value k dev.options o)
 if_plain true i k dev c x (Set o value) n = set_plain k dev c o value (is_resting dev.phase)
-if_plain true i k dev c x Parameters n = record { told = tt; awaited = refl }
 if_plain true i k dev c x Start n = start_plain k dev x c
-if_plain true i k dev c x Cancel n = record { told = tt; awaited = refl }
-if_plain true i k dev c x Close n = record { told = tt; awaited = refl }
-if_plain true i k dev c x Exit n = record { told = tt; awaited = refl }
-if_plain false i k dev c x Init n = record { told = tt; awaited = refl }
-if_plain false i k dev c x GetDevices n = record { told = tt; awaited = refl }
+if_plain true i k dev c x q n = record { told = tt; awaited = refl }
 if_plain false i k dev c x Open n = open_plain i k dev c x.challenge dev.listed x.guarded (n refl)
-if_plain false i k dev c x (Authorize challenge) n = record { told = tt; awaited = refl }
-if_plain false i k dev c x Describe n = record { told = tt; awaited = refl }
 if_plain false i k dev c x (Get o) n = record { told = inval; awaited = refl }
 if_plain false i k dev c x (Set o value) n = record { told = inval; awaited = refl }
 if_plain false i k dev c x Parameters n = record { told = inval; awaited = refl }
 if_plain false i k dev c x Start n = record { told = inval; awaited = refl }
-if_plain false i k dev c x Cancel n = record { told = tt; awaited = refl }
-if_plain false i k dev c x Close n = record { told = tt; awaited = refl }
-if_plain false i k dev c x Exit n = record { told = tt; awaited = refl }
+if_plain false i k dev c x q n = record { told = tt; awaited = refl }
 
 awaited_plain : (i : ℕ) (k : Make) (dev : AbstractDevice) (c : TransferState) (x : Environment) (sent : Challenge) (q : AbstractRequest) → Plain (answer_awaited i k dev c x sent q)
 awaited_plain i k dev c x sent (Authorize challenge) = allow_plain i k dev c (same_text challenge sent) (x.allows sent)
@@ -212,30 +201,17 @@ held_over : (i : ℕ) (dev : AbstractDevice) (b : Bool) → is_held_by i dev.hol
 held_over i dev b e = ap (λ (x : Bool). session_over_effect (cond x (put_back dev) dev)) (sym e)
 
 if_ends : (b : Bool) (i : ℕ) (k : Make) (dev : AbstractDevice) (c : TransferState) (x : Environment) (q : AbstractRequest) → is_held_by i dev.holder ≡ b → Ends i dev (answer_if b i k dev c x q)
-if_ends true i k dev c x Init e = inl (refl, tt)
-if_ends true i k dev c x GetDevices e = inl (refl, tt)
 if_ends true i k dev c x Open e = inl (open_ends i k dev c x.challenge dev.listed x.guarded)
 if_ends true i k dev c x (Authorize challenge) e = inr (held_over i dev true e)
-if_ends true i k dev c x Describe e = inl (refl, tt)
 if_ends true i k dev c x (Get o) e = inl (get_ends k dev c o (has_readable_value k dev.options o))
 if_ends true i k dev c x (Set o value) e = inl (set_ends k dev c o value (is_resting dev.phase))
-if_ends true i k dev c x Parameters e = inl (refl, tt)
 if_ends true i k dev c x Start e = inl (start_ends k dev x c)
-if_ends true i k dev c x Cancel e = inl (refl, tt)
-if_ends true i k dev c x Close e = inl (refl, tt)
 if_ends true i k dev c x Exit e = inr (held_over i dev true e)
-if_ends false i k dev c x Init e = inl (refl, tt)
-if_ends false i k dev c x GetDevices e = inl (refl, tt)
+if_ends true i k dev c x q e = inl (refl, tt)
 if_ends false i k dev c x Open e = inl (open_ends i k dev c x.challenge dev.listed x.guarded)
 if_ends false i k dev c x (Authorize challenge) e = inr (held_over i dev false e)
-if_ends false i k dev c x Describe e = inl (refl, tt)
-if_ends false i k dev c x (Get o) e = inl (refl, tt)
-if_ends false i k dev c x (Set o value) e = inl (refl, tt)
-if_ends false i k dev c x Parameters e = inl (refl, tt)
-if_ends false i k dev c x Start e = inl (refl, tt)
-if_ends false i k dev c x Cancel e = inl (refl, tt)
-if_ends false i k dev c x Close e = inl (refl, tt)
 if_ends false i k dev c x Exit e = inr (held_over i dev false e)
+if_ends false i k dev c x q e = inl (refl, tt)
 
 awaited_ends : (i : ℕ) (k : Make) (dev : AbstractDevice) (c : TransferState) (x : Environment) (sent : Challenge) (q : AbstractRequest) → Ends i dev (answer_awaited i k dev c x sent q)
 awaited_ends i k dev c x sent (Authorize challenge) = inl (allow_ends i k dev c (same_text challenge sent) (x.allows sent))

@@ -21,7 +21,7 @@ use Rattle.saned_requests.specs.Holding.{free_word}
 use Rattle.saned_requests.specs.RequestAnswers.{Answers, AnswersBy, AnswersGreeted, AsksAuthorization, RequestContext, OpensDevice, OpensAt, resource_of}
 use Rattle.saned_core.specs.Feeding.{session_goes_on}
 use Rattle.scan_job.specs.declared.job.Job.{Job}
-use Rattle.system_model.specs.AbstractMessages.{Authorize, Cancel, Challenge, Challenged, Close, Describe, Exit, Get, GetDevices, Init, Open, Parameters, AbstractReply, AbstractRequest, Set, Start}
+use Rattle.system_model.specs.AbstractMessages.{Authorize, Challenge, Challenged, Get, Init, Open, AbstractReply, AbstractRequest, Set}
 use Rattle.system_model.specs.Devices.{Make}
 use Rattle.system_model.specs.AbstractDevices.{AbstractDevice, is_held_by, is_resting}
 use Rattle.system_model.specs.Daemon.{TransferState, FailureCounts, AnswerEffect, reply_effect}
@@ -180,17 +180,10 @@ asked_answered i make users listed name device p d q said new challenge fault a 
 
 is_open : (r : AbstractRequest) → (r ≡ Open) ⊎ (r ≡ Open → ⊥)
 is_open Open = inl refl
-is_open Init = inr (λ e. let clash : Init ≡ Open = e in absurd (cc))
-is_open GetDevices = inr (λ e. let clash : GetDevices ≡ Open = e in absurd (cc))
 is_open (Authorize challenge) = inr (λ e. let clash : Authorize challenge ≡ Open = e in absurd (cc))
-is_open Describe = inr (λ e. let clash : Describe ≡ Open = e in absurd (cc))
 is_open (Get n) = inr (λ e. let clash : Get n ≡ Open = e in absurd (cc))
 is_open (Set n value) = inr (λ e. let clash : Set n value ≡ Open = e in absurd (cc))
-is_open Parameters = inr (λ e. let clash : Parameters ≡ Open = e in absurd (cc))
-is_open Start = inr (λ e. let clash : Start ≡ Open = e in absurd (cc))
-is_open Cancel = inr (λ e. let clash : Cancel ≡ Open = e in absurd (cc))
-is_open Close = inr (λ e. let clash : Close ≡ Open = e in absurd (cc))
-is_open Exit = inr (λ e. let clash : Exit ≡ Open = e in absurd (cc))
+is_open q = inr (λ e. let clash : q ≡ Open = e in absurd (cc))
 
 is_true : (b : Bool) → (b ≡ true) ⊎ (b ≡ true → ⊥)
 is_true true = inl refl

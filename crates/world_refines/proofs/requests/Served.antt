@@ -1,6 +1,7 @@
 -- One request of a job's client: what the daemon answers, and what it leaves, is the model's answer.
 use Rattle.std.specs.Prelude.{◌/◌, cond}
 use Rattle.std.proofs.Common.{◌≡◌, ◌≢◌, ◌⊎◌, inl, inr, ◌∙◌, ℕ, List, [], ◌∷◌, Option, Some, None, Bool, true, false, refl, sym, ap, subst}
+use Rattle.sane_fixed.specs.declared.status.Status.TheVariants.{Inval}
 use Rattle.sane_fixed.specs.declared.device_info.DeviceInfo.{DeviceInfo}
 use Rattle.sane_fixed.specs.declared.status.Status.TheVariants as code
 use Rattle.md5_auth.specs.declared.users.Entry.{Entry}
@@ -18,7 +19,7 @@ use Rattle.saned_core.specs.Feeding.{session_goes_on}
 use Rattle.saned_core.specs.Feeding as daemon
 use Rattle.scan_job.specs.declared.job.Job.{Job}
 use Rattle.option_desc.specs.declared.descriptor.Descriptor.{Descriptor}
-use Rattle.system_model.specs.AbstractMessages.{Challenge, Inval, Init, Refused, AbstractReply, AbstractRequest, Set}
+use Rattle.system_model.specs.AbstractMessages.{Challenge, Init, Refused, AbstractReply, AbstractRequest, Set}
 use Rattle.option_desc.specs.declared.value.Value.{Value}
 use Rattle.system_model.specs.Devices.{Make, AbstractAcceptedSet, accept_value}
 use Rattle.system_model.specs.AbstractDevices.{AbstractDevice, is_held_by, is_resting, device_let_go}

@@ -27,29 +27,15 @@ init_goes version said own is off = goes said (greeting 16777219) (is ∙ ap gre
 
 free_silent : (users : List Entry) (d : RequestContext) (q : Asked) (said : RequestAnswer) (new : RequestContext) → IsOwnInit q → AnswersFree users d q said new → session_goes_on said ≡ false → replies_to said ≡ []
 free_silent users d (requests.Init version user) said new own g off = absurd (init_goes version said own g.0 off)
-free_silent users d requests.GetDevices said new own g off = absurd (goes said _ g.0 refl off)
 free_silent users d (requests.Open name) said new own g off = absurd (open_ends users d name (free_word d.session.held) (find_name name d.registry) said new g off)
-free_silent users d (requests.Close w) said new own g off = absurd (goes said _ g.0 refl off)
-free_silent users d (requests.GetOptionDescriptors w) said new own g off = absurd (goes said _ g.0 refl off)
-free_silent users d (requests.ControlOption w n action kind value) said new own g off = absurd (goes said _ g.0 refl off)
-free_silent users d (requests.GetParameters w) said new own g off = absurd (goes said _ g.0 refl off)
 free_silent users d (requests.Start w) said new own g off = absurd (goes said _ g.gives.0 refl off)
-free_silent users d (requests.Cancel w) said new own g off = absurd (goes said _ g.0 refl off)
 free_silent users d (requests.Authorize resource user password) said new own g off = nothing said g.0
 free_silent users d requests.Exit said new own g off = nothing said g.0
+free_silent users d q said new own g off = absurd (goes said _ g.0 refl off)
 
 awaiting_silent : (users : List Entry) (d : RequestContext) (aw : AwaitedAuthorization) (q : Asked) (said : RequestAnswer) (new : RequestContext) → AnswersAwaiting users d aw q said new → session_goes_on said ≡ false → replies_to said ≡ []
 awaiting_silent users d aw (requests.Authorize resource user password) said new g off = absurd (goes said _ g.gives.0 refl off)
-awaiting_silent users d aw (requests.Init version user) said new g off = nothing said g.0
-awaiting_silent users d aw requests.GetDevices said new g off = nothing said g.0
-awaiting_silent users d aw (requests.Open name) said new g off = nothing said g.0
-awaiting_silent users d aw (requests.Close w) said new g off = nothing said g.0
-awaiting_silent users d aw (requests.GetOptionDescriptors w) said new g off = nothing said g.0
-awaiting_silent users d aw (requests.ControlOption w n action kind value) said new g off = nothing said g.0
-awaiting_silent users d aw (requests.GetParameters w) said new g off = nothing said g.0
-awaiting_silent users d aw (requests.Start w) said new g off = nothing said g.0
-awaiting_silent users d aw (requests.Cancel w) said new g off = nothing said g.0
-awaiting_silent users d aw requests.Exit said new g off = nothing said g.0
+awaiting_silent users d aw q said new g off = nothing said g.0
 
 greeted_silent : (users : List Entry) (d : RequestContext) (a : Option AwaitedAuthorization) (q : Asked) (said : RequestAnswer) (new : RequestContext) → IsOwnInit q → AnswersGreeted users d a q said new → session_goes_on said ≡ false → replies_to said ≡ []
 greeted_silent users d None q said new own g off = free_silent users d q said new own g off
@@ -57,16 +43,7 @@ greeted_silent users d (Some aw) q said new own g off = awaiting_silent users d 
 
 first_silent : (d : RequestContext) (q : Asked) (said : RequestAnswer) (new : RequestContext) → IsOwnInit q → IsContextOutcome (first_answer d q) said new → session_goes_on said ≡ false → replies_to said ≡ []
 first_silent d (requests.Init version user) said new own g off = absurd (init_goes version said own g.0 off)
-first_silent d requests.GetDevices said new own g off = nothing said g.0
-first_silent d (requests.Open name) said new own g off = nothing said g.0
-first_silent d (requests.Close w) said new own g off = nothing said g.0
-first_silent d (requests.GetOptionDescriptors w) said new own g off = nothing said g.0
-first_silent d (requests.ControlOption w n action kind value) said new own g off = nothing said g.0
-first_silent d (requests.GetParameters w) said new own g off = nothing said g.0
-first_silent d (requests.Start w) said new own g off = nothing said g.0
-first_silent d (requests.Cancel w) said new own g off = nothing said g.0
-first_silent d requests.Exit said new own g off = nothing said g.0
-first_silent d (requests.Authorize resource user password) said new own g off = nothing said g.0
+first_silent d q said new own g off = nothing said g.0
 
 by_silent : (users : List Entry) (d : RequestContext) (b : Bool) (q : Asked) (said : RequestAnswer) (new : RequestContext) → IsOwnInit q → AnswersBy b users d q said new → session_goes_on said ≡ false → replies_to said ≡ []
 by_silent users d true q said new own g off = greeted_silent users d d.session.awaited q said new own g off

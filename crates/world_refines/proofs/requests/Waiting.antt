@@ -13,9 +13,9 @@ use Rattle.client_replies.specs.declared.progress.Progress.{Progress}
 use Rattle.client_replies.specs.declared.progress.Progress.TheVariants as stages
 use Rattle.client_refines.specs.ClientRefinement.{OutcomeRefines, WaitsAs, requested_setting}
 use Rattle.system_model.specs.AbstractDevices.{AbstractDevice}
-use Rattle.system_model.specs.AbstractMessages.{AbstractRequest, Init, GetDevices, Open, Authorize, Describe, Get, Set, Parameters, Start}
+use Rattle.system_model.specs.AbstractMessages.{AbstractRequest, Set}
 use Rattle.system_model.specs.Client.{AbstractJob, AbstractProgress, JobStage, Idle, Running, Done, Ended, Greeting, Listing, Opening, Allowing, Describing, Putting, Getting, Starting, Shaping, Imaging, ClientView, request_awaited}
-use Rattle.system_model.specs.Devices.{Make, abstract_status}
+use Rattle.system_model.specs.Devices.{Make}
 use Rattle.system_model.specs.Invariants.{StageInvariant}
 use Rattle.system_model.specs.SystemStates.{JobState, device_for, make_for}
 use Rattle.system_model.specs.Transitions.{IsUnderWay}
@@ -44,17 +44,17 @@ abbrev Unturned : Progress → Type 0
 Unturned progress = progress ≡ stages.Turning → ⊥
 
 waits_for : (job : AbstractJob) (progress : Progress) (notes : Notes) (past : JoinHistory) (m : ClientView) (g : AbstractProgress) (q : AbstractRequest) (rest : List AbstractRequest) → m.stage ≡ Running g → q ∷ rest ≡ request_awaited g → Silent progress → Unturned progress → WaitsAs job progress notes past m → AwaitsAnswer q progress
-waits_for job stages.Greeting notes past m g q rest at e silent unturned h = by_ask stages.Greeting q Init rest (asks m g Greeting q rest at h.0 e) tt
-waits_for job stages.Listing notes past m g q rest at e silent unturned h = by_ask stages.Listing q GetDevices rest (asks m g Listing q rest at h.0 e) tt
-waits_for job stages.Opening notes past m g q rest at e silent unturned h = by_ask stages.Opening q Open rest (asks m g Opening q rest at h.0 e) tt
-waits_for job (stages.Allowing resource answer) notes past m g q rest at e silent unturned h = by_ask (stages.Allowing resource answer) q (Authorize h.0.0) rest (asks m g (Allowing h.0.0) q rest at h.0.1.0 e) tt
+waits_for job stages.Greeting notes past m g q rest at e silent unturned h = by_ask stages.Greeting q _ rest (asks m g Greeting q rest at h.0 e) tt
+waits_for job stages.Listing notes past m g q rest at e silent unturned h = by_ask stages.Listing q _ rest (asks m g Listing q rest at h.0 e) tt
+waits_for job stages.Opening notes past m g q rest at e silent unturned h = by_ask stages.Opening q _ rest (asks m g Opening q rest at h.0 e) tt
+waits_for job (stages.Allowing resource answer) notes past m g q rest at e silent unturned h = by_ask (stages.Allowing resource answer) q _ rest (asks m g (Allowing h.0.0) q rest at h.0.1.0 e) tt
 waits_for job stages.Reopening notes past m g q rest at e silent unturned h = absurd (silent refl)
-waits_for job stages.Describing notes past m g q rest at e silent unturned h = by_ask stages.Describing q Describe rest (asks m g (Describing (map requested_setting notes.left)) q rest at h.0 e) tt
+waits_for job stages.Describing notes past m g q rest at e silent unturned h = by_ask stages.Describing q _ rest (asks m g (Describing (map requested_setting notes.left)) q rest at h.0 e) tt
 waits_for job (stages.Putting n kind name asked) notes past m g q rest at e silent unturned h =
     by_ask (stages.Putting n kind name asked) q (Set n asked) rest (asks m g (Putting n asked h.0.0 (map requested_setting notes.left)) q rest at h.0.1.0 e) tt
-waits_for job (stages.Getting n kind size) notes past m g q rest at e silent unturned h = by_ask (stages.Getting n kind size) q (Get n) rest (asks m g (Getting n h.0.0) q rest at h.0.1.0 e) tt
-waits_for job (stages.Starting first) notes past m g q rest at e silent unturned h = by_ask (stages.Starting first) q Start rest (asks m g Starting q rest at h.0 e) tt
-waits_for job (stages.Shaping port order) notes past m g q rest at e silent unturned h = by_ask (stages.Shaping port order) q Parameters rest (asks m g Shaping q rest at h.0 e) tt
+waits_for job (stages.Getting n kind size) notes past m g q rest at e silent unturned h = by_ask (stages.Getting n kind size) q _ rest (asks m g (Getting n h.0.0) q rest at h.0.1.0 e) tt
+waits_for job (stages.Starting first) notes past m g q rest at e silent unturned h = by_ask (stages.Starting first) q _ rest (asks m g Starting q rest at h.0 e) tt
+waits_for job (stages.Shaping port order) notes past m g q rest at e silent unturned h = by_ask (stages.Shaping port order) q _ rest (asks m g Shaping q rest at h.0 e) tt
 waits_for job (stages.Imaging port made) notes past m g q rest at e silent unturned h =
     absurd (let clash : q ∷ rest ≡ [] = asks m g (Imaging h.params h.payload) q rest at h.stage e in cc)
 waits_for job stages.Turning notes past m g q rest at e silent unturned h = absurd (unturned refl)
@@ -63,7 +63,7 @@ waits_for job stages.Over notes past m g q rest at e silent unturned h = absurd 
 outcome_waits : (place : DeviceInfo → ℕ) (target : JobTarget) (job : AbstractJob) (pages : List (List Frame)) (o : Outcome) (progress : Progress) (notes : Notes) (past : JoinHistory) (m : ClientView) (g : AbstractProgress) (q : AbstractRequest) (rest : List AbstractRequest) → m.stage ≡ Running g → q ∷ rest ≡ request_awaited g → Silent progress → Unturned progress → OutcomeRefines place target job pages o progress notes past m → AwaitsAnswer q progress
 outcome_waits place target job pages outcomes.Running progress notes past m g q rest at e silent unturned h = waits_for job progress notes past m g q rest at e silent unturned h.1
 outcome_waits place target job pages (outcomes.Done reports) progress notes past m g q rest at e silent unturned h = absurd (let clash : Done ≡ Running g = sym h.stage ∙ at in cc)
-outcome_waits place target job pages (outcomes.Ended status why) progress notes past m g q rest at e silent unturned h = absurd (let clash : Ended (abstract_status status) h.0 ≡ Running g = sym h.1.1 ∙ at in cc)
+outcome_waits place target job pages (outcomes.Ended status why) progress notes past m g q rest at e silent unturned h = absurd (let clash : Ended status why ≡ Running g = sym h ∙ at in cc)
 
 -- ---- of a job that is under way
 

@@ -131,7 +131,6 @@ any = word_within _
 
 arguments_within : (p : Procedure) → AtMost 5000 (arguments p)
 arguments_within procedures.Init = less_within 1032 5000 _ (omega arith) (after_within 4 1028 word _ any (λ text version s. made_within 1028 _ string string_within))
-arguments_within procedures.GetDevices = less_within 0 5000 _ (omega arith) (done_within _)
 arguments_within procedures.Open = less_within 1028 5000 _ (omega arith) (made_within 1028 _ string string_within)
 arguments_within procedures.Close = less_within 4 5000 _ (omega arith) (made_within 4 _ word any)
 arguments_within procedures.GetOptionDescriptors = less_within 4 5000 _ (omega arith) (made_within 4 _ word any)
@@ -148,7 +147,7 @@ arguments_within procedures.Start = less_within 4 5000 _ (omega arith) (made_wit
 arguments_within procedures.Cancel = less_within 4 5000 _ (omega arith) (made_within 4 _ word any)
 arguments_within procedures.Authorize =
     less_within 3084 5000 _ (omega arith) (after_within 1028 2056 string _ string_within (λ text resource s. after_within 1028 1028 string _ string_within (λ text user s. made_within 1028 _ string string_within)))
-arguments_within procedures.Exit = less_within 0 5000 _ (omega arith) (done_within _)
+arguments_within q = less_within 0 5000 _ (omega arith) (done_within _)
 
 pub request_within : (text : List ℕ) (q : Request) → request.spells text q → length text ≤ message_limit
 unfolding request AtMost

@@ -10,7 +10,7 @@ use Rattle.device_api.specs.State.Phase.{AtRest as Rest, Between as Amid, Readin
 use Rattle.dispatch.specs.declared.table.place.Lease.{Lease}
 use Rattle.saned_requests.specs.Holding.{held_by}
 use Rattle.saned_requests.specs.RequestAnswers.{RequestContext}
-use Rattle.system_model.specs.AbstractMessages.{Authorize, Cancel, Challenge, Close, Describe, Exit, Get, GetDevices, Init, Open, Parameters, AbstractRequest, Set, Start, same_text}
+use Rattle.system_model.specs.AbstractMessages.{Authorize, Challenge, Get, Open, AbstractRequest, Set, Start, same_text}
 use Rattle.device_api.specs.Kinds.{Page}
 use Rattle.system_model.specs.Devices.{Make, AbstractAcceptedSet, picture_frames, accept_value, has_readable_value}
 use Rattle.system_model.specs.AbstractDevices.{Begin, Between, AbstractDevice, ScanPhase, Reading, Resting, is_held_by, is_resting}
@@ -91,18 +91,11 @@ start_sheets k dev x Streaming h = tt
 start_sheets k dev x Ending h = tt
 
 if_sheets : (b : Bool) (i : ℕ) (k : Make) (dev : AbstractDevice) (c : TransferState) (x : Environment) (q : AbstractRequest) → (b ≡ true → AllByRecursion IsPageView dev.tray) → AreSheets (answer_if b i k dev c x q).begun
-if_sheets true i k dev c x Init h = tt
-if_sheets true i k dev c x GetDevices h = tt
 if_sheets true i k dev c x Open h = none_sheets (open_listed i k dev c x.challenge dev.listed x.guarded) (open_begun i k dev c x.challenge dev.listed x.guarded)
-if_sheets true i k dev c x (Authorize challenge) h = tt
-if_sheets true i k dev c x Describe h = tt
 if_sheets true i k dev c x (Get o) h = none_sheets (get_reply k dev c o (has_readable_value k dev.options o)) (get_begun k dev c o (has_readable_value k dev.options o))
 if_sheets true i k dev c x (Set o value) h = none_sheets (set_reply k dev c o value (is_resting dev.phase)) (set_begun k dev c o value (is_resting dev.phase))
-if_sheets true i k dev c x Parameters h = tt
 if_sheets true i k dev c x Start h = start_sheets k dev x c (h refl)
-if_sheets true i k dev c x Cancel h = tt
-if_sheets true i k dev c x Close h = tt
-if_sheets true i k dev c x Exit h = tt
+if_sheets true i k dev c x q h = tt
 if_sheets false i k dev c x Open h = none_sheets (open_listed i k dev c x.challenge dev.listed x.guarded) (open_begun i k dev c x.challenge dev.listed x.guarded)
 if_sheets false i k dev c x q h = tt
 

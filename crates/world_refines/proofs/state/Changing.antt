@@ -1,12 +1,13 @@
 -- A world in which one job, its device and its session changed.
-use Rattle.std.proofs.Common.{◌≡◌, ◌≢◌, ◌⊎◌, inl, inr, ◌∙◌, ℕ, ◌<◌, ◌≤◌, List, [], Option, Some, None, refl, sym, ap, subst, length, slice_get, slice_set, arith}
+use Rattle.std.proofs.Common.{◌≡◌, ◌≢◌, ◌⊎◌, inl, inr, ◌∙◌, ℕ, ◌+◌, ◌<◌, ◌≤◌, List, [], Option, Some, None, refl, sym, ap, subst, length, slice_get, slice_set, arith}
 use Rattle.frame_join.specs.FrameHistory.{JoinHistory}
 use Rattle.device_api.specs.State.{DeviceState}
 use Rattle.sane_fixed.specs.declared.device_info.DeviceInfo.{DeviceInfo}
 use Rattle.md5_auth.specs.declared.users.Entry.{Entry}
 use Rattle.saned_core.specs.declared.session_slot.SessionSlot.{SessionSlot}
 use Rattle.saned_core.specs.declared.session_slot.SessionId.{SessionId}
-use Rattle.saned_core.specs.DaemonStates.{Core}
+use Rattle.saned_core.specs.DaemonStates.{Core, session_in, session_of, session_slot_of}
+use Rattle.saned_requests.specs.declared.session.Session.{Session as RequestSession}
 use Rattle.scan_job.specs.JobSize.{HasCount}
 use Rattle.scan_job.specs.declared.job.Job.{Job}
 use Rattle.system_model.specs.Devices.{Make}
@@ -14,14 +15,16 @@ use Rattle.system_model.specs.SystemStates.{JobState}
 use Rattle.system_model.specs.Invariants.{Invariant}
 use Rattle.event_world.specs.declared.endpoint.Endpoint.{Endpoint}
 use Rattle.event_world.specs.Worlds.{WorldCore}
-use Rattle.saned_core.specs.DaemonStates.{session_in}
 use Rattle.world_refines.specs.Speaks.{AsksAsHeld, Speaks}
 use Rattle.world_refines.specs.GhostStates.{Ghost, Wires}
 use Rattle.daemon_refines.specs.ContextRefinement.{TableRefines}
-use Rattle.world_refines.specs.WorldRefinement.{HaveDifferentNames, WiresMatch, HaveOwn, IsNobody, IsServed, AreListedBelow, EndpointRefines, EndpointRefinesAt, WorldRefines, numbers_from, slot_of_link, session_by, AreStartedViews}
+use Rattle.daemon_refines.specs.Cores.{SessionRefines}
+use Rattle.daemon_refines.proofs.Moved.{unsome}
+use Rattle.world_refines.specs.WorldRefinement.{HaveDifferentNames, WiresMatch, HaveOwn, IsLinked, IsNobody, IsNobodys, IsServed, StrangerStands, stranger_of, AreListedBelow, EndpointRefines, EndpointRefinesAt, WorldRefines, numbers_from, slot_of_link, session_by, AreStartedViews}
 use Rattle.world_refines.proofs.state.ListEntries.{is_same, set_elsewhere, set_length, set_there}
-use Rattle.world_refines.proofs.state.EndpointSlots.{Replaces, slot_change}
-use Rattle.world_refines.proofs.state.Sees.{IsOther, Leaves, slot_stands, served_stands, table_stands}
+use Rattle.world_refines.proofs.state.EndpointSlots.{IsNew, Replaces, WasSlot, below_at, slot_change}
+use Rattle.world_refines.proofs.state.Sees.{IsOther, Leaves, other_stands, slot_stands, served_stands, table_stands}
+use Rattle.world_refines.proofs.state.Strangers.{IsAt, IsUnlinked, found_at, none_yet, other_link, session_below, slot_of_session, whose_is}
 
 -- what never changes is the same, and so is all of every job but i
 pub record IsChange (i : ℕ) (t u : Ghost) : Type 0 where
@@ -100,7 +103,7 @@ each_sits t u w i j p q endpoint e h at c (inl same) there =
     subst (λ (k : ℕ). EndpointRefinesAt u e k endpoint) (sym same) (subst (λ (x : Endpoint). EndpointRefinesAt u e i x) is c.sits)
 each_sits t u w i j p q endpoint e h at c (inr n) there = other_sits t u w i j p q endpoint e h at c n (sym (set_elsewhere w.endpoints i j q n) ∙ there)
 
-each_nobody : (t u : Ghost) (w : WorldCore) (i j : ℕ) (p q : Endpoint) (e : Core) → WorldRefines t w → Change i t u w p q e → j ≢ i → length w.endpoints ≤ j → IsNobody u (changed w i q e) j
+each_nobody : (t u : Ghost) (w : WorldCore) (i j : ℕ) (p q : Endpoint) (e : Core) → WorldRefines t w → Change i t u w p q e → j ≢ i → length w.endpoints ≤ j → IsNobody u j
 each_nobody t u w i j p q e h c n beyond =
     let b = h.beyond j beyond in
     let job_state = c.told.job j n in
@@ -109,7 +112,6 @@ each_nobody t u w i j p q e h c n beyond =
       linked = ap (λ (x : JobState). x.linked) job_state ∙ b.linked;
       transfer = ap (λ (x : JobState). x.session.transfer) job_state ∙ b.transfer;
       image = ap (λ (x : Wires). x.image) (c.told.wires j n) ∙ b.image;
-      table = subst (λ (make : ℕ → Make). TableRefines j make [] e.registry u.system.device) (sym c.told.make) (table_stands i j t.system.make c.leaves.held w.daemon.stream w.daemon.registry e.registry t.system.device u.system.device n c.leaves.shows c.leaves.others b.table);
     }
 
 -- ---- sessions
@@ -143,14 +145,82 @@ link_below : (t u : Ghost) (w : WorldCore) (i j : ℕ) (p q a : Endpoint) (e : C
 link_below t u w i j p q a e x h at c is (inl m) = number_below t w i p e x h at c.leaves.opened (c.link x (ap (λ (z : Endpoint). z.link) (sym m.1) ∙ is))
 link_below t u w i j p q a e x h at c is (inr m) = let below : x.number < w.daemon.opened = h.links j a x m.1 is in let more = c.leaves.opened in omega (arith, below, more)
 
+-- ---- a stranger
+
+beyond_other : (i j n : ℕ) → i < n → n ≤ j → j ≢ i
+beyond_other i j n low high = λ same. omega (arith, low, high, same)
+
+-- who sits there behind the change and is nobody's sat there before, and was nobody's
+stranger_there : (t u : Ghost) (w : WorldCore) (i n : ℕ) (p q : Endpoint) (e : Core) (session : RequestSession DeviceState) → WorldRefines t w → slice_get w.endpoints i ≡ Some p → Change i t u w p q e → IsUnlinked (slice_set w.endpoints i q) n → session_of e n ≡ Some session → IsNobodys w n × (n < w.daemon.opened)
+stranger_there t u w i n p q e session h at c apart is =
+    let s = slot_of_session (session_slot_of e.slots n) session is in
+    let l = found_at e.slots n s.0 s.1 in
+    (λ j endpoint id there link. by_place l j endpoint id there link (is_same j i), by_slot l (c.replaces.each l.place s.0 l.at))
+  where
+    by_slot : {slot : SessionSlot DeviceState} → (l : IsAt e.slots n slot) → WasSlot w.daemon.slots l.place slot.number ⊎ IsNew q.link w.daemon c.replaces.place l.place slot.number → n < w.daemon.opened
+    by_slot l (inl was) = let low : was.slot.number < w.daemon.opened = below_at w.daemon.opened w.daemon.slots l.place was.slot h.slots was.at in subst (λ (x : ℕ). x < w.daemon.opened) (was.number ∙ l.number) low
+    by_slot l (inr new) = absurd (apart i q new.id (set_there w.endpoints i q p at) new.link_is (new.number ∙ l.number))
+
+    by_link : {slot : SessionSlot DeviceState} (id : SessionId) → (l : IsAt e.slots n slot) → (q.link ≡ Some id) ⊎ ((k : ℕ) (other : SessionSlot DeviceState) → slice_get e.slots k ≡ Some (Some other) → other.number ≢ id.number) → id.number ≢ n
+    by_link id l (inl still) = apart i q id (set_there w.endpoints i q p at) still
+    by_link {slot = slot} id l (inr none) = λ same. none l.place slot l.at (l.number ∙ sym same)
+
+    by_place : {slot : SessionSlot DeviceState} → IsAt e.slots n slot → (j : ℕ) (endpoint : Endpoint) (id : SessionId) → slice_get w.endpoints j ≡ Some endpoint → endpoint.link ≡ Some id → (j ≡ i) ⊎ (j ≢ i) → id.number ≢ n
+    by_place l j endpoint id there link (inr off) = apart j endpoint id (set_elsewhere w.endpoints i j q off ∙ there) link
+    by_place l j endpoint id there link (inl same) =
+        let is_p : endpoint ≡ p = unsome endpoint p (sym there ∙ (ap (slice_get w.endpoints) same ∙ at)) in
+        by_link id l (c.replaces.still id (ap (λ (x : Endpoint). x.link) (sym is_p) ∙ link))
+
+-- who rests there behind the change rested before
+rests_before : (t u : Ghost) (w : WorldCore) (i n : ℕ) (p q : Endpoint) (e : Core) → WorldRefines t w → slice_get w.endpoints i ≡ Some p → Change i t u w p q e → (session_of e n ≡ None) ⊎ IsLinked (slice_set w.endpoints i q) n → (session_of w.daemon n ≡ None) ⊎ IsLinked w.endpoints n
+rests_before t u w i n p q e h at c either = by either
+  where
+    by_session : session_of e n ≡ None → (o : Option (RequestSession DeviceState)) → session_of w.daemon n ≡ o → IsLinked w.endpoints n ⊎ IsNobodys w n → (session_of w.daemon n ≡ None) ⊎ IsLinked w.endpoints n
+    by_session none None is whose = inl is
+    by_session none (Some session) is (inl linked) = inr linked
+    by_session none (Some session) is (inr apart) =
+        let low = session_below w.daemon n session h.slots is in
+        let still : session_of e n ≡ session_of w.daemon n = ap session_in (c.leaves.slots n (other_link p.link n (λ id link. apart i p id at link)) low) in
+        absurd (let clash : None ≡ Some session = sym none ∙ (still ∙ is) in cc)
+
+    by_link : (l : IsLinked (slice_set w.endpoints i q) n) → (p.link ≡ Some l.id) ⊎ ((w.daemon.opened ≤ l.id.number) × (l.id.number < e.opened)) → (session_of w.daemon n ≡ None) ⊎ IsLinked w.endpoints n
+    by_link l (inl old) = inr (record { place = i; endpoint = p; id = l.id; at = at; link = old; number = l.number })
+    by_link l (inr new) = inl (none_yet w.daemon.opened w.daemon.slots n h.slots (subst (λ (x : ℕ). w.daemon.opened ≤ x) l.number new.0))
+
+    by_place : (l : IsLinked (slice_set w.endpoints i q) n) → (l.place ≡ i) ⊎ (l.place ≢ i) → (session_of w.daemon n ≡ None) ⊎ IsLinked w.endpoints n
+    by_place l (inr off) = inr (record { place = l.place; endpoint = l.endpoint; id = l.id; at = sym (set_elsewhere w.endpoints i l.place q off) ∙ l.at; link = l.link; number = l.number })
+    by_place l (inl same) =
+        let is_q : l.endpoint ≡ q = unsome l.endpoint q (sym l.at ∙ (ap (slice_get (slice_set w.endpoints i q)) same ∙ set_there w.endpoints i q p at)) in
+        by_link l (c.link l.id (ap (λ (x : Endpoint). x.link) (sym is_q) ∙ l.link))
+
+    by : (session_of e n ≡ None) ⊎ IsLinked (slice_set w.endpoints i q) n → (session_of w.daemon n ≡ None) ⊎ IsLinked w.endpoints n
+    by (inl none) = by_session none (session_of w.daemon n) refl (whose_is w n)
+    by (inr linked) = by_place linked (is_same linked.place i)
+
+each_stranger : (t u : Ghost) (w : WorldCore) (i n : ℕ) (p q : Endpoint) (e : Core) → WorldRefines t w → slice_get w.endpoints i ≡ Some p → i < length w.endpoints → Change i t u w p q e → StrangerStands u (changed w i q e) n
+each_stranger t u w i n p q e h at low c =
+    let j = stranger_of w n in
+    let off : j ≢ i = beyond_other i j (length w.endpoints) low (omega arith) in
+    let number : stranger_of (changed w i q e) n ≡ j = ap (λ (x : ℕ). x + n) (set_length w.endpoints i q) in
+    record {
+      sits = λ session is apart.
+          let there = stranger_there t u w i n p q e session h at c apart is in
+          let other = other_link p.link n (λ id link. there.0 i p id at link) in
+          let same : session_of e n ≡ session_of w.daemon n = ap session_in (c.leaves.slots n other there.1) in
+          let old = (h.strangers n).sits session (sym same ∙ is) there.0 in
+          let now = other_stands i j n t.system.make p.link w.daemon e t.system.device u.system.device old.0 off other there.1 c.leaves old.1 in
+          (old.0, subst (λ (x : ℕ). SessionRefines x u.system.make e n u.system.device old.0) (sym number) (subst (λ (make : ℕ → Make). SessionRefines j make e n u.system.device old.0) (sym c.told.make) now));
+      rests = λ either.
+          let old = (h.strangers n).rests (rests_before t u w i n p q e h at c either) in
+          let now = table_stands i j t.system.make c.leaves.held w.daemon.stream w.daemon.registry e.registry t.system.device u.system.device off c.leaves.shows c.leaves.others old in
+          subst (λ (x : ℕ). TableRefines x u.system.make [] e.registry u.system.device) (sym number) (subst (λ (make : ℕ → Make). TableRefines j make [] e.registry u.system.device) (sym c.told.make) now);
+    }
+
 -- ---- the world
 
 begun_stays : (t u : Ghost) (w : WorldCore) (i j : ℕ) (p q : Endpoint) (e : Core) → WorldRefines t w → Change i t u w p q e → (j ≡ i) ⊎ (j ≢ i) → AreStartedViews u.system.make (u.system.job j)
 begun_stays t u w i j p q e h c (inl same) = subst (λ (m : ℕ → Make). AreStartedViews m (u.system.job j)) (sym c.told.make) (subst (λ (k : ℕ). AreStartedViews t.system.make (u.system.job k)) (sym same) c.begun)
 begun_stays t u w i j p q e h c (inr n) = subst (λ (m : ℕ → Make). AreStartedViews m (u.system.job j)) (sym c.told.make) (subst (λ (x : JobState). AreStartedViews t.system.make x) (sym (c.told.job j n)) (h.begun j))
-
-beyond_other : (i j n : ℕ) → i < n → n ≤ j → j ≢ i
-beyond_other i j n low high = λ same. omega (arith, low, high, same)
 
 pub stands_change : (t u : Ghost) (w : WorldCore) (i : ℕ) (p q : Endpoint) (e : Core) → WorldRefines t w → slice_get w.endpoints i ≡ Some p → i < length w.endpoints → Change i t u w p q e → WorldRefines u (record { daemon = e; endpoints = slice_set w.endpoints i q })
 stands_change t u w i p q e h at low c =
@@ -168,10 +238,11 @@ stands_change t u w i p q e h at low c =
       };
       endpoints = λ j endpoint there. each_sits t u w i j p q endpoint e h at c (is_same j i) there;
       beyond = λ j high. let far : length w.endpoints ≤ j = subst (λ (n : ℕ). n ≤ j) (set_length w.endpoints i q) high in each_nobody t u w i j p q e h c (beyond_other i j (length w.endpoints) low far) far;
+      strangers = λ n. each_stranger t u w i n p q e h at low c;
       own = λ j k a b x y at_j at_k is_x is_y same. own_stays t u w i j k p q a b e x y h at c is_x is_y same (link_of t u w i j p q a e at (is_same j i) at_j) (link_of t u w i k p q b e at (is_same k i) at_k);
       links = λ j endpoint id there is. link_below t u w i j p q endpoint e id h at c is (link_of t u w i j p q endpoint e at (is_same j i) there);
       slots = c.leaves.below;
-      slots_are = slot_change w.endpoints i p q w.daemon e at h.slots_are h.slots c.replaces;
+      apart = slot_change p.link q.link w.daemon e h.apart h.slots c.replaces;
       faithful = c.leaves.faithful;
       begun = λ j. begun_stays t u w i j p q e h c (is_same j i);
     }

@@ -64,7 +64,7 @@ pub given_infos : (t : Table) (held : Held) → map info_at (given_back t held) 
 given_infos t [] = refl
 given_infos t (lease ∷ held) = given_infos (with_lease_back t lease) held ∙ back_infos t lease
 
-let_go_infos : (t : Table) (session : Option (RequestSession DeviceState)) → map info_at (session_let_go t session) ≡ map info_at t
+pub let_go_infos : (t : Table) (session : Option (RequestSession DeviceState)) → map info_at (session_let_go t session) ≡ map info_at t
 let_go_infos t None = refl
 let_go_infos t (Some session) = given_infos t session.held
 
@@ -131,7 +131,7 @@ on_number g slot new e = ap (λ (x : SessionSlot DeviceState). x.number) (sym (u
 
 -- ---- its end
 
-none_number : (slot new : SessionSlot DeviceState) → no_more slot ≡ Some new → new.number ≡ slot.number
+pub none_number : (slot new : SessionSlot DeviceState) → no_more slot ≡ Some new → new.number ≡ slot.number
 none_number slot new e = absurd (let clash : None ≡ Some new = e in cc)
 
 -- what is left of a client's session that was ended, by its devices that are let go
@@ -194,11 +194,11 @@ shows_ended i make d id served table p h =
 -- ---- a call that changes its session alone
 
 -- what is so of slots, where one session is another
-on_below : (g : RequestSession DeviceState → RequestSession DeviceState) (n k : ℕ) (slots : List (Option (SessionSlot DeviceState))) → AllByRecursion (IsBelow k) slots → AllByRecursion (IsBelow k) (on_session_slot (on_session g) n slots)
+pub on_below : (g : RequestSession DeviceState → RequestSession DeviceState) (n k : ℕ) (slots : List (Option (SessionSlot DeviceState))) → AllByRecursion (IsBelow k) slots → AllByRecursion (IsBelow k) (on_session_slot (on_session g) n slots)
 on_below g n k slots h = on_slot_all (IsBelow k) (on_session g) n slots tt (λ s b. b) h
 
 -- what a session holds stays true
-lost_true : (c : WordCarriage) (session : RequestSession DeviceState) → AllByRecursion IsFaithfulLease session.held → AllByRecursion IsFaithfulLease (lost_from c session).held
+pub lost_true : (c : WordCarriage) (session : RequestSession DeviceState) → AllByRecursion IsFaithfulLease session.held → AllByRecursion IsFaithfulLease (lost_from c session).held
 lost_true word.Quiet session h = h
 lost_true (word.Waiting w) session h = h
 lost_true (word.Streaming w) session h = cancelled_word_true session.held w h
@@ -208,7 +208,7 @@ slot_true : (g : RequestSession DeviceState → RequestSession DeviceState) (o :
 slot_true g None keeps h = tt
 slot_true g (Some session) keeps h = keeps session h
 
-on_true : (g : RequestSession DeviceState → RequestSession DeviceState) (n : ℕ) (slots : List (Option (SessionSlot DeviceState))) → ((session : RequestSession DeviceState) → AllByRecursion IsFaithfulLease session.held → AllByRecursion IsFaithfulLease (g session).held) →
+pub on_true : (g : RequestSession DeviceState → RequestSession DeviceState) (n : ℕ) (slots : List (Option (SessionSlot DeviceState))) → ((session : RequestSession DeviceState) → AllByRecursion IsFaithfulLease session.held → AllByRecursion IsFaithfulLease (g session).held) →
     AllByRecursion IsFaithfulSessionSlot slots → AllByRecursion IsFaithfulSessionSlot (on_session_slot (on_session g) n slots)
 on_true g n slots keeps h = on_slot_all IsFaithfulSessionSlot (on_session g) n slots tt (λ s b. slot_true g s.session keeps b) h
 

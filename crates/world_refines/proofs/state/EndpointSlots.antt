@@ -1,8 +1,8 @@
--- Slots are for the sessions of endpoints, and no two for one.
+-- No two slots are for one session, beside an endpoint that had one and has another.
 use Rattle.std.specs.Prelude.{if◌then◌else◌}
 use Rattle.std.specs.Option.{option_and_then}
 use Rattle.std.specs.List.{AllByRecursion}
-use Rattle.std.proofs.Common.{◌≡◌, ◌≢◌, ◌⊎◌, inl, inr, ◌∙◌, ℕ, zero, suc, ◌<◌, ◌≤◌, List, [], ◌∷◌, Option, Some, None, option_map, Bool, true, false, refl, sym, ap, subst, slice_get, slice_set, eqb-true, arith}
+use Rattle.std.proofs.Common.{◌≡◌, ◌≢◌, ◌⊎◌, inl, inr, ◌∙◌, ℕ, zero, suc, ◌<◌, ◌≤◌, List, [], ◌∷◌, Option, Some, None, option_map, Bool, true, false, refl, sym, ap, subst, slice_get, eqb-true, arith}
 use Rattle.std.proofs.lemmas.Bool.{eqb-false}
 use Rattle.device_api.specs.State.{DeviceState}
 use Rattle.saned_requests.specs.declared.session.Session.{Session as RequestSession}
@@ -10,9 +10,7 @@ use Rattle.saned_core.specs.declared.session_slot.SessionSlot.{SessionSlot}
 use Rattle.saned_core.specs.declared.session_slot.SessionId.{SessionId}
 use Rattle.saned_core.specs.DaemonStates.{Core, after_end_session, new_session_slot, is_slot_number, no_more, on_session_slot, on_session, after_open_session, with_session_slot, with_session}
 use Rattle.daemon_refines.proofs.Moved.{unsome}
-use Rattle.event_world.specs.declared.endpoint.Endpoint.{Endpoint}
-use Rattle.world_refines.specs.WorldRefinement.{SlotsAreOfEndpoints, IsBelow, IsLinked}
-use Rattle.world_refines.proofs.state.ListEntries.{is_same, set_elsewhere, set_there}
+use Rattle.world_refines.specs.WorldRefinement.{HaveDifferentNumbers, IsBelow}
 
 abbrev TakesSlot : Type 0
 TakesSlot = List (Option (SessionSlot DeviceState))
@@ -57,7 +55,7 @@ was_on f n (x ∷ slots) keeps k s e = was_by f n x slots (is_slot_number n x) k
 
 -- no two are of one number
 abbrev pub Single : TakesSlot → Type 0
-Single slots = (j k : ℕ) (a b : SessionSlot DeviceState) → slice_get slots j ≡ Some (Some a) → slice_get slots k ≡ Some (Some b) → a.number ≡ b.number → j ≡ k
+Single slots = HaveDifferentNumbers slots
 
 pub later : (x : Option (SessionSlot DeviceState)) (slots : TakesSlot) → Single (x ∷ slots) → Single slots
 later x slots h j k a b at_j at_k same = let e : suc j ≡ suc k = h (suc j) (suc k) a b at_j at_k same in omega (arith, e)
@@ -70,7 +68,7 @@ gone_by n (Some r) slots true (suc k) s is h more e = λ same. let clash : zero 
 gone_by n x slots false zero s is h more e = eqb-false s.number n (sym (ap (is_slot_number n) (unsome x (Some s) e)) ∙ is)
 gone_by n x slots false (suc k) s is h more e = more k s e
 
-gone : (n : ℕ) (slots : TakesSlot) → Single slots → (k : ℕ) (s : SessionSlot DeviceState) → slice_get (on_session_slot no_more n slots) k ≡ Some (Some s) → s.number ≢ n
+pub gone : (n : ℕ) (slots : TakesSlot) → Single slots → (k : ℕ) (s : SessionSlot DeviceState) → slice_get (on_session_slot no_more n slots) k ≡ Some (Some s) → s.number ≢ n
 unfolding on_session_slot
 gone n [] h k s e = absurd (let clash : None ≡ Some (Some s) = e in cc)
 gone n (x ∷ slots) h k s e = gone_by n x slots (is_slot_number n x) k s refl h (gone n slots (later x slots h)) e
@@ -145,44 +143,19 @@ replaces_opened d port id number =
 
 -- ---- the world
 
-below_at : (n : ℕ) (slots : TakesSlot) (k : ℕ) (s : SessionSlot DeviceState) → AllByRecursion (IsBelow n) slots → slice_get slots k ≡ Some (Some s) → s.number < n
+pub below_at : (n : ℕ) (slots : TakesSlot) (k : ℕ) (s : SessionSlot DeviceState) → AllByRecursion (IsBelow n) slots → slice_get slots k ≡ Some (Some s) → s.number < n
 below_at n [] k s h e = absurd (let clash : None ≡ Some (Some s) = e in cc)
 below_at n (x ∷ slots) zero s h e = subst (λ (y : Option (SessionSlot DeviceState)). IsBelow n y) (unsome x (Some s) e) h.0
 below_at n (x ∷ slots) (suc k) s h e = below_at n slots k s h.1 e
 
-links_still : (endpoints : List Endpoint) (i n : ℕ) (p q : Endpoint) → slice_get endpoints i ≡ Some p → (l : IsLinked endpoints n) → (l.place ≡ i) ⊎ (l.place ≢ i) → ((id : SessionId) → p.link ≡ Some id → (q.link ≡ Some id) ⊎ (n ≢ id.number)) → IsLinked (slice_set endpoints i q) n
-links_still endpoints i n p q at l (inl same) still =
-    let is : l.endpoint ≡ p = unsome l.endpoint p (sym l.at ∙ (ap (slice_get endpoints) same ∙ at)) in
-    by_link endpoints i n p q at l (still l.id (ap (λ (x : Endpoint). x.link) (sym is) ∙ l.link))
-  where
-    by_link : (endpoints : List Endpoint) (i n : ℕ) (p q : Endpoint) → slice_get endpoints i ≡ Some p → (l : IsLinked endpoints n) → (q.link ≡ Some l.id) ⊎ (n ≢ l.id.number) → IsLinked (slice_set endpoints i q) n
-    by_link endpoints i n p q at l (inl e) = record { place = i; endpoint = q; id = l.id; at = set_there endpoints i q p at; link = e; number = l.number }
-    by_link endpoints i n p q at l (inr other) = absurd (other (sym l.number))
-links_still endpoints i n p q at l (inr away) still = record { place = l.place; endpoint = l.endpoint; id = l.id; at = set_elsewhere endpoints i l.place q away ∙ l.at; link = l.link; number = l.number }
+apart_by : (link : Option SessionId) (d : Core) (place j k n m : ℕ) → Single d.slots → AllByRecursion (IsBelow d.opened) d.slots → n ≡ m → WasSlot d.slots j n ⊎ IsNew link d place j n → WasSlot d.slots k m ⊎ IsNew link d place k m → j ≡ k
+apart_by link d place j k n m h below same (inl a) (inl b) = h j k a.slot b.slot a.at b.at (a.number ∙ (same ∙ sym b.number))
+apart_by link d place j k n m h below same (inl a) (inr b) = let low = below_at d.opened d.slots j a.slot below a.at in let is = a.number in let high = b.high in absurd (omega (arith, low, is, high, same))
+apart_by link d place j k n m h below same (inr a) (inl b) = let low = below_at d.opened d.slots k b.slot below b.at in let is = b.number in let high = a.high in absurd (omega (arith, low, is, high, same))
+apart_by link d place j k n m h below same (inr a) (inr b) = a.there ∙ sym b.there
 
-still_at : (old new : Option SessionId) (d e : Core) (k : ℕ) (s : SessionSlot DeviceState) → Replaces old new d e → slice_get e.slots k ≡ Some (Some s) → (id : SessionId) → old ≡ Some id → (new ≡ Some id) ⊎ (s.number ≢ id.number)
-still_at old new d e k s r at id is = by_still new e k s id at (r.still id is)
-  where
-    by_still : (new : Option SessionId) (e : Core) (k : ℕ) (s : SessionSlot DeviceState) (id : SessionId) → slice_get e.slots k ≡ Some (Some s) → (new ≡ Some id) ⊎ ((j : ℕ) (slot : SessionSlot DeviceState) → slice_get e.slots j ≡ Some (Some slot) → slot.number ≢ id.number) → (new ≡ Some id) ⊎ (s.number ≢ id.number)
-    by_still new e k s id at (inl same) = inl same
-    by_still new e k s id at (inr none) = inr (none k s at)
-
-linked_by : (endpoints : List Endpoint) (i : ℕ) (p q : Endpoint) (d e : Core) (place k : ℕ) (s : SessionSlot DeviceState) → SlotsAreOfEndpoints d.slots endpoints → slice_get endpoints i ≡ Some p → ((id : SessionId) → p.link ≡ Some id → (q.link ≡ Some id) ⊎ (s.number ≢ id.number)) → WasSlot d.slots k s.number ⊎ IsNew q.link d place k s.number → IsLinked (slice_set endpoints i q) s.number
-linked_by endpoints i p q d e place k s h at still (inl w) = let l = subst (IsLinked endpoints) w.number (h.linked k w.slot w.at) in links_still endpoints i s.number p q at l (is_same l.place i) still
-linked_by endpoints i p q d e place k s h at still (inr n) = record { place = i; endpoint = q; id = n.id; at = set_there endpoints i q p at; link = n.link_is; number = n.number }
-
-apart_by : (endpoints : List Endpoint) (link : Option SessionId) (d : Core) (place j k n m : ℕ) → SlotsAreOfEndpoints d.slots endpoints → AllByRecursion (IsBelow d.opened) d.slots → n ≡ m → WasSlot d.slots j n ⊎ IsNew link d place j n → WasSlot d.slots k m ⊎ IsNew link d place k m → j ≡ k
-apart_by endpoints link d place j k n m h below same (inl a) (inl b) = h.apart j k a.slot b.slot a.at b.at (a.number ∙ (same ∙ sym b.number))
-apart_by endpoints link d place j k n m h below same (inl a) (inr b) = let low = below_at d.opened d.slots j a.slot below a.at in let is = a.number in let high = b.high in absurd (omega (arith, low, is, high, same))
-apart_by endpoints link d place j k n m h below same (inr a) (inl b) = let low = below_at d.opened d.slots k b.slot below b.at in let is = b.number in let high = a.high in absurd (omega (arith, low, is, high, same))
-apart_by endpoints link d place j k n m h below same (inr a) (inr b) = a.there ∙ sym b.there
-
-pub slot_change : (endpoints : List Endpoint) (i : ℕ) (p q : Endpoint) (d e : Core) → slice_get endpoints i ≡ Some p → SlotsAreOfEndpoints d.slots endpoints → AllByRecursion (IsBelow d.opened) d.slots → Replaces p.link q.link d e → SlotsAreOfEndpoints e.slots (slice_set endpoints i q)
-slot_change endpoints i p q d e at h below r =
-    record {
-      linked = λ k s there. linked_by endpoints i p q d e r.place k s h at (still_at p.link q.link d e k s r there) (r.each k s there);
-      apart = λ j k a b at_j at_k same. apart_by endpoints q.link d r.place j k a.number b.number h below same (r.each j a at_j) (r.each k b at_k);
-    }
+pub slot_change : (old new : Option SessionId) (d e : Core) → Single d.slots → AllByRecursion (IsBelow d.opened) d.slots → Replaces old new d e → Single e.slots
+slot_change old new d e h below r j k a b at_j at_k same = apart_by new d r.place j k a.number b.number h below same (r.each j a at_j) (r.each k b at_k)
 
 abbrev IsEmpty : Option (SessionSlot DeviceState) → Type 0
 IsEmpty None = Unit {0}
@@ -194,8 +167,11 @@ nobody (x ∷ slots) zero s h e = subst IsEmpty (unsome x (Some s) e) h.0
 nobody (x ∷ slots) (suc k) s h e = nobody slots k s h.1 e
 
 -- nobody sits yet
-pub none_in_slot : (endpoints : List Endpoint) → SlotsAreOfEndpoints (None ∷ None ∷ None ∷ None ∷ None ∷ None ∷ None ∷ None ∷ []) endpoints
-none_in_slot endpoints =
+pub no_slot_yet : (k : ℕ) (s : SessionSlot DeviceState) → slice_get (None ∷ None ∷ None ∷ None ∷ None ∷ None ∷ None ∷ None ∷ []) k ≡ Some (Some s) → ⊥
+no_slot_yet k s e =
     let slots : TakesSlot = None ∷ None ∷ None ∷ None ∷ None ∷ None ∷ None ∷ None ∷ [] in
     let empty : AllByRecursion IsEmpty slots = (tt, (tt, (tt, (tt, (tt, (tt, (tt, (tt, tt)))))))) in
-    record { linked = λ k s e. absurd (nobody slots k s empty e); apart = λ j k a b at_j at_k same. absurd (nobody slots j a empty at_j) }
+    nobody slots k s empty e
+
+pub none_in_slot : Single (None ∷ None ∷ None ∷ None ∷ None ∷ None ∷ None ∷ None ∷ [])
+none_in_slot j k a b at_j at_k same = absurd (no_slot_yet j a at_j)

@@ -1,12 +1,13 @@
 -- The client view of a client that is not connected yet, and a client view that is stopped.
 use Rattle.std.proofs.Common.{◌≡◌, ◌∙◌, ℕ, List, true, false, refl, sym, ap, subst}
+use Rattle.scan_job.specs.declared.outcome.Why.{Why}
+use Rattle.sane_fixed.specs.declared.status.Status.{Status}
 use Rattle.sane_fixed.specs.declared.device_info.DeviceInfo.{DeviceInfo}
 use Rattle.page_picture.specs.Shows.{Frame}
 use Rattle.scan_job.specs.declared.outcome.Outcome.{Outcome}
 use Rattle.scan_job.specs.declared.outcome.Outcome.TheVariants as outcomes
 use Rattle.client_replies.specs.declared.progress.JobTarget.{JobTarget}
 use Rattle.client_replies.specs.ProtocolStates.{ProtocolState, is_running}
-use Rattle.system_model.specs.AbstractMessages.{Status, Why}
 use Rattle.system_model.specs.Client.{Done, Ended, Idle, AbstractJob, ClientView, AbstractProgress, Running, JobStage}
 use Rattle.system_model.specs.ClientReplies.{client_after_stop, stage_after_stop}
 use Rattle.system_model.specs.Transitions.{IsUnderWay}

@@ -4,7 +4,7 @@ use Rattle.std.proofs.lemmas.Bool.{eqb-false}
 use Rattle.option_desc.specs.declared.descriptor.Descriptor.{Descriptor}
 use Rattle.system_model.specs.AbstractMessages.{Challenge, AbstractReply, AbstractRequest, Set, Start}
 use Rattle.system_model.specs.Devices.{Make, descriptors_in_force}
-use Rattle.system_model.specs.Client.{AbstractJob, Idle, Running, Done, Ended, JobStage, Task, List_, Show, SetOnly, Scan, Batch, AbstractProgress, Greeting, Listing, Opening, Allowing, Describing, Putting, Getting, Starting, Shaping, Imaging, request_awaited, requests_sent, abstract_goodbye, abstract_farewell}
+use Rattle.system_model.specs.Client.{AbstractJob, Idle, Running, Done, Ended, JobStage, AbstractTask, List_, Show, SetOnly, Scan, Batch, AbstractProgress, Greeting, Listing, Opening, Allowing, Describing, Putting, Getting, Starting, Shaping, Imaging, request_awaited, requests_sent, abstract_goodbye, abstract_farewell}
 use Rattle.system_model.specs.AbstractDevices.{AbstractDevice, put_down, is_held_by, without_first}
 use Rattle.system_model.specs.Daemon.{TransferState, Quiet, Waiting, Streaming, Ending, FailureCounts}
 use Rattle.system_model.specs.Actions as actions
@@ -80,14 +80,14 @@ under_or (Ended status why) = inr (λ x. x)
 
 -- ---- a job that is over then
 
-goodbye_sets : (task : Task) → SetsNothing (abstract_goodbye task)
+goodbye_sets : (task : AbstractTask) → SetsNothing (abstract_goodbye task)
 goodbye_sets List_ = tt
 goodbye_sets Show = tt
 goodbye_sets SetOnly = tt
 goodbye_sets Scan = tt
 goodbye_sets (Batch n) = tt
 
-sends_sets : (task : Task) (st : JobStage) → (IsUnderWay st → ⊥) → SetsNothing (requests_sent task st)
+sends_sets : (task : AbstractTask) (st : JobStage) → (IsUnderWay st → ⊥) → SetsNothing (requests_sent task st)
 sends_sets task Idle n = tt
 sends_sets task (Running g) n = absurd (n tt)
 sends_sets task Done n = goodbye_sets task
@@ -123,7 +123,7 @@ hears_empty i k p dev g r rest st e due h = by_stage (subst (StageInvariant i k 
 images_empty : (i : ℕ) (k : Make) (p : JobState) (dev : AbstractDevice) (params : _) (heard : List ℕ) (st : JobStage) → st ≡ Running (Imaging params heard) → StageInvariant i k p dev st → p.todo ≡ []
 images_empty i k p dev params heard st e h = (images i k p dev params heard (subst (StageInvariant i k p dev) e h)).todo
 
-sends_held : (i : ℕ) (k : Make) (known : List Descriptor) (dev : AbstractDevice) (task : Task) (st : JobStage) (todo : List AbstractRequest) → todo ≡ [] → (IsUnderWay st → ⊥) → SetsAsHeld i k known dev (todo ++ requests_sent task st)
+sends_held : (i : ℕ) (k : Make) (known : List Descriptor) (dev : AbstractDevice) (task : AbstractTask) (st : JobStage) (todo : List AbstractRequest) → todo ≡ [] → (IsUnderWay st → ⊥) → SetsAsHeld i k known dev (todo ++ requests_sent task st)
 sends_held i k known dev task st todo e n = subst (λ (x : List AbstractRequest). SetsAsHeld i k known dev (x ++ requests_sent task st)) (sym e) (nothing_held i k known dev (requests_sent task st) (sends_sets task st n))
 
 next_held : (i : ℕ) (k : Make) (ds : List ℕ) (p : JobState) (dev : AbstractDevice) (c : Challenge) (f : Option FailureCounts) (todo : List AbstractRequest) → p.todo ≡ todo → SetsAsHeld i k p.client.known dev todo →

@@ -51,7 +51,7 @@ place_held : (i j : ℕ) (old new : AbstractDevice) (at now : Option (Place Devi
 place_held i j old new at now n (inl same) = ap (λ (dev : AbstractDevice). is_held_by j dev.holder) same.0
 place_held i j old new at now n (inr own) = own_of_other i j new.holder n own.1 ∙ sym (own_of_other i j old.holder n own.0)
 
-session_same : (i j : ℕ) (registry now : Table) (table device : ℕ → AbstractDevice) (p : JobState) → j ≢ i → LeavesOthers i registry now table device → session_by j device p ≡ session_by j table p
+pub session_same : (i j : ℕ) (registry now : Table) (table device : ℕ → AbstractDevice) (p : JobState) → j ≢ i → LeavesOthers i registry now table device → session_by j device p ≡ session_by j table p
 session_same i j registry now table device p n h =
     ap (λ (b : Bool). one_word_session b p.session.job.wants p.session.transfer p.session.awaited) (place_held i j (table p.session.job.wants) (device p.session.job.wants) _ _ n (h.places p.session.job.wants))
 
@@ -68,7 +68,7 @@ table_stands i j make held stream registry now table device n shows leaves h =
 
 -- ---- another job's session
 
-other_stands : (i j m : ℕ) (make : ℕ → Make) (link : Option SessionId) (d e : Core) (table device : ℕ → AbstractDevice) (u : AbstractSession) → j ≢ i → IsOther link m → m < d.opened → Leaves i make link d e table device → SessionRefines j make d m table u → SessionRefines j make e m device u
+pub other_stands : (i j m : ℕ) (make : ℕ → Make) (link : Option SessionId) (d e : Core) (table device : ℕ → AbstractDevice) (u : AbstractSession) → j ≢ i → IsOther link m → m < d.opened → Leaves i make link d e table device → SessionRefines j make d m table u → SessionRefines j make e m device u
 other_stands i j m make link d e table device u n other below l h =
     stands_as i j m make d e table device u n (ap session_in (l.slots m other below)) (record { held = l.held; shows = l.shows; others = l.others }) h
 

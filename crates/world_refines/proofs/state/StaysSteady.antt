@@ -210,32 +210,19 @@ word_starts d w told new g =
 
 free_keeps : (users : List Entry) (d : RequestContext) (q : Asked) (said : RequestAnswer) (new : RequestContext) → AnswersFree users d q said new → Keeps d new
 free_keeps users d (requests.Init version user) said new g = still d new (ap (λ (t : RequestContext). t.registry) g.1) (ap (λ (t : RequestContext). t.session.held) g.1)
-free_keeps users d requests.GetDevices said new g = keeps_same d new d g.1 (still d d refl refl)
 free_keeps users d (requests.Open name) said new g = open_keeps users d name (free_word d.session.held) (find_name name d.registry) said new g
 free_keeps users d (requests.Close w) said new g = keeps_same d new (close_lease d w (held_by d.session.held w)) g.1 (close_keeps d w (held_by d.session.held w) refl)
-free_keeps users d (requests.GetOptionDescriptors w) said new g = keeps_same d new d g.1 (still d d refl refl)
 free_keeps users d (requests.ControlOption w n action kind value) said new g =
     word_keeps d new w (control_lease d.session.strings (held_by d.session.held w) n action kind value).1 (ap (λ (t : RequestContext). t.registry) g.1) (ap (λ (t : RequestContext). t.session.held) g.1) (λ h. control_true d.session.strings (held_by d.session.held w) n action kind value h)
-free_keeps users d (requests.GetParameters w) said new g = keeps_same d new d g.1 (still d d refl refl)
 free_keeps users d (requests.Start w) said new g =
     let k = word_starts d w (Ok (g.reply, g.transfer)) g.held g.starts in
     keeps_same d new _ g.gives.1 (record { infos = k.infos; stays = λ h. let t = k.stays h in record { lying = t.lying; lent = t.lent } })
 free_keeps users d (requests.Cancel w) said new g = keeps_same d new (cancel_held d w (held_by d.session.held w)) g.1 (cancel_keeps d w (held_by d.session.held w))
-free_keeps users d (requests.Authorize resource user password) said new g = keeps_same d new d g.1 (still d d refl refl)
-free_keeps users d requests.Exit said new g = keeps_same d new d g.1 (still d d refl refl)
+free_keeps users d q said new g = keeps_same d new d g.1 (still d d refl refl)
 
 awaiting_keeps : (users : List Entry) (d : RequestContext) (awaited : AwaitedAuthorization) (q : Asked) (said : RequestAnswer) (new : RequestContext) → AnswersAwaiting users d awaited q said new → Keeps d new
 awaiting_keeps users d awaited (requests.Authorize resource user password) said new g = keeps_same d new (reply_if_allowed g.allowed (without_awaited d) awaited.name).1 g.gives.1 (not_awaited_keeps d (reply_if_allowed g.allowed (without_awaited d) awaited.name).1 (answered_keeps g.allowed (without_awaited d) awaited.name))
-awaiting_keeps users d awaited (requests.Init version user) said new g = keeps_same d new d g.1 (still d d refl refl)
-awaiting_keeps users d awaited requests.GetDevices said new g = keeps_same d new d g.1 (still d d refl refl)
-awaiting_keeps users d awaited (requests.Open name) said new g = keeps_same d new d g.1 (still d d refl refl)
-awaiting_keeps users d awaited (requests.Close w) said new g = keeps_same d new d g.1 (still d d refl refl)
-awaiting_keeps users d awaited (requests.GetOptionDescriptors w) said new g = keeps_same d new d g.1 (still d d refl refl)
-awaiting_keeps users d awaited (requests.ControlOption w n action kind value) said new g = keeps_same d new d g.1 (still d d refl refl)
-awaiting_keeps users d awaited (requests.GetParameters w) said new g = keeps_same d new d g.1 (still d d refl refl)
-awaiting_keeps users d awaited (requests.Start w) said new g = keeps_same d new d g.1 (still d d refl refl)
-awaiting_keeps users d awaited (requests.Cancel w) said new g = keeps_same d new d g.1 (still d d refl refl)
-awaiting_keeps users d awaited requests.Exit said new g = keeps_same d new d g.1 (still d d refl refl)
+awaiting_keeps users d awaited q said new g = keeps_same d new d g.1 (still d d refl refl)
 
 greeted_keeps : (users : List Entry) (d : RequestContext) (a : Option AwaitedAuthorization) (q : Asked) (said : RequestAnswer) (new : RequestContext) → AnswersGreeted users d a q said new → Keeps d new
 greeted_keeps users d None q said new g = free_keeps users d q said new g
@@ -243,16 +230,7 @@ greeted_keeps users d (Some awaited) q said new g = awaiting_keeps users d await
 
 first_keeps : (d : RequestContext) (q : Asked) → Keeps d (first_answer d q).1
 first_keeps d (requests.Init version user) = still d (first_answer d (requests.Init version user)).1 refl refl
-first_keeps d requests.GetDevices = still d d refl refl
-first_keeps d (requests.Open name) = still d d refl refl
-first_keeps d (requests.Close w) = still d d refl refl
-first_keeps d (requests.GetOptionDescriptors w) = still d d refl refl
-first_keeps d (requests.ControlOption w n action kind value) = still d d refl refl
-first_keeps d (requests.GetParameters w) = still d d refl refl
-first_keeps d (requests.Start w) = still d d refl refl
-first_keeps d (requests.Cancel w) = still d d refl refl
-first_keeps d (requests.Authorize resource user password) = still d d refl refl
-first_keeps d requests.Exit = still d d refl refl
+first_keeps d q = still d d refl refl
 
 by_keeps : (users : List Entry) (d : RequestContext) (b : Bool) (q : Asked) (said : RequestAnswer) (new : RequestContext) → AnswersBy b users d q said new → Keeps d new
 by_keeps users d true q said new g = greeted_keeps users d d.session.awaited q said new g
@@ -265,11 +243,9 @@ answers_keep users d q said new g = by_keeps users d d.session.greeted q said ne
 
 falters_free : (d : RequestContext) (q : Asked) (new : RequestContext) → OutOfMemoryFree d q new → Keeps d new
 falters_free d (requests.Init version user) new g = absurd g
-falters_free d requests.GetDevices new g = keeps_same d new d g (still d d refl refl)
 falters_free d (requests.Open name) new (inl g) = keeps_same d new d g (still d d refl refl)
 falters_free d (requests.Open name) new (inr g) = still d new (ap (λ (t : RequestContext). t.registry) g.3) (ap (λ (t : RequestContext). t.session.held) g.3)
 falters_free d (requests.Close w) new g = absurd g
-falters_free d (requests.GetOptionDescriptors w) new g = keeps_same d new d g (still d d refl refl)
 falters_free d (requests.ControlOption w n action kind value) new (inl g) = keeps_same d new d g (still d d refl refl)
 falters_free d (requests.ControlOption w n action kind value) new (inr g) =
     word_keeps d new w (control_lease d.session.strings (held_by d.session.held w) n action kind value).1 (ap (λ (t : RequestContext). t.registry) g) (ap (λ (t : RequestContext). t.session.held) g) (λ h. control_true d.session.strings (held_by d.session.held w) n action kind value h)
@@ -278,6 +254,7 @@ falters_free d (requests.Start w) new g = word_starts d w (Err (record {})) new 
 falters_free d (requests.Cancel w) new g = absurd g
 falters_free d (requests.Authorize resource user password) new g = absurd g
 falters_free d requests.Exit new g = absurd g
+falters_free d q new g = keeps_same d new d g (still d d refl refl)
 
 falters_greeted : (d : RequestContext) (a : Option AwaitedAuthorization) (q : Asked) (new : RequestContext) → OutOfMemoryGreeted d a q new → Keeps d new
 falters_greeted d None q new g = falters_free d q new g
@@ -286,3 +263,7 @@ falters_greeted d (Some awaited) q new g = absurd g
 falters_by : (d : RequestContext) (b : Bool) (q : Asked) (new : RequestContext) → OutOfMemoryBy b d q new → Keeps d new
 falters_by d true q new g = falters_greeted d d.session.awaited q new g
 falters_by d false q new g = absurd g
+
+pub falters_keep : (users : List Entry) (d : RequestContext) (q : Asked) (new : RequestContext) → RequestOutOfMemory users d q new → Keeps d new
+falters_keep users d q new (Under g) = falters_by d d.session.greeted q new g
+falters_keep users d q new (All said g) = answers_keep users d q said new g

@@ -1,7 +1,9 @@
 -- What steps of one job make of what stands: none, one, or two one behind the other.
 use Rattle.std.proofs.Common.{◌≡◌, ◌∙◌, ℕ, List, [], ◌∷◌, refl, sym, ap, subst}
+use Rattle.scan_job.specs.declared.outcome.Why.TheVariants.{Memory}
+use Rattle.sane_fixed.specs.declared.status.Status.TheVariants.{NoMem}
 use Rattle.frame_join.specs.FrameHistory.{JoinHistory}
-use Rattle.system_model.specs.AbstractMessages.{Memory, NoMem, AbstractReply}
+use Rattle.system_model.specs.AbstractMessages.{AbstractReply}
 use Rattle.system_model.specs.Causes.{ClientOutOfMemory}
 use Rattle.system_model.specs.ClientReplies.{client_after_stop}
 use Rattle.system_model.specs.Actions as actions

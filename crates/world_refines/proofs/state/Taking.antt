@@ -129,16 +129,16 @@ set_same [] i x e = refl
 set_same (z ∷ xs) zero x e = let is : z ≡ x = cc in ap (λ (y : _). y ∷ xs) (sym is)
 set_same (z ∷ xs) (suc i) x e = ap (λ (ys : _). z ∷ ys) (set_same xs i x e)
 
-pub nobody_can : (t : Ghost) (w : WorldCore) (i : ℕ) (action : Event) → IsNobody t w i → t.count ≤ i → GhostCan t i action → ⊥
-nobody_can t w i events.Connect h high can = omega (arith, high, can.0)
-nobody_can t w i (events.ToDaemon n) h high can = let clash : false ≡ true = sym h.linked ∙ can.0 in absurd (cc)
-nobody_can t w i (events.ToClient n) h high can = let clash : false ≡ true = sym h.linked ∙ can.0 in absurd (cc)
-nobody_can t w i events.DataConnect h high can = let clash : Quiet ≡ Waiting = sym h.transfer ∙ can.0 in absurd (cc)
-nobody_can t w i events.DataTurn h high can = let clash : false ≡ true = subst IsSome h.image can.0 in absurd (cc)
-nobody_can t w i (events.DataToClient n) h high can = subst HasSomeBytes h.image can.0
-nobody_can t w i events.LoseControl h high can = let clash : false ≡ true = sym h.linked ∙ can in absurd (cc)
-nobody_can t w i events.LoseImage h high can = let clash : false ≡ true = subst IsSome h.image can.0 in absurd (cc)
-nobody_can t w i events.Cancel h high can = omega (arith, high, can.0)
+pub nobody_can : (t : Ghost) (i : ℕ) (action : Event) → IsNobody t i → t.count ≤ i → GhostCan t i action → ⊥
+nobody_can t i events.Connect h high can = omega (arith, high, can.0)
+nobody_can t i (events.ToDaemon n) h high can = let clash : false ≡ true = sym h.linked ∙ can.0 in absurd (cc)
+nobody_can t i (events.ToClient n) h high can = let clash : false ≡ true = sym h.linked ∙ can.0 in absurd (cc)
+nobody_can t i events.DataConnect h high can = let clash : Quiet ≡ Waiting = sym h.transfer ∙ can.0 in absurd (cc)
+nobody_can t i events.DataTurn h high can = let clash : false ≡ true = subst IsSome h.image can.0 in absurd (cc)
+nobody_can t i (events.DataToClient n) h high can = subst HasSomeBytes h.image can.0
+nobody_can t i events.LoseControl h high can = let clash : false ≡ true = sym h.linked ∙ can in absurd (cc)
+nobody_can t i events.LoseImage h high can = let clash : false ≡ true = subst IsSome h.image can.0 in absurd (cc)
+nobody_can t i events.Cancel h high can = omega (arith, high, can.0)
 
 pub not_done : (action : Event) (Does : Ghost → ℕ → List Transition → Ghost → Type 0) (t : Ghost) (i : ℕ) (w v : WorldCore) → WorldRefines t w → v ≡ w → (GhostCan t i action → ⊥) → GhostLeads action Does t i v
 not_done action Does t i w v h same never =
@@ -182,7 +182,7 @@ leads_by action Does t i w v all h at (inl is) =
     let happens = at.happens is.0 is.1 in
     leads_at action (Does w) t i w v is.0 h is.1 d happens.0 happens.1 happens.2 d.either
 leads_by action Does t i w v all h at (inr high) =
-    not_done action (Does w v.daemon) t i w v h (at.beyond high) (λ can. nobody_can t w i action (h.beyond i high) (subst (λ (n : ℕ). n ≤ i) (sym h.is_of.count) high) can)
+    not_done action (Does w v.daemon) t i w v h (at.beyond high) (λ can. nobody_can t i action (h.beyond i high) (subst (λ (n : ℕ). n ≤ i) (sym h.is_of.count) high) can)
 
 pub follows_in : (action : Event) (Does : WorldCore → Core → Ghost → ℕ → List Transition → Ghost → Type 0) → DecidesIn action Does → (t : Ghost) (i : ℕ) (w v : WorldCore) → WorldRefines t w → AtEndpoint w i action v → GhostLeads action (Does w v.daemon) t i v
 follows_in action Does all t i w v h at = leads_by action Does t i w v all h at (there w.endpoints i)
