@@ -3,6 +3,9 @@ use Rattle.std.specs.Prelude.{ℕ, ◌≢◌}
 use Rattle.config_pages.specs.declared.devices.DeviceFault.{DeviceFault}
 use Rattle.config_pages.specs.declared.devices.DeviceFault.TheVariants.{NoPage, NoMem}
 use Rattle.saned_cli.specs.declared.daemon_ending.DaemonEnding.{DaemonEnding}
+use Rattle.saned_cli.specs.declared.daemon_options.DaemonOptionsFault.{DaemonOptionsFault}
+use Rattle.saned_cli.specs.declared.daemon_options.DaemonOptionsFault.TheVariants.{Bad}
+use Rattle.saned_cli.specs.declared.daemon_options.DaemonOptionsFault.TheVariants as option_faults
 use Rattle.saned_cli.specs.declared.daemon_ending.DaemonEnding.TheVariants.{BadCommandLine, BadSeed, CannotRead, Config}
 use Rattle.saned_cli.specs.declared.daemon_ending.DaemonEnding.TheVariants.{Page, Users, CannotListen, NoMemory}
 
@@ -20,6 +23,11 @@ daemon_exit_status NoMemory = 10
 -- an ending whose exit status is not 0
 abbrev pub IsDaemonFailure : DaemonEnding → Type 0
 IsDaemonFailure ending = daemon_exit_status ending ≢ 0
+
+-- the words of the command line are no options, or there is no memory
+abbrev pub daemon_ended_by_options : DaemonOptionsFault → DaemonEnding
+daemon_ended_by_options Bad = BadCommandLine
+daemon_ended_by_options option_faults.NoMem = NoMemory
 
 -- a line of the config has no scanner: its page is not there, or there is no memory
 abbrev pub daemon_ended_by_device : ℕ → DeviceFault → DaemonEnding

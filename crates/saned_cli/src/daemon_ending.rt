@@ -25,14 +25,13 @@ pub enum DaemonEnding {
 }
 
 impl DaemonEnding {
-    ghost use Rattle.std.specs.Prelude.{◌≡◌, ◌⊎◌};
-    ghost use Rattle.saned_cli.specs.DaemonEndings.{daemon_exit_status, daemon_ended_by_device};
-    ghost use Rattle.saned_cli.specs.declared.daemon_ending.DaemonEnding.TheVariants.{BadCommandLine, NoMemory};
+    ghost use Rattle.std.specs.Prelude.{◌≡◌};
+    ghost use Rattle.saned_cli.specs.DaemonEndings.{daemon_exit_status, daemon_ended_by_device, daemon_ended_by_options};
 
     /// The words of the command line are no options.
     pub fn of_options(fault: DaemonOptionsFault) -> DaemonEnding
-        /// Words that are no options end the program as a bad command line, or there is no memory.
-        ensures { (result ≡ BadCommandLine) ⊎ (result ≡ NoMemory) }
+        /// Words that are no options end the program as a bad command line, and where there was no memory for them, as that.
+        ensures { result ≡ daemon_ended_by_options fault }
     {
         match fault {
             DaemonOptionsFault::Bad => DaemonEnding::BadCommandLine,

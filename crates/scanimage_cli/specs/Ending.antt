@@ -13,6 +13,11 @@ use Rattle.config_pages.specs.Texts.{no_page_text}
 use Rattle.config_pages.specs.declared.devices.DeviceFault.{DeviceFault}
 use Rattle.config_pages.specs.declared.devices.DeviceFault.TheVariants as faults
 use Rattle.config_pages.specs.declared.devices.DeviceFault.TheVariants.{NoPage}
+use Rattle.scanimage_cli.specs.declared.options.OptionsFault.{OptionsFault}
+use Rattle.scanimage_cli.specs.declared.options.OptionsFault.TheVariants.{Bad}
+use Rattle.scanimage_cli.specs.declared.options.OptionsFault.TheVariants as option_faults
+use Rattle.scanimage_cli.specs.declared.word_cut.SplitFault.{SplitFault}
+use Rattle.scanimage_cli.specs.declared.word_cut.SplitFault.TheVariants as split_faults
 use Rattle.scanimage_cli.specs.declared.ending.Ending.{Ending}
 use Rattle.scanimage_cli.specs.declared.ending.Ending.TheVariants.{BadCommandLine, CannotRead, Config, Page, Ended}
 
@@ -46,6 +51,15 @@ ended_by_device line faults.NoMem = Ended NoMem Memory
 -- there is no memory for a plan, or the command line is refused
 abbrev pub IsPlanRefusal : Ending → Type 0
 IsPlanRefusal ending = (ending ≡ Ended NoMem Memory) ⊎ (ending ≡ BadCommandLine)
+
+-- the words of the command line cannot be split, or the program's own are no options; or there is no memory for them
+abbrev pub ended_by_split : SplitFault → Ending
+ended_by_split split_faults.Bad = BadCommandLine
+ended_by_split split_faults.NoMem = Ended NoMem Memory
+
+abbrev pub ended_by_options : OptionsFault → Ending
+ended_by_options Bad = BadCommandLine
+ended_by_options option_faults.NoMem = Ended NoMem Memory
 
 -- a job that stopped is told by its status and why
 abbrev pub ended_by : Stop → Ending

@@ -28,7 +28,7 @@ pub enum Ending {
 
 impl Ending {
     ghost use Rattle.std.specs.Prelude.{◌≡◌};
-    ghost use Rattle.scanimage_cli.specs.Ending.{ended_by, ended_by_device, exit_status, ending_line, IsPlanRefusal, JobIsRefusedAs};
+    ghost use Rattle.scanimage_cli.specs.Ending.{ended_by, ended_by_device, ended_by_options, ended_by_split, exit_status, ending_line, JobIsRefusedAs};
     ghost use Rattle.scanimage_cli.specs.Printing.{TakesOrFails};
 
     /// A job stopped so.
@@ -40,7 +40,7 @@ impl Ending {
 
     /// The words of the command line cannot be split.
     pub fn of_split(fault: SplitFault) -> Ending
-        ensures { IsPlanRefusal result }
+        ensures { result ≡ ended_by_split fault }
     {
         match fault {
             SplitFault::Bad => Ending::BadCommandLine,
@@ -50,7 +50,7 @@ impl Ending {
 
     /// The program's own words are no options.
     pub fn of_options(fault: OptionsFault) -> Ending
-        ensures { IsPlanRefusal result }
+        ensures { result ≡ ended_by_options fault }
     {
         match fault {
             OptionsFault::Bad => Ending::BadCommandLine,
