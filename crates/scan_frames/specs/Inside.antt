@@ -122,9 +122,9 @@ AreInRow places row = (x : ℕ) → x < length places → 3 * slice_index places
 abbrev pub IsRunFrom : ℕ → List ℕ → Type 0
 IsRunFrom first places = (x : ℕ) → x < length places → slice_index places x ≡ first + x
 
--- from that place on two lines are the same
-abbrev pub IsSameFrom : ℕ → List ℕ → List ℕ → Type 0
-IsSameFrom n old new = (j : ℕ) → n ≤ j → slice_index new j ≡ slice_index old j
+-- from that place on a line stays as it was
+abbrev pub StaysFrom : ℕ → List ℕ → List ℕ → Type 0
+StaysFrom n old new = (j : ℕ) → n ≤ j → slice_index new j ≡ slice_index old j
 
 -- the row holds what is seen at that height, on the page or off it
 pub record IsSeen (page : PageView) (height : ℕ) (row : List ℕ) : Type 0 where

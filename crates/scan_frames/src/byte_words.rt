@@ -1,7 +1,7 @@
 //! Samples of two bytes in a line.
 
 ghost use Rattle.std.specs.Prelude.{◌≡◌, ◌≤◌, ◌<◌, ◌+◌, ◌*◌, ℕ, IfSome, length, slice_index};
-ghost use Rattle.scan_frames.specs.Inside.{HasSample, AreInRow, IsRunFrom, IsSameFrom};
+ghost use Rattle.scan_frames.specs.Inside.{HasSample, AreInRow, IsRunFrom, StaysFrom};
 
 use crate::lanes::{eights, put_word_eights};
 use crate::setup::Packing;
@@ -30,7 +30,7 @@ fn put_place_words(order: ByteOrder, k: u32, row: &[u16], places: &[u32], line: 
     ensures here { (x : ℕ) → x < length places.now
         → HasSample Packing.Words order line.new x
         (slice_index row.now (3 * slice_index places.now x + k)) }
-    ensures behind { IsSameFrom (2 * length places.now) line.old line.new }
+    ensures behind { StaysFrom (2 * length places.now) line.old line.new }
 {
     for (x, place) in places.iter().enumerate() {
         put_word(order, line, x, row[3 * *place as usize + k as usize]);
@@ -53,7 +53,7 @@ fn put_run_words(
     ensures here { (x : ℕ) → x < length places.now
         → HasSample Packing.Words order line.new x
         (slice_index row.now (3 * slice_index places.now x + k)) }
-    ensures behind { IsSameFrom (2 * length places.now) line.old line.new }
+    ensures behind { StaysFrom (2 * length places.now) line.old line.new }
 {
     if places.is_empty() {
         return;
@@ -82,7 +82,7 @@ pub fn put_channel_words(
     ensures here { (x : ℕ) → x < length places.now
         → HasSample Packing.Words order line.new x
         (slice_index row.now (3 * slice_index places.now x + k)) }
-    ensures behind { IsSameFrom (2 * length places.now) line.old line.new }
+    ensures behind { StaysFrom (2 * length places.now) line.old line.new }
 {
     match first {
         Some(first) => put_run_words(order, k, row, first as usize, places, line),

@@ -7,7 +7,7 @@ ghost use Rattle.page_picture.specs.Tone.{brightness};
 ghost use Rattle.scan_frames.specs.Line.{packing_of};
 ghost use Rattle.scan_frames.specs.Frames.{channel_in, format_at};
 ghost use Rattle.scan_frames.specs.Tables.{AreComposed};
-ghost use Rattle.scan_frames.specs.Inside.{IsPlain, IsSame, HasPlaces, HasPlacesAsBytes, HasSample, IsGrayRow, bit_in, bits_in, sample_end, gray_in, line_shown, sample_in_row, AreInRow, IsRunFrom, IsSameFrom};
+ghost use Rattle.scan_frames.specs.Inside.{IsPlain, IsSame, HasPlaces, HasPlacesAsBytes, HasSample, IsGrayRow, bit_in, bits_in, sample_end, gray_in, line_shown, sample_in_row, AreInRow, IsRunFrom, StaysFrom};
 ghost use Rattle.scan_frames.specs.Samples.{HasZeros};
 
 use crate::byte_words::{put_channel_words, put_samples, put_word};
@@ -99,7 +99,7 @@ fn put_colors(tables: &[[u8; 256]; 3], row: &[u16], places: &[u32], line: &mut [
     ensures here { (x k : ℕ) → x < length places.now
         → k < 3 → slice_index line.new (3 * x + k) ≡ slice_index (slice_index_or tables.now k [])
         (slice_index row.now (3 * slice_index places.now x + k) / 256) }
-    ensures behind { IsSameFrom (3 * length places.now) line.old line.new }
+    ensures behind { StaysFrom (3 * length places.now) line.old line.new }
 {
     let [red, green, blue] = tables;
     for (x, place) in places.iter().enumerate() {
@@ -161,7 +161,7 @@ fn put_rgb(
     ensures here { (x k : ℕ) → x < length places.now
         → k < 3 → slice_index line.new (3 * x + k) ≡ slice_index (slice_index_or tables.now k [])
         (slice_index row.now (3 * slice_index places.now x + k) / 256) }
-    ensures behind { IsSameFrom (3 * length places.now) line.old line.new }
+    ensures behind { StaysFrom (3 * length places.now) line.old line.new }
 {
     if let Some(first) = first {
         let start = 3 * first as usize;
@@ -180,7 +180,7 @@ fn put_color(table: &[u8; 256], k: u32, row: &[u16], places: &[u32], line: &mut 
     requires room { length places.now ≤ length line.old }
     ensures here { (x : ℕ) → x < length places.now → slice_index line.new x
         ≡ slice_index table.now (slice_index row.now (3 * slice_index places.now x + k) / 256) }
-    ensures behind { IsSameFrom (length places.now) line.old line.new }
+    ensures behind { StaysFrom (length places.now) line.old line.new }
 {
     for (x, place) in places.iter().enumerate() {
         let seen = row[3 * *place as usize + k as usize];
@@ -196,7 +196,7 @@ fn put_run_upper(k: u32, row: &[u16], first: usize, places: &[u32], line: &mut [
     requires room { length places.now ≤ length line.old }
     ensures here { (x : ℕ) → x < length places.now
         → slice_index line.new x ≡ slice_index row.now (3 * slice_index places.now x + k) / 256 }
-    ensures behind { IsSameFrom (length places.now) line.old line.new }
+    ensures behind { StaysFrom (length places.now) line.old line.new }
 {
     if places.is_empty() {
         return;
@@ -217,7 +217,7 @@ fn put_run(table: &[u8; 256], k: u32, row: &[u16], first: usize, places: &[u32],
     requires room { length places.now ≤ length line.old }
     ensures here { (x : ℕ) → x < length places.now → slice_index line.new x
         ≡ slice_index table.now (slice_index row.now (3 * slice_index places.now x + k) / 256) }
-    ensures behind { IsSameFrom (length places.now) line.old line.new }
+    ensures behind { StaysFrom (length places.now) line.old line.new }
 {
     if is_same(table) {
         return put_run_upper(k, row, first, places, line);
@@ -243,7 +243,7 @@ fn put_channel(
     requires room { length places.now ≤ length line.old }
     ensures here { (x : ℕ) → x < length places.now → slice_index line.new x
         ≡ slice_index table.now (slice_index row.now (3 * slice_index places.now x + k) / 256) }
-    ensures behind { IsSameFrom (length places.now) line.old line.new }
+    ensures behind { StaysFrom (length places.now) line.old line.new }
 {
     match first {
         Some(first) => put_run(table, k, row, first as usize, places, line),
@@ -306,7 +306,7 @@ fn put_gray_words(
     requires room { 2 * length places.now ≤ length line.old }
     ensures here { (x : ℕ) → x < length places.now
         → HasSample Packing.Words order line.new x (gray_in row.now (slice_index places.now x)) }
-    ensures behind { IsSameFrom (2 * length places.now) line.old line.new }
+    ensures behind { StaysFrom (2 * length places.now) line.old line.new }
 {
     if is_gray(row) {
         return put_channel_words(order, 0, first, row, places, line);
@@ -408,7 +408,7 @@ fn put_sums(table: &[u8; 256], row: &[u16], places: &[u32], line: &mut [u8])
     requires room { length places.now ≤ length line.old }
     ensures here { (x : ℕ) → x < length places.now → slice_index line.new x
         ≡ slice_index table.now (gray_in row.now (slice_index places.now x) / 256) }
-    ensures behind { IsSameFrom (length places.now) line.old line.new }
+    ensures behind { StaysFrom (length places.now) line.old line.new }
 {
     for (x, place) in places.iter().enumerate() {
         line[x] = table[gray(row, *place) as usize / 256];
@@ -422,7 +422,7 @@ fn put_upper_sums(row: &[u16], first: usize, places: &[u32], line: &mut [u8])
     requires room { length places.now ≤ length line.old }
     ensures here { (x : ℕ) → x < length places.now
         → slice_index line.new x ≡ gray_in row.now (slice_index places.now x) / 256 }
-    ensures behind { IsSameFrom (length places.now) line.old line.new }
+    ensures behind { StaysFrom (length places.now) line.old line.new }
 {
     if places.is_empty() {
         return;
@@ -443,7 +443,7 @@ fn put_row_sums(table: &[u8; 256], first: Option<u32>, row: &[u16], places: &[u3
     ensures here { (x : ℕ) → x < length places.now
         → slice_index line.new x
         ≡ slice_index table.now (gray_in row.now (slice_index places.now x) / 256) }
-    ensures behind { IsSameFrom (length places.now) line.old line.new }
+    ensures behind { StaysFrom (length places.now) line.old line.new }
 {
     match first {
         Some(first) if is_same(table) => put_upper_sums(row, first as usize, places, line),
@@ -460,7 +460,7 @@ fn put_grays(table: &[u8; 256], first: Option<u32>, row: &[u16], places: &[u32],
     requires room { length places.now ≤ length line.old }
     ensures here { (x : ℕ) → x < length places.now → slice_index line.new x
         ≡ slice_index table.now (gray_in row.now (slice_index places.now x) / 256) }
-    ensures behind { IsSameFrom (length places.now) line.old line.new }
+    ensures behind { StaysFrom (length places.now) line.old line.new }
 {
     if is_gray(row) {
         put_channel(table, 0, first, row, places, line)
