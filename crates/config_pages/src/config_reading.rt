@@ -1,5 +1,5 @@
 ghost use Rattle.std.specs.Prelude.{IfErr, IfOk, IsOk, List, OnOk, Option, ℕ};
-ghost use Rattle.config_pages.specs.ConfigReading.{RefusesConfig, remaining_of};
+ghost use Rattle.config_pages.specs.ConfigReading.{IsUnreadConfig, RefusesConfig, remaining_of};
 ghost use Rattle.config_pages.specs.InputTexts.{TellsLines};
 
 use crate::limited_reading::text_of;
@@ -22,7 +22,7 @@ pub enum ConfigFailure {
 
 /// Why there are none of a config that cannot be opened or read.
 fn failure_of(e: &io::Error) -> ConfigFailure
-    ensures { (told : Option (List ℕ)) → RefusesConfig told result }
+    ensures { IsUnreadConfig result }
 {
     if e.kind() == ErrorKind::OutOfMemory {
         ConfigFailure::NoMem
@@ -43,6 +43,8 @@ pub fn read_config<R: Read + Drop>(
     ensures lines { IfOk result
         (λ lines. TellsLines (remaining_of R.remaining opened) lines.items) }
     ensures refused { IfErr result (RefusesConfig (remaining_of R.remaining opened)) }
+    /// A config that could not be opened is not told as one with a bad line.
+    ensures unopened { IfErr opened (λ _. IfErr result IsUnreadConfig) }
 {
     let reader = match opened {
         Ok(reader) => reader,

@@ -1,5 +1,5 @@
 -- All that a job will yet do may be done at once, from where nothing more is given to it on.
-use Rattle.std.proofs.Common.{◌≡◌, ◌∙◌, ℕ, Bool, true, false, cond, List, [], ◌∷◌, ◌++◌, refl, sym, ap, subst}
+use Rattle.std.proofs.Common.{◌≡◌, ◌∙◌, inl, inr, ℕ, Bool, true, false, cond, List, [], ◌∷◌, ◌++◌, refl, sym, ap, subst}
 use Rattle.std.proofs.Math.Dec.{eqb}
 use Rattle.std.proofs.lemmas.Bool.{eq-eqb, eqb-true}
 use Rattle.saned_serve.specs.SessionActions.{SessionAction}
@@ -9,8 +9,9 @@ use Rattle.saned_serve.specs.Journal.LoopAction.{Of, Full, Waits, Refuses, Turne
 use Rattle.interleaving.specs.Interleavings.{JointAction, Traffic, job_journal, server_journal}
 use Rattle.interleaving.specs.Interleavings.JointAction.{OfJob, OfServer}
 use Rattle.interleaving.specs.Interleavings.Traffic.{Dials, NoTraffic, Reads, Takes, Writes}
-use Rattle.interleaving.specs.HandingOn.{HandsOn, IsHandedOn, MayMove, MayServe, Owner}
-use Rattle.interleaving.specs.Orders.{AllGiveNothing, AllMayComeSooner, HaveSameJournals, IsFreeOf, ServerGivesNothing, is_move_of, moves_among, others_among}
+use Rattle.interleaving.specs.AmongStrangers.{AllMayComeSoonerAmong}
+use Rattle.interleaving.specs.HandingOn.{HandsOnAmong, IsHandedOnAmong, MayMove, MayServe, Owner}
+use Rattle.interleaving.specs.Orders.{AllGiveNothing, HaveSameJournals, IsFreeOf, ServerGivesNothing, is_move_of, moves_among, others_among}
 use Rattle.interleaving.proofs.Sooner.{Joint, comes_sooner}
 
 -- ---- the same journals
@@ -35,7 +36,7 @@ cond_swap true false m n ms h = refl
 cond_swap false true m n ms h = refl
 cond_swap false false m n ms h = refl
 
-same_swap : {M : Type 0} (owner : Owner) (i : ℕ) (move : M) (action : JointAction M) (past : Joint M) → IsFreeOf owner i action → HaveSameJournals (action ∷ OfJob i move ∷ past) (OfJob i move ∷ action ∷ past)
+pub same_swap : {M : Type 0} (owner : Owner) (i : ℕ) (move : M) (action : JointAction M) (past : Joint M) → IsFreeOf owner i action → HaveSameJournals (action ∷ OfJob i move ∷ past) (OfJob i move ∷ action ∷ past)
 unfolding server_journal job_journal
 same_swap owner i move (OfServer action) past n = record { server = refl; jobs = λ j. refl }
 same_swap owner i move (OfJob j other) past n =
@@ -65,8 +66,9 @@ move_same seen owner i Dials a b x m = tt
 move_same seen owner i (Takes bytes) a b x m = (m.0, m.1, rw (← x.server, ← (x.jobs i)) m.2, rw (← x.server, ← (x.jobs i)) m.3)
 move_same seen owner i NoTraffic a b x m = tt
 
-come_same : {M : Type 0} (seen : M → Traffic) (owner : Owner) (action : JointAction M) (a b : Joint M) → HaveSameJournals a b → IsHandedOn seen owner action a → IsHandedOn seen owner action b
-come_same seen owner (OfServer (Of k act)) a b x m = serve_same seen owner k act a b x m
+come_same : {M : Type 0} (seen : M → Traffic) (owner : Owner) (action : JointAction M) (a b : Joint M) → HaveSameJournals a b → IsHandedOnAmong seen owner action a → IsHandedOnAmong seen owner action b
+come_same seen owner (OfServer (Of k act)) a b x (inl none) = inl none
+come_same seen owner (OfServer (Of k act)) a b x (inr m) = inr (serve_same seen owner k act a b x m)
 come_same seen owner (OfServer Full) a b x m = tt
 come_same seen owner (OfServer Waits) a b x m = tt
 come_same seen owner (OfServer (Refuses port trace)) a b x m = tt
@@ -87,19 +89,19 @@ same_sunk owner i move (x ∷ xs) ys n =
     (same_behind x (xs ++ (OfJob i move ∷ ys)) (OfJob i move ∷ (xs ++ ys)) (same_sunk owner i move xs ys n.1))
     (same_swap owner i move x (xs ++ ys) n.0)
 
-hands_then : {M : Type 0} (seen : M → Traffic) (owner : Owner) (action : JointAction M) (past : Joint M) → HandsOn seen owner past → IsHandedOn seen owner action past → HandsOn seen owner (action ∷ past)
-unfolding HandsOn
+hands_then : {M : Type 0} (seen : M → Traffic) (owner : Owner) (action : JointAction M) (past : Joint M) → HandsOnAmong seen owner past → IsHandedOnAmong seen owner action past → HandsOnAmong seen owner (action ∷ past)
+unfolding HandsOnAmong
 hands_then seen owner action past h m = (h, m)
 
-hands_before : {M : Type 0} (seen : M → Traffic) (owner : Owner) (action : JointAction M) (past : Joint M) → HandsOn seen owner (action ∷ past) → HandsOn seen owner past
-unfolding HandsOn
+hands_before : {M : Type 0} (seen : M → Traffic) (owner : Owner) (action : JointAction M) (past : Joint M) → HandsOnAmong seen owner (action ∷ past) → HandsOnAmong seen owner past
+unfolding HandsOnAmong
 hands_before seen owner action past h = h.0
 
-hands_at : {M : Type 0} (seen : M → Traffic) (owner : Owner) (action : JointAction M) (past : Joint M) → HandsOn seen owner (action ∷ past) → IsHandedOn seen owner action past
-unfolding HandsOn
+hands_at : {M : Type 0} (seen : M → Traffic) (owner : Owner) (action : JointAction M) (past : Joint M) → HandsOnAmong seen owner (action ∷ past) → IsHandedOnAmong seen owner action past
+unfolding HandsOnAmong
 hands_at seen owner action past h = h.1
 
-sinks : {M : Type 0} (seen : M → Traffic) (owner : Owner) (i : ℕ) (move : M) (xs ys : Joint M) → AllAreFree owner i xs → HandsOn seen owner (OfJob i move ∷ (xs ++ ys)) → HandsOn seen owner (xs ++ (OfJob i move ∷ ys))
+sinks : {M : Type 0} (seen : M → Traffic) (owner : Owner) (i : ℕ) (move : M) (xs ys : Joint M) → AllAreFree owner i xs → HandsOnAmong seen owner (OfJob i move ∷ (xs ++ ys)) → HandsOnAmong seen owner (xs ++ (OfJob i move ∷ ys))
 sinks seen owner i move [] ys n h = h
 sinks seen owner i move (x ∷ xs) ys n h =
     let swapped = comes_sooner seen owner i move x (xs ++ ys) n.0 h in
@@ -122,12 +124,12 @@ free_others owner i (action ∷ since) n = free_if owner i action (is_move_of i 
 -- so far all is in its place, and one more comes behind it
 record IsPlaced {M : Type 0} (seen : M → Traffic) (owner : Owner) (others moves since past : Joint M) : Type 0 where
   same : HaveSameJournals (others ++ (moves ++ past)) (since ++ past)
-  hands : HandsOn seen owner (others ++ (moves ++ past))
+  hands : HandsOnAmong seen owner (others ++ (moves ++ past))
 
-job_next : {M : Type 0} (seen : M → Traffic) (owner : Owner) (i j : ℕ) (move : M) (os ms since past : Joint M) → j ≡ i → AllAreFree owner i os → IsPlaced seen owner os ms since past → IsHandedOn seen owner (OfJob j move) (since ++ past)
+job_next : {M : Type 0} (seen : M → Traffic) (owner : Owner) (i j : ℕ) (move : M) (os ms since past : Joint M) → j ≡ i → AllAreFree owner i os → IsPlaced seen owner os ms since past → IsHandedOnAmong seen owner (OfJob j move) (since ++ past)
     → IsPlaced seen owner os (OfJob j move ∷ ms) (OfJob j move ∷ since) past
 job_next {M} seen owner i j move os ms since past e free so_far may =
-    let at : IsHandedOn seen owner (OfJob j move) (os ++ (ms ++ past)) = come_same seen owner (OfJob j move) (since ++ past) (os ++ (ms ++ past)) (same_sym (os ++ (ms ++ past)) (since ++ past) so_far.same) may in
+    let at : IsHandedOnAmong seen owner (OfJob j move) (os ++ (ms ++ past)) = come_same seen owner (OfJob j move) (since ++ past) (os ++ (ms ++ past)) (same_sym (os ++ (ms ++ past)) (since ++ past) so_far.same) may in
     let free_j : AllAreFree owner j os = subst (λ (k : ℕ). AllAreFree owner k os) (sym e) free in
     record {
       same = same_trans (os ++ (OfJob j move ∷ (ms ++ past))) (OfJob j move ∷ (os ++ (ms ++ past))) (OfJob j move ∷ (since ++ past)) (same_sunk owner j move os (ms ++ past) free_j)
@@ -135,7 +137,7 @@ job_next {M} seen owner i j move os ms since past e free so_far may =
       hands = sinks seen owner j move os (ms ++ past) free_j (hands_then seen owner (OfJob j move) (os ++ (ms ++ past)) so_far.hands at);
     }
 
-next_by : {M : Type 0} (seen : M → Traffic) (owner : Owner) (i : ℕ) (action : JointAction M) (b : Bool) (os ms since past : Joint M) → is_move_of i action ≡ b → AllAreFree owner i os → IsPlaced seen owner os ms since past → IsHandedOn seen owner action (since ++ past)
+next_by : {M : Type 0} (seen : M → Traffic) (owner : Owner) (i : ℕ) (action : JointAction M) (b : Bool) (os ms since past : Joint M) → is_move_of i action ≡ b → AllAreFree owner i os → IsPlaced seen owner os ms since past → IsHandedOnAmong seen owner action (since ++ past)
     → IsPlaced seen owner (cond b os (action ∷ os)) (cond b (action ∷ ms) ms) (action ∷ since) past
 next_by seen owner i action false os ms since past e free so_far may = record {
   same = same_behind action (os ++ (ms ++ past)) (since ++ past) so_far.same;
@@ -144,11 +146,11 @@ next_by seen owner i action false os ms since past e free so_far may = record {
 next_by seen owner i (OfServer action) true os ms since past e free so_far may = absurd (let wrong : false ≡ true = e in cc)
 next_by seen owner i (OfJob j move) true os ms since past e free so_far may = job_next seen owner i j move os ms since past (eqb-true j i e) free so_far may
 
-placed : {M : Type 0} (seen : M → Traffic) (owner : Owner) (i : ℕ) (since past : Joint M) → AllGiveNothing owner i since → HandsOn seen owner (since ++ past) → IsPlaced seen owner (others_among i since) (moves_among i since) since past
+placed : {M : Type 0} (seen : M → Traffic) (owner : Owner) (i : ℕ) (since past : Joint M) → AllGiveNothing owner i since → HandsOnAmong seen owner (since ++ past) → IsPlaced seen owner (others_among i since) (moves_among i since) since past
 unfolding moves_among others_among
 placed seen owner i [] past n h = record { same = same_refl past; hands = h }
 placed seen owner i (action ∷ since) past n h =
     next_by seen owner i action (is_move_of i action) (others_among i since) (moves_among i since) since past refl (free_others owner i since n.1) (placed seen owner i since past n.1 (hands_before seen owner action (since ++ past) h)) (hands_at seen owner action (since ++ past) h)
 
-pub all_sooner : {M : Type 0} → AllMayComeSooner M
+pub all_sooner : {M : Type 0} → AllMayComeSoonerAmong M
 all_sooner seen owner i since past n h = let x = placed seen owner i since past n h in record { same = x.same; hands = x.hands }

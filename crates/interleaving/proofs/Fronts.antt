@@ -1,6 +1,6 @@
 -- What was read is a front of what was given.
 use Rattle.std.specs.Prelude.{◌<◌, ◌≤◌}
-use Rattle.std.proofs.Common.{◌≡◌, ◌∙◌, ℕ, Bool, true, false, cond, Some, List, [], ◌∷◌, ◌++◌, refl, sym, ap, subst, arith}
+use Rattle.std.proofs.Common.{◌≡◌, ◌∙◌, ◌⊎◌, inl, inr, ℕ, Bool, true, false, cond, Some, None, List, [], ◌∷◌, ◌++◌, refl, sym, ap, subst, arith}
 use Rattle.std.proofs.Math.Dec.{eqb}
 use Rattle.std.proofs.lemmas.Bool.{eqb-true}
 use Rattle.saned_serve.specs.SessionActions.{SessionAction}
@@ -12,8 +12,8 @@ use Rattle.saned_serve.proofs.Summing.{nobody}
 use Rattle.interleaving.specs.Interleavings.{Traffic, accepted_after, accepted_with, bytes_heard, bytes_sent, bytes_taken, connections_accepted, connections_made, made_with, heard_with, job_journal, sent_with, server_journal, taken_with}
 use Rattle.interleaving.specs.Interleavings.JointAction.{OfJob, OfServer}
 use Rattle.interleaving.specs.Interleavings.Traffic.{Dials, NoTraffic, Reads, Takes, Writes}
-use Rattle.interleaving.specs.HandingOn.{HandsOn, HaveOneSession, IsHandedOn, MayMove, MayServe, Owner}
-use Rattle.interleaving.specs.Orders.{ReadsWereWritten}
+use Rattle.interleaving.specs.AmongStrangers.{ReadsWereWrittenAmong}
+use Rattle.interleaving.specs.HandingOn.{HandsOnAmong, HaveOneSession, IsHandedOnAmong, MayMove, MayServe, Owner}
 use Rattle.interleaving.proofs.Sooner.{Joint, front_more}
 
 -- what passed, of a projection of a session and of its job
@@ -140,9 +140,10 @@ accepted_else k action past e = e
 abbrev FlowsIn : {M : Type 0} → (M → Traffic) → ℕ → List LoopAction → List M → Type 0
 FlowsIn seen k journal moves = Flows seen (projection_of k journal) (connections_accepted k journal) moves
 
-act_by : {M : Type 0} (seen : M → Traffic) (owner : Owner) (k i number : ℕ) (act : SessionAction) (past : Joint M) (b : Bool) → eqb number k ≡ b → owner k ≡ Some i → MayDo act (projection_of number (server_journal past)) (has_stopped (server_journal past)) → MayServe seen owner number act past → FlowsIn seen k (server_journal past) (job_journal i past)
+act_by : {M : Type 0} (seen : M → Traffic) (owner : Owner) (k i number : ℕ) (act : SessionAction) (past : Joint M) (b : Bool) → eqb number k ≡ b → owner k ≡ Some i → MayDo act (projection_of number (server_journal past)) (has_stopped (server_journal past)) → (owner number ≡ None) ⊎ MayServe seen owner number act past → FlowsIn seen k (server_journal past) (job_journal i past)
     → FlowsIn seen k (Of number act ∷ server_journal past) (job_journal i past)
-act_by seen owner k i number act past true at own may m f =
+act_by seen owner k i number act past true at own may (inl none) f = absurd (let clash : None ≡ Some i = sym none ∙ ap owner (eqb-true number k at) ∙ own in cc)
+act_by seen owner k i number act past true at own may (inr m) f =
     let journal = server_journal past in
     let moves = job_journal i past in
     let same = eqb-true number k at in
@@ -157,7 +158,7 @@ off_by seen k action journal moves same count f = rw (same, accepted_else k acti
 turned_by : {M : Type 0} (seen : M → Traffic) (k : ℕ) (journal : List LoopAction) (moves : List M) → FlowsIn seen k journal moves → FlowsIn seen k (Turned ∷ journal) moves
 turned_by seen k journal moves f = rw (life_at k Turned journal refl, accepted_else k Turned journal refl) (record { requests = f.requests; replies = f.replies; calls = f.calls; waits = f.waits; records = f.records })
 
-by_action : {M : Type 0} (seen : M → Traffic) (owner : Owner) (k i : ℕ) (action : LoopAction) (past : Joint M) → owner k ≡ Some i → IsEnabledAfter action (server_journal past) → IsHandedOn seen owner (OfServer action) past → FlowsIn seen k (server_journal past) (job_journal i past) → FlowsIn seen k (action ∷ server_journal past) (job_journal i past)
+by_action : {M : Type 0} (seen : M → Traffic) (owner : Owner) (k i : ℕ) (action : LoopAction) (past : Joint M) → owner k ≡ Some i → IsEnabledAfter action (server_journal past) → IsHandedOnAmong seen owner (OfServer action) past → FlowsIn seen k (server_journal past) (job_journal i past) → FlowsIn seen k (action ∷ server_journal past) (job_journal i past)
 by_action seen owner k i (Of number act) past own may m f = act_by seen owner k i number act past (eqb number k) refl own may.0 m f
 by_action seen owner k i Full past own may m f = off_by seen k Full (server_journal past) (job_journal i past) (life_off k Full (server_journal past) refl) refl f
 by_action seen owner k i Waits past own may m f = off_by seen k Waits (server_journal past) (job_journal i past) (life_off k Waits (server_journal past) refl) refl f
@@ -178,11 +179,11 @@ begun : {M : Type 0} (seen : M → Traffic) (k : ℕ) → FlowsIn seen k [] (no_
 unfolding bytes_sent bytes_heard bytes_taken connections_made connections_accepted
 begun seen k = rw (nobody k) (record { requests = ([], refl); replies = ([], refl); calls = omega arith; waits = λ l. refl; records = λ l. ([], refl) })
 
-flows : {M : Type 0} (seen : M → Traffic) (owner : Owner) (past : Joint M) (k i : ℕ) → HaveOneSession owner → IsJournal (server_journal past) → HandsOn seen owner past → owner k ≡ Some i → FlowsIn seen k (server_journal past) (job_journal i past)
-unfolding HandsOn server_journal job_journal
+flows : {M : Type 0} (seen : M → Traffic) (owner : Owner) (past : Joint M) (k i : ℕ) → HaveOneSession owner → IsJournal (server_journal past) → HandsOnAmong seen owner past → owner k ≡ Some i → FlowsIn seen k (server_journal past) (job_journal i past)
+unfolding HandsOnAmong server_journal job_journal
 flows seen owner [] k i one legal h own = begun seen k
 flows seen owner (OfServer action ∷ past) k i one legal h own = by_action seen owner k i action past own legal.1 h.1 (flows seen owner past k i one legal.0 h.0 own)
 flows seen owner (OfJob j move ∷ past) k i one legal h own = by_move seen owner k i j move past one own h.1 (flows seen owner past k i one legal h.0 own)
 
-pub reads_written : {M : Type 0} → ReadsWereWritten M
+pub reads_written : {M : Type 0} → ReadsWereWrittenAmong M
 reads_written seen owner past k i one legal h own = let f = flows seen owner past k i one legal h own in record { requests = f.requests; replies = f.replies; accepted = f.calls; waits = f.waits; records = f.records }

@@ -1,3 +1,4 @@
 pub mod Sooner
 pub mod Ahead
 pub mod Fronts
+pub mod Owners

@@ -11,8 +11,9 @@ use Rattle.saned_serve.proofs.ActionSteps.{eqb_off, life_at, life_off}
 use Rattle.interleaving.specs.Interleavings.{JointAction, Traffic, accepted_with, bytes_heard, bytes_sent, bytes_taken, connections_accepted, connections_made, job_journal, sent_with, server_journal}
 use Rattle.interleaving.specs.Interleavings.JointAction.{OfJob, OfServer}
 use Rattle.interleaving.specs.Interleavings.Traffic.{Dials, NoTraffic, Reads, Takes, Writes}
-use Rattle.interleaving.specs.HandingOn.{HandsOn, IsHandedOn, MayMove, MayServe, Owner}
-use Rattle.interleaving.specs.Orders.{GivesJobNothing, GivesNothing, IsFreeOf, MovesMayComeSooner}
+use Rattle.interleaving.specs.AmongStrangers.{MovesMayComeSoonerAmong}
+use Rattle.interleaving.specs.HandingOn.{HandsOnAmong, IsHandedOnAmong, MayMove, MayServe, Owner}
+use Rattle.interleaving.specs.Orders.{GivesJobNothing, GivesNothing, IsFreeOf}
 
 abbrev pub Joint : Type 0 → Type 0
 Joint M = List (JointAction M)
@@ -197,8 +198,9 @@ may_serve seen owner i move k Lose past n m = tt
 may_serve seen owner i move k (HangsUp trace) past n m = tt
 may_serve seen owner i move k (Leaves port trace) past n m = tt
 
-act_then : {M : Type 0} (seen : M → Traffic) (owner : Owner) (i : ℕ) (move : M) (action : JointAction M) (past : Joint M) → IsFreeOf owner i action → IsHandedOn seen owner action past → IsHandedOn seen owner action (OfJob i move ∷ past)
-act_then seen owner i move (OfServer (Of k act)) past n m = may_serve seen owner i move k act past n m
+act_then : {M : Type 0} (seen : M → Traffic) (owner : Owner) (i : ℕ) (move : M) (action : JointAction M) (past : Joint M) → IsFreeOf owner i action → IsHandedOnAmong seen owner action past → IsHandedOnAmong seen owner action (OfJob i move ∷ past)
+act_then seen owner i move (OfServer (Of k act)) past n (inl none) = inl none
+act_then seen owner i move (OfServer (Of k act)) past n (inr m) = inr (may_serve seen owner i move k act past n m)
 act_then seen owner i move (OfServer Full) past n m = tt
 act_then seen owner i move (OfServer Waits) past n m = tt
 act_then seen owner i move (OfServer (Refuses port trace)) past n m = tt
@@ -210,6 +212,6 @@ act_then seen owner i move (OfJob j other) past n m =
     (λ k own. ap (connections_accepted k) (sym (by_job i move past)))
     m
 
-pub comes_sooner : {M : Type 0} → MovesMayComeSooner M
-unfolding HandsOn
+pub comes_sooner : {M : Type 0} → MovesMayComeSoonerAmong M
+unfolding HandsOnAmong
 comes_sooner seen owner i move action past n h = ((h.0.0, move_first seen owner i (seen move) action past n h.1), act_then seen owner i move action past n h.0.1)

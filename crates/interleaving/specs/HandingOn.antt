@@ -1,5 +1,5 @@
 -- Connections hand on the bytes given to them, in their order, until they are lost: nothing else is said of them.
-use Rattle.std.specs.Prelude.{ℕ, ◌≡◌, ◌<◌, Option, Some, List, [], ◌∷◌, ◌++◌}
+use Rattle.std.specs.Prelude.{ℕ, ◌≡◌, ◌<◌, ◌⊎◌, Option, Some, None, List, [], ◌∷◌, ◌++◌}
 use Rattle.saned_serve.specs.SessionActions.{SessionAction}
 use Rattle.saned_serve.specs.SessionActions.SessionAction.{Opens, Feed, Connect}
 use Rattle.saned_serve.specs.Journal.{IsFront, projection_of}
@@ -48,3 +48,16 @@ IsHandedOn seen owner (OfJob i move) past = MayMove seen owner i (seen move) pas
 unfoldable pub HandsOn : {M : Type 0} → (M → Traffic) → Owner → List (JointAction M) → Type 0
 HandsOn seen owner [] = Unit {0}
 HandsOn seen owner (action ∷ past) = HandsOn seen owner past × IsHandedOn seen owner action past
+
+-- ---- and where others speak to the server as well
+
+-- for a session that no job has the server may do anything
+abbrev pub IsHandedOnAmong : {M : Type 0} → (M → Traffic) → Owner → JointAction M → List (JointAction M) → Type 0
+IsHandedOnAmong seen owner (OfServer (Of k act)) past = (owner k ≡ None) ⊎ MayServe seen owner k act past
+IsHandedOnAmong seen owner action past = IsHandedOn seen owner action past
+
+-- **hand on among strangers (`HandsOnAmong`)**: a session that no job has is a stranger's: it may be opened, be fed
+-- any bytes, be given a data connection and be lost; whatever has an owner is handed on as without strangers.
+unfoldable pub HandsOnAmong : {M : Type 0} → (M → Traffic) → Owner → List (JointAction M) → Type 0
+HandsOnAmong seen owner [] = Unit {0}
+HandsOnAmong seen owner (action ∷ past) = HandsOnAmong seen owner past × IsHandedOnAmong seen owner action past

@@ -1,3 +1,4 @@
 pub mod Interleavings
 pub mod HandingOn
 pub mod Orders
+pub mod AmongStrangers

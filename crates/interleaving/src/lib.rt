@@ -2,6 +2,7 @@
 //! The moves of a job are of any type of which one sees what each does on the job's connections.
 #![tactic(auto)]
 
+ghost use Rattle.interleaving.specs.AmongStrangers.{AllMayComeSoonerAmong, MovesMayComeSoonerAmong, NoneSpeaksForAJob, ReadsWereWrittenAmong, StrangersSpeak, WithoutStrangers};
 ghost use Rattle.interleaving.specs.Orders.{AllMayComeSooner, MovesMayComeSooner, ReadsWereWritten};
 
 #[tactic(none)]
@@ -24,4 +25,26 @@ pub fn reads_were_written<M>()
     /// In every such order what was read of each connection of a job is a front of what was given to it, and a data
     /// connection that is not accepted yet gave nothing.
     ensures { ReadsWereWritten M }
+{}
+
+/// A session that no job has is a stranger's, to which the server may do anything.
+#[tactic(none)]
+pub fn orders_are_as_good_among_strangers<M>()
+    /// Among strangers a move may come sooner just as it may without them.
+    ensures moves { MovesMayComeSoonerAmong M }
+    /// So may all moves of a job from where the server gives it nothing more on.
+    ensures all { AllMayComeSoonerAmong M }
+    /// What was read of each connection of a job is a front of what was given to it, whatever strangers say.
+    ensures reads { ReadsWereWrittenAmong M }
+{}
+
+#[tactic(none)]
+pub fn strangers_are_apart<M>()
+    /// Connections hand on without strangers just where they do so among them and each session that the server opens,
+    /// feeds or gives a data connection is a job's.
+    ensures without { WithoutStrangers M }
+    /// There are strangers: a session that no job has is opened and fed any bytes, which is refused without them.
+    ensures speak { StrangersSpeak M }
+    /// The smallest lie is refuted: that the session of a job which wrote nothing is fed a byte.
+    ensures refuted { NoneSpeaksForAJob M }
 {}

@@ -45,7 +45,7 @@ asked_all : (t : Ghost) (i : ℕ) → (t.system.job i).todo ≡ [] → SpellsAsk
 asked_all t i none spelled =
     (nil_both (t.wires i).asking (t.wires i).up (nothing_said (target_of (t.jobs i)) ((t.wires i).asking ++ (t.wires i).up) (subst (λ (todo : List AbstractRequest). SpellsAsked (t.jobs i) (t.system.job i).client todo ((t.wires i).asking ++ (t.wires i).up)) none spelled))).1
 
-in_turn : (t : Ghost) (w : WorldCore) → WorldRefines t w → HearsInTurn w
+pub in_turn : (t : Ghost) (w : WorldCore) → WorldRefines t w → HearsInTurn w
 in_turn t w h i p id at link runs early =
     let s = h.endpoints i p at in
     let me = t.system.job i in

@@ -58,7 +58,7 @@ flows_none stage c progress phase image flight ending imaging (inr ends) f =
     let g : FlightMatches (model.Running (model.Imaging imaging.0 imaging.1)) Ending progress phase image flight ending = subst (λ (x : TransferState). FlightMatches (model.Running (model.Imaging imaging.0 imaging.1)) x progress phase image flight ending) ends (subst (λ (x : model.JobStage). FlightMatches x c progress phase image flight ending) imaging.2 f) in
     g.wants
 
-wants_first : (t : Ghost) (w : WorldCore) → WorldRefines t w → WantsBeforeItFlows w
+pub wants_first : (t : Ghost) (w : WorldCore) → WorldRefines t w → WantsBeforeItFlows w
 wants_first t w h i p id at link runs wants flows =
     let s = h.endpoints i p at in
     let me = t.system.job i in
@@ -205,7 +205,7 @@ loss_of_connections (Connect i) is = tt
 loss_of_connections (LoseControl i) is = tt
 loss_of_connections event is = absurd is
 
-losses_of_connections : (losses : List Event) → AreLosses losses → AreOfConnections losses
+pub losses_of_connections : (losses : List Event) → AreLosses losses → AreOfConnections losses
 losses_of_connections [] are = tt
 losses_of_connections (event ∷ losses) are = (loss_of_connections event are.0, losses_of_connections losses are.1)
 

@@ -6,6 +6,7 @@ use Rattle.net_jobs.specs.JobJournal.{JobMove}
 use Rattle.net_jobs.specs.JobSteps.{MovesAreSteps, MovesStopWithin, StepsLead}
 use Rattle.saned_serve.specs.Journal.{JournalLeads, LoopAction}
 use Rattle.interleaving.specs.Interleavings.{job_journal}
+use Rattle.programs_refine.specs.AmongStrangers.{LoopsLeadIntoRunsAmong}
 use Rattle.programs_refine.specs.LedInto.{BatchDoneLeads, BatchEndedLeads, BatchSunkLeads, DoneLeads, EndedLeads, LoopLeads, LoopsLeadIntoRuns, SunkLeads}
 use Rattle.programs_refine.specs.Programs.{Acts, JobsLead}
 
@@ -54,6 +55,20 @@ jobs_lead jobs acts last loops = record {
   first = λ i. first_at jobs acts last loops i (slice_get jobs i) refl;
   fresh = λ i job at. (first_leads jobs acts last loops i (slice_get jobs i) refl job at).0;
   loops = λ i job at. (first_leads jobs acts last loops i (slice_get jobs i) refl job at).1;
+}
+
+pub led_among : LoopsLeadIntoRunsAmong
+led_among limits was now end jobs owner acts last x new owns counts hands lost = record {
+  new = new;
+  owns = owns;
+  counts = counts;
+  loops = jobs_lead jobs acts last x.loops;
+  end = now.daemon;
+  before = was.listeners;
+  after = now.listeners;
+  serves = subst (λ (journal : List LoopAction). JournalLeads was.daemon was.listeners journal now.daemon now.listeners) (sym x.server) x.served.leads;
+  hands_on = hands;
+  lost = lost;
 }
 
 pub led_into : LoopsLeadIntoRuns

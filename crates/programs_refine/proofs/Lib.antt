@@ -7,6 +7,7 @@ mod Quiet
 mod Delivered
 mod Flowing
 mod Replied
+mod Acted
 mod Serving
 mod Stepping
 mod Finishing
@@ -17,6 +18,9 @@ mod Timely
 mod Programs
 mod Keeping
 mod InTurn
+mod JobsStay
+mod KeepingAmong
 mod StoppedLoops
 pub mod WorkedRuns
+mod StrangerComes
 mod LedInto

@@ -407,5 +407,5 @@ leaves w k own flying x c p l =
       q = q;
       can = subst IsSome (sym l.link) refl;
       does = if_linked p.link l.id k (λ j. (after_end_session w k ≡ after_end_session w j) × (q ≡ without_link (after_move p))) l.link l.number (refl, refl);
-      left = record { ended = λ over. ends_as l.pending own.dropped (is_running p.client.outcome) c p.client refl l.follows over; stopped = stops_as l.pending own.dropped c p.client l.follows; files = files_kept x.turned x.given p q (record { file = refl; pages = refl; finished = refl; task = refl; done = done_behind_loss links.Control p.client }) l.files };
+      left = record { ended = λ over. ends_as l.pending own.dropped (is_running p.client.outcome) c p.client refl l.follows over; stopped = stops_as l.pending own.dropped c p.client l.follows; files = files_kept x.turned x.given p q (record { file = refl; pages = refl; finished = refl; task = refl; done = done_behind_loss links.Control p.client }) l.files; link = refl };
     }

@@ -1,6 +1,6 @@
 -- All that the programs do, act by act, stands behind a world.
 use Rattle.std.specs.Prelude.{◌<◌, ◌||◌, ◌+◌}
-use Rattle.std.proofs.Common.{◌≡◌, ◌≢◌, ◌∙◌, ◌⊎◌, inl, inr, ℕ, zero, suc, Bool, true, false, cond, Option, Some, None, List, [], ◌∷◌, ◌++◌, slice_get, refl, sym, ap, subst, arith}
+use Rattle.std.proofs.Common.{◌≡◌, ◌≢◌, ◌∙◌, ◌⊎◌, inl, inr, ℕ, zero, suc, Bool, true, false, cond, Option, Some, None, List, [], ◌∷◌, ◌++◌, length, slice_get, refl, sym, ap, subst, arith}
 use Rattle.std.proofs.Math.Dec.{eqb}
 use Rattle.std.proofs.lemmas.Bool.{eqb-true}
 use Rattle.std.proofs.lemmas.Bool.Decides.{nat_tests}
@@ -26,7 +26,8 @@ use Rattle.in_flight.proofs.Slots.{Slot, decide}
 use Rattle.interleaving.specs.Interleavings.{Traffic, job_journal, server_journal}
 use Rattle.interleaving.specs.Interleavings.JointAction.{OfJob, OfServer}
 use Rattle.interleaving.specs.Interleavings.Traffic.{Writes as WritesBytes, Reads as ReadsBytes, Dials as MakesConnection, Takes as TakesBytes, NoTraffic}
-use Rattle.interleaving.specs.HandingOn.{HandsOn, HaveOneSession, MayMove, MayServe, Owner}
+use Rattle.interleaving.specs.AmongStrangers.{IsForAnOwner}
+use Rattle.interleaving.specs.HandingOn.{HandsOnAmong, HaveOneSession, MayMove, MayServe, Owner}
 use Rattle.interleaving.proofs.Fronts.{reads_written}
 use Rattle.event_world.specs.declared.endpoint.Endpoint.{Endpoint}
 use Rattle.event_world.specs.Endpoints.{budget_of, no_pages}
@@ -81,6 +82,10 @@ pub are_new : (jobs : List Job) (first : ℕ → ClientState) → ((i : ℕ) (jo
 are_new [] first fresh = tt
 are_new (job ∷ jobs) first fresh = (record { client = fresh 0 job refl; rest = refl }, are_new jobs (λ i. first (suc i)) (λ i other at. fresh (suc i) other at))
 
+many : (jobs : List Job) (first : ℕ → ClientState) → length (endpoints_of jobs first) ≡ length jobs
+many [] first = refl
+many (job ∷ jobs) first = ap suc (many jobs (λ i. first (suc i)))
+
 endpoint_at : (jobs : List Job) (first : ℕ → ClientState) (i : ℕ) (job : Job) → slice_get jobs i ≡ Some job → slice_get (endpoints_of jobs first) i ≡ Some (endpoint_of job (first i))
 endpoint_at [] first i job at = absurd (let wrong : None ≡ Some job = at in cc)
 endpoint_at (other ∷ jobs) first zero job at = ap (λ (j : Job). Some (endpoint_of j (first 0))) (let same : other ≡ job = cc in same)
@@ -89,16 +94,17 @@ endpoint_at (other ∷ jobs) first (suc i) job at = endpoint_at jobs (λ k. firs
 pub new_files : (jobs : List Job) (first : ℕ → ClientState) → ((i : ℕ) (job : Job) → slice_get jobs i ≡ Some job → HasCount job.task) → AreNew jobs (endpoints_of jobs first) → AllFilesRepresent (endpoints_of jobs first)
 new_files jobs first counts new = λ k p at. new_posts jobs (endpoints_of jobs first) k p counts new at
 
-pub begun : (source : Source → SourceState) (owner : Owner) (jobs : List Job) (d : Core) (first c : ℕ → ClientState) → HasOpenedNone d → ((i : ℕ) (job : Job) → slice_get jobs i ≡ Some job → IsNewClient job (first i)) → ((i : ℕ) (job : Job) → slice_get jobs i ≡ Some job → c i ≡ first i)
-    → Tracks (course_of source (record { daemon = d; endpoints = endpoints_of jobs first }) owner jobs) (passed_of []) (λ i. traffics_of []) d c
-begun source owner jobs d first c new fresh same = record {
+pub begun : (source : Source → SourceState) (owner : Owner) (among : Bool) (jobs : List Job) (d : Core) (first c : ℕ → ClientState) → HasOpenedNone d → ((i : ℕ) (job : Job) → slice_get jobs i ≡ Some job → IsNewClient job (first i)) → ((i : ℕ) (job : Job) → slice_get jobs i ≡ Some job → c i ≡ first i)
+    → Tracks (course_of source (record { daemon = d; endpoints = endpoints_of jobs first }) owner among jobs) (passed_of []) (λ i. traffics_of []) d c
+begun source owner among jobs d first c new fresh same = record {
   events = [];
   w = record { daemon = d; endpoints = endpoints_of jobs first };
-  leads = record { are = tt; runs = refl };
+  leads = record { are = tt; theirs = tt; runs = refl };
+  count = many jobs first;
   flying = λ n. [];
   differs = nothing_first d (new_limits d new);
   slots = λ n some. absurd (some (no_slots d new n));
-  owned = λ n on. never_both (passed_of [] n).is_open on (ap (λ (x : Passed). x.is_open) (passed_first n));
+  owned = λ none n on. never_both (passed_of [] n).is_open on (ap (λ (x : Passed). x.is_open) (passed_first n));
   calm = λ n told. never_both ((passed_of [] n).dropped || (passed_of [] n).last) told (ap (λ (x : Passed). x.dropped || x.last) (passed_first n));
   each = λ i job at. (endpoint_of job (first i), endpoint_at jobs first i job at, Unlinked (unlinked i job at));
 }
@@ -205,23 +211,17 @@ stands (Stops ∷ past) first d k none runs low stays = same_before k Stops past
 same_owner : (owner : Owner) (k i j : ℕ) → owner k ≡ Some i → owner k ≡ Some j → i ≡ j
 same_owner owner k i j a b = let e : Some i ≡ Some j = sym a ∙ b in cc
 
-pub handed_as : (owner : Owner) (acts : Acts) (n : ℕ) (act : SessionAction) → HaveOneSession owner → IsJournal (server_journal acts) → HandsOn traffic_of owner acts → MayServe traffic_of owner n act acts → Handed owner (passed_of (server_journal acts)) (λ i. traffics_of (job_journal i acts)) n act
-handed_as owner acts n (Opens port) one is hands m = m
-handed_as owner acts n (Hears got room bytes) one is hands m = tt
-handed_as owner acts n (Feed piece fed begins) one is hands m = λ i own. subst (λ (x : ℕ). IsFront ((passed_of (server_journal acts) n).heard ++ piece) (traffics_of (job_journal x acts)).sent) (same_owner owner n m.0 i m.1 own) m.2
-handed_as owner acts n (Forgets told port) one is hands m = tt
-handed_as owner acts n (Take room bytes) one is hands m = tt
-handed_as owner acts n (Says got bytes) one is hands m = tt
-handed_as owner acts n (Looks frame) one is hands m = tt
-handed_as owner acts n (Misses port) one is hands m = tt
-handed_as owner acts n (Connect port) one is hands m = λ i own.
-    let less : (passed_of (server_journal acts) n).accepted < (traffics_of (job_journal i acts)).made = subst (λ (x : ℕ). (passed_of (server_journal acts) n).accepted < (traffics_of (job_journal x acts)).made) (same_owner owner n m.0 i m.1 own) m.2 in
-    (less, (reads_written traffic_of owner acts n i one is hands own).waits less)
-handed_as owner acts n (Turn room step bytes) one is hands m = tt
-handed_as owner acts n (Shows got bytes) one is hands m = tt
-handed_as owner acts n Lose one is hands m = tt
-handed_as owner acts n (HangsUp trace) one is hands m = tt
-handed_as owner acts n (Leaves port trace) one is hands m = tt
+-- it is handed on so, and to its job where it has one
+pub handed_as : (owner : Owner) (among : Bool) (acts : Acts) (n : ℕ) (act : SessionAction) → HaveOneSession owner → IsJournal (server_journal acts) → HandsOnAmong traffic_of owner acts → (owner n ≡ None) ⊎ MayServe traffic_of owner n act acts → (among ≡ false → IsForAnOwner owner n act)
+    → Handed owner among (passed_of (server_journal acts)) (λ i. traffics_of (job_journal i acts)) n act
+handed_as owner among acts n (Opens port) one is hands m own = own
+handed_as owner among acts n (Feed piece fed begins) one is hands (inl none) own = λ i mine. let clash : None ≡ Some i = sym none ∙ mine in cc
+handed_as owner among acts n (Feed piece fed begins) one is hands (inr m) own = λ i mine. subst (λ (x : ℕ). IsFront ((passed_of (server_journal acts) n).heard ++ piece) (traffics_of (job_journal x acts)).sent) (same_owner owner n m.0 i m.1 mine) m.2
+handed_as owner among acts n (Connect port) one is hands (inl none) own = λ i mine. let clash : None ≡ Some i = sym none ∙ mine in cc
+handed_as owner among acts n (Connect port) one is hands (inr m) own = λ i mine.
+    let less : (passed_of (server_journal acts) n).accepted < (traffics_of (job_journal i acts)).made = subst (λ (x : ℕ). (passed_of (server_journal acts) n).accepted < (traffics_of (job_journal x acts)).made) (same_owner owner n m.0 i m.1 mine) m.2 in
+    (less, (reads_written traffic_of owner acts n i one is hands mine).waits less)
+handed_as owner among acts n act one is hands m own = tt
 
 pub may_step : (owner : Owner) (i : ℕ) (acts : Acts) (traffic : Traffic) → MayMove traffic_of owner i traffic acts → MayStep owner (passed_of (server_journal acts)) (traffics_of (job_journal i acts)) i traffic
 may_step owner i acts (WritesBytes bytes) m = tt

@@ -1,8 +1,6 @@
 -- Each step of a job leads on: the world stands behind it as before.
 use Rattle.std.specs.Prelude.{◌<◌}
 use Rattle.std.proofs.Common.{◌≡◌, ◌≢◌, ◌∙◌, inl, inr, ℕ, Bool, true, false, Some, List, [], ◌++◌, length, slice_get, refl, sym, ap, subst, arith}
-use Rattle.page_picture.specs.Source.{SourceState}
-use Rattle.page_picture.specs.declared.sources.kinds.Source.{Source}
 use Rattle.scan_job.specs.declared.job.Job.{Job}
 use Rattle.client_replies.specs.ProtocolStates.{is_receiving, is_running}
 use Rattle.net_client.specs.ClientStates.{ClientState, HasEarlyReply}
@@ -21,17 +19,16 @@ use Rattle.event_world.specs.declared.endpoint.Endpoint.{Endpoint}
 use Rattle.event_world.specs.Endpoints.{IsNew}
 use Rattle.event_world.specs.FileInvariant.{AllFilesRepresent}
 use Rattle.event_world.specs.JobEvents.{IsFlowing}
-use Rattle.event_world.specs.Worlds.{WorldCore}
 use Rattle.world_refines.proofs.state.ListEntries.{nil_both}
-use Rattle.programs_refine.specs.WorldHistory.{AlwaysHearsInTurn}
+use Rattle.programs_refine.specs.WorldHistory.{HearsInTurn}
 use Rattle.programs_refine.specs.StepTraffic.{traffic_of}
 use Rattle.programs_refine.proofs.Delivered.{hears, takes}
 use Rattle.programs_refine.proofs.Lists.{front_of_none}
 use Rattle.programs_refine.proofs.Outgoing.{dialled_receives, never_both, not_over}
 use Rattle.programs_refine.proofs.Passed.{Passed, Traffics, traffics_after}
 use Rattle.programs_refine.proofs.Quiet.{IsQuiet, IsTimely, gave_none, quiet_move}
-use Rattle.programs_refine.proofs.Serving.{comes}
-use Rattle.programs_refine.proofs.Tracks.{Course, Follows, IsLinked, IsUnlinked, JobTracks, OutTracks, Tracks, goes_on, not_moved, with_out}
+use Rattle.programs_refine.proofs.Acted.{comes}
+use Rattle.programs_refine.proofs.Tracks.{AlwaysIn, Course, Follows, IsLinked, IsUnlinked, JobTracks, OutTracks, Tracks, goes_on, not_moved, with_out}
 use Rattle.programs_refine.proofs.Tracks.Follows.{Alike, Dialled, Lost, Cut}
 use Rattle.programs_refine.proofs.Tracks.JobTracks.{Unlinked, Linked, Left}
 
@@ -63,7 +60,7 @@ quietly : (course : Course) (passed : ℕ → Passed) (done done_new : ℕ → T
     → ((p : Endpoint) → JobTracks course.owner d.opened t.flying passed (done i) i job (c i) p → JobTracks course.owner d.opened t.flying passed (traffics_after step (done i)) i job (c_new i) p) → Behind course passed done_new d c_new
 quietly course passed done done_new d c c_new t i job step at one leads =
     let e = t.each i job at in
-    goes_on course passed passed done done_new d d c c_new t i e.0 t.w.daemon (not_moved course.source t.events course.first t.w i e.0 t.leads e.1) t.flying t.differs t.slots t.owned t.calm (omega arith)
+    goes_on course passed passed done done_new d d c c_new t i e.0 t.w.daemon (not_moved course t.events t.w i e.0 t.leads e.1) t.flying t.differs t.slots t.owned t.calm (omega arith)
     (λ j off k own. (λ high. high, refl, refl)) one.others
     (λ other there. subst (λ (x : Job). JobTracks course.owner d.opened t.flying passed (done_new i) i x (c_new i) e.0) (let same : Some job ≡ Some other = sym at ∙ there in cc)
     (subst (λ (x : Traffics). JobTracks course.owner d.opened t.flying passed x i job (c_new i) e.0) (sym one.own) (leads e.0 e.2)))
@@ -103,7 +100,7 @@ hears_step course passed done done_new d c c_new t i job piece gives turned only
     linked : (p : Endpoint) → slice_get t.w.endpoints i ≡ Some p → (k : ℕ) → course.owner k ≡ Some i → k < d.opened → IsFront ((done i).heard ++ piece) (passed k).said → IsLinked (passed k) (t.flying k) (done i) k (c i) p → Behind course passed done_new d c_new
     linked p there k own low front l =
         let x = hears t.w.daemon t.flying d k (passed k) (done i) (c i) (c_new i) p piece (record { move = Hears piece; gives = gives; turned = turned }) t.differs (files i p there) l ok (memory k own) front h in
-        let m = comes course.source t.events course.first t.w i p x.q (events.ToClient (length piece)) x.e t.leads there tt x.can x.does in
+        let m = comes course t.events t.w i p x.q (events.ToClient (length piece)) x.e t.leads there tt x.can x.does in
         let flying = undelivered_with k x.left t.flying in
         goes_on course passed passed done done_new d d c c_new t i x.q x.e m flying x.differs (λ n some. t.slots n (x.is_slot n some)) t.owned
         (λ n told flows. t.calm n told (subst IsFlowing (frames_alike flying d x.e n x.differs ∙ sym (frames_alike t.flying d t.w.daemon n t.differs)) flows)) (omega arith)
@@ -131,7 +128,7 @@ takes_step course passed done done_new d c c_new t i job piece gives turned only
     linked : (p : Endpoint) → slice_get t.w.endpoints i ≡ Some p → (k : ℕ) → course.owner k ≡ Some i → k < d.opened → (passed k).accepted ≡ (done i).made → IsFront ((done i).taken ++ piece) (passed k).shown → IsLinked (passed k) (t.flying k) (done i) k (c i) p → Behind course passed done_new d c_new
     linked p there k own low count front l =
         let x = takes t.w.daemon (t.flying k) k (passed k) (done i) (c i) (c_new i) p piece (record { move = Takes piece; gives = gives; turned = turned }) (files i p there) l ok (stands k own) count front h in
-        let m = comes course.source t.events course.first t.w i p x.q (events.DataToClient (length piece)) t.w.daemon t.leads there tt x.can x.does in
+        let m = comes course t.events t.w i p x.q (events.DataToClient (length piece)) t.w.daemon t.leads there tt x.can x.does in
         goes_on course passed passed done done_new d d c c_new t i x.q t.w.daemon m t.flying t.differs t.slots t.owned t.calm (omega arith)
         (λ j off n theirs. (λ high. high, refl, refl)) one.others
         (λ other here. subst (λ (y : Job). JobTracks course.owner d.opened t.flying passed (done_new i) i y (c_new i) x.q) (same_job other here)
@@ -163,7 +160,7 @@ new_hears job c p n (Dialled on wants runs same) early = never_both false on ref
 new_hears job c p n (Lost runs over wants) early = not_over c.outcome over early.1
 new_hears job c p n (Cut off told over either) early = never_both false told refl
 
-never_early : (course : Course) (passed : ℕ → Passed) (done : ℕ → Traffics) (d : Core) (c : ℕ → ClientState) (t : Behind course passed done d c) (i : ℕ) (job : Job) → AlwaysHearsInTurn course.source course.first → slice_get course.jobs i ≡ Some job → IsTimely course.owner d.opened passed i
+never_early : (course : Course) (passed : ℕ → Passed) (done : ℕ → Traffics) (d : Core) (c : ℕ → ClientState) (t : Behind course passed done d c) (i : ℕ) (job : Job) → AlwaysIn course HearsInTurn → slice_get course.jobs i ≡ Some job → IsTimely course.owner d.opened passed i
     → (done i).failed ≡ false → IsEarly (c i) → ⊥
 never_early course passed done d c t i job hears at timely ok early = let e = t.each i job at in by e.0 e.1 e.2
   where
@@ -182,7 +179,7 @@ never_early course passed done d c t i job hears at timely ok early = let e = t.
 
 -- ---- every step
 
-pub steps_on : (course : Course) (passed : ℕ → Passed) (done done_new : ℕ → Traffics) (d : Core) (c c_new : ℕ → ClientState) (t : Behind course passed done d c) (i : ℕ) (job : Job) (move : JobMove) (gives : List JobMove) (turned : Bool) → HaveOneSession course.owner → AlwaysHearsInTurn course.source course.first → HasMemoryFor course.owner passed i → AllFilesRepresent t.w.endpoints
+pub steps_on : (course : Course) (passed : ℕ → Passed) (done done_new : ℕ → Traffics) (d : Core) (c c_new : ℕ → ClientState) (t : Behind course passed done d c) (i : ℕ) (job : Job) (move : JobMove) (gives : List JobMove) (turned : Bool) → HaveOneSession course.owner → AlwaysIn course HearsInTurn → HasMemoryFor course.owner passed i → AllFilesRepresent t.w.endpoints
     → slice_get course.jobs i ≡ Some job → OneSteps done done_new c c_new i (record { move = move; gives = gives; turned = turned }) → IsTimely course.owner d.opened passed i → (done i).failed ≡ false → MayStep course.owner passed (done i) i (traffic_of (record { move = move; gives = gives; turned = turned })) → Standing course.owner passed i (traffic_of (record { move = move; gives = gives; turned = turned }))
     → StepLeads (c i) (record { move = move; gives = gives; turned = turned }) (c_new i) → Behind course passed done_new d c_new
 steps_on course passed done done_new d c c_new t i job (Writes bytes) gives turned only hears memory files at one timely ok may stands s = by_quiet_move course passed done done_new d c c_new t i job (Writes bytes) gives turned at one tt timely ok s.0 s.1 s.2

@@ -1,6 +1,6 @@
 -- A loop that stops within a step is to all others one that stopped in front of it: that step is left out.
 use Rattle.std.specs.Prelude.{◌<◌, ◌+◌}
-use Rattle.std.proofs.Common.{◌≡◌, ◌≢◌, ◌∙◌, ◌⊎◌, inl, inr, ℕ, Bool, true, false, cond, Option, Some, None, List, [], ◌∷◌, ◌++◌, length, slice_get, refl, sym, ap, subst}
+use Rattle.std.proofs.Common.{◌≡◌, ◌≢◌, ◌∙◌, ◌⊎◌, inl, inr, ℕ, Bool, true, false, cond, Some, List, [], ◌∷◌, ◌++◌, length, slice_get, refl, sym, ap, subst}
 use Rattle.std.proofs.Math.Dec.{eqb}
 use Rattle.std.proofs.lemmas.Bool.{eq-eqb, eqb-true}
 use Rattle.netpbm.specs.Pnm.{IsWhole}
@@ -14,7 +14,7 @@ use Rattle.saned_serve.specs.SessionActions.SessionAction.{Opens, Hears as Hears
 use Rattle.saned_serve.specs.Journal.{IsFront, JournalLeads, LoopAction, projection_of}
 use Rattle.saned_serve.specs.Journal.LoopAction.{Of, Full, Waits, Refuses, Turned, Stops}
 use Rattle.in_flight.proofs.Slots.{decide}
-use Rattle.interleaving.specs.Interleavings.{JointAction, Traffic, bytes_heard, bytes_sent, bytes_taken, connections_accepted, connections_made, job_journal, made_with, sent_with, server_journal}
+use Rattle.interleaving.specs.Interleavings.{Traffic, bytes_heard, bytes_sent, bytes_taken, connections_accepted, connections_made, job_journal, made_with, sent_with, server_journal}
 use Rattle.interleaving.specs.Interleavings.JointAction.{OfJob, OfServer}
 use Rattle.interleaving.specs.Interleavings.Traffic.{Writes as WritesBytes, Reads as ReadsBytes, Dials as MakesConnection, Takes as TakesBytes, NoTraffic}
 use Rattle.interleaving.specs.HandingOn.{HandsOn, IsHandedOn, MayMove, MayServe, Owner}

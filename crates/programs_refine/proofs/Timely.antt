@@ -21,7 +21,7 @@ use Rattle.in_flight.proofs.Slots.{decide}
 use Rattle.interleaving.specs.Interleavings.{JointAction, Traffic, job_journal, server_journal}
 use Rattle.interleaving.specs.Interleavings.JointAction.{OfJob, OfServer}
 use Rattle.interleaving.specs.Interleavings.Traffic.{Writes as WritesBytes, Reads as ReadsBytes, Dials as MakesConnection, Takes as TakesBytes, NoTraffic}
-use Rattle.interleaving.specs.HandingOn.{HandsOn, HaveOneSession, Owner}
+use Rattle.interleaving.specs.HandingOn.{HandsOnAmong, HaveOneSession, Owner}
 use Rattle.interleaving.specs.Orders.{AllGiveNothing, GivesJobNothing, GivesNothing, HaveSameJournals, moves_among, others_among}
 use Rattle.interleaving.proofs.Ahead.{all_sooner}
 use Rattle.programs_refine.specs.StepTraffic.{traffic_of}
@@ -309,7 +309,7 @@ lost_others owner i (OfJob j step ∷ w) base past e b l = by (eqb j i) (lost_ot
 
 pub record Arranged (owner : Owner) (acts new : Acts) : Type 0 where
   pub same : HaveSameJournals new acts
-  pub hands : HandsOn traffic_of owner new
+  pub hands : HandsOnAmong traffic_of owner new
   pub lost : LostBringNoMore owner new
 
 record ArrangedOne (owner : Owner) (i : ℕ) (acts : Acts) : Type 0 where
@@ -403,7 +403,7 @@ server_at : (k : ℕ) (act : SessionAction) (past : Acts) → server_journal (Of
 unfolding server_journal
 server_at k act past = refl
 
-split_one : (owner : Owner) (i : ℕ) (acts : Acts) (first last : Core) → HasDaemonLimits first → HaveOneSession owner → IsJournal (server_journal acts) → DaemonRuns first (server_journal acts) last → HandsOn traffic_of owner acts → LostBringNoMore owner acts → IsSplit owner i acts → ArrangedOne owner i acts
+split_one : (owner : Owner) (i : ℕ) (acts : Acts) (first last : Core) → HasDaemonLimits first → HaveOneSession owner → IsJournal (server_journal acts) → DaemonRuns first (server_journal acts) last → HandsOnAmong traffic_of owner acts → LostBringNoMore owner acts → IsSplit owner i acts → ArrangedOne owner i acts
 split_one owner i acts first last limits one legal runs hands lost s =
     let ending : JointAction JobStep = OfServer (Of s.k s.act) in
     let w : Acts = s.since ++ ending ∷ [] in
@@ -415,7 +415,7 @@ split_one owner i acts first last limits one legal runs hands lost s =
     let gone = gone_then s.k s.act at.before at.after s.ends (limits_behind (server_journal s.past) first at.before limits at.runs) low at.acts in
     let since = gone_since owner i s.k s.since at.after last one s.own gone at.more in
     let nothing : AllGiveNothing owner i w = all_more owner i s.since (ending ∷ []) since.0 (ending_gives owner i s.k s.act s.ends, tt) in
-    let sooner = all_sooner traffic_of owner i w s.past nothing (subst (HandsOn traffic_of owner) whole hands) in
+    let sooner = all_sooner traffic_of owner i w s.past nothing (subst (HandsOnAmong traffic_of owner) whole hands) in
     let base : Acts = moves_among i w ++ s.past in
     let same_base = moves_before i w s.past in
     let lost_then = subst (LostBringNoMore owner) whole lost in
@@ -432,7 +432,7 @@ split_one owner i acts first last limits one legal runs hands lost s =
           other_timely_others owner i j w base s.past same_base (other_timely_moves owner i j w s.past off (other_timely_past owner j w s.past there)) there;
     }
 
-arrange_one : (owner : Owner) (i : ℕ) (acts : Acts) (first last : Core) → HasDaemonLimits first → HaveOneSession owner → IsJournal (server_journal acts) → DaemonRuns first (server_journal acts) last → HandsOn traffic_of owner acts → LostBringNoMore owner acts → ArrangedOne owner i acts
+arrange_one : (owner : Owner) (i : ℕ) (acts : Acts) (first last : Core) → HasDaemonLimits first → HaveOneSession owner → IsJournal (server_journal acts) → DaemonRuns first (server_journal acts) last → HandsOnAmong traffic_of owner acts → LostBringNoMore owner acts → ArrangedOne owner i acts
 arrange_one owner i acts first last limits one legal runs hands lost = by (find owner i acts)
   where
     by : IsSplit owner i acts ⊎ IsTimelyFor owner i (server_journal acts) → ArrangedOne owner i acts
@@ -466,7 +466,7 @@ arrange_more owner n acts first last limits one legal runs a =
     by b i low (inl same) = subst (λ (j : ℕ). TimelyIn owner j b.new) (sym same) b.own
     by b i low (inr off) = b.others i off (a.timely i (less i n low off))
 
-arrange_to : (owner : Owner) (n : ℕ) (acts : Acts) (first last : Core) → HasDaemonLimits first → HaveOneSession owner → IsJournal (server_journal acts) → DaemonRuns first (server_journal acts) last → HandsOn traffic_of owner acts → LostBringNoMore owner acts → ArrangedTo owner n acts
+arrange_to : (owner : Owner) (n : ℕ) (acts : Acts) (first last : Core) → HasDaemonLimits first → HaveOneSession owner → IsJournal (server_journal acts) → DaemonRuns first (server_journal acts) last → HandsOnAmong traffic_of owner acts → LostBringNoMore owner acts → ArrangedTo owner n acts
 arrange_to owner zero acts first last limits one legal runs hands lost = record { new = acts; arranged = record { same = record { server = refl; jobs = λ j. refl }; hands = hands; lost = lost }; timely = λ i low. absurd (omega (arith, low)) }
 arrange_to owner (suc n) acts first last limits one legal runs hands lost = arrange_more owner n acts first last limits one legal runs (arrange_to owner n acts first last limits one legal runs hands lost)
 
@@ -481,7 +481,7 @@ pub record InTime (owner : Owner) (acts : Acts) : Type 0 where
   pub arranged : Arranged owner acts new
   pub timely : AreTimely owner new
 
-pub arrange : (owner : Owner) (n : ℕ) (acts : Acts) (first last : Core) → HasDaemonLimits first → first.opened ≡ 0 → HaveOneSession owner → ((k i : ℕ) → owner k ≡ Some i → i < n) → IsJournal (server_journal acts) → DaemonRuns first (server_journal acts) last → HandsOn traffic_of owner acts → LostBringNoMore owner acts → InTime owner acts
+pub arrange : (owner : Owner) (n : ℕ) (acts : Acts) (first last : Core) → HasDaemonLimits first → first.opened ≡ 0 → HaveOneSession owner → ((k i : ℕ) → owner k ≡ Some i → i < n) → IsJournal (server_journal acts) → DaemonRuns first (server_journal acts) last → HandsOnAmong traffic_of owner acts → LostBringNoMore owner acts → InTime owner acts
 arrange owner n acts first last limits zero_opened one within legal runs hands lost =
     let a = arrange_to owner n acts first last limits one legal runs hands lost in
     record { new = a.new; arranged = a.arranged; timely = all_timely owner n a.new within a.timely }

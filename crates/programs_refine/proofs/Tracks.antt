@@ -26,6 +26,9 @@ use Rattle.event_world.specs.Endpoints.{IsNew, after_link_loss, with_data_opened
 use Rattle.event_world.specs.JobEvents.{Can, Does, Happens, IsFlowing, frame_state_at, is_done}
 use Rattle.event_world.specs.Worlds.{AtEndpoint, Leads, Runs, WorldCore}
 use Rattle.in_flight.proofs.Slots.{decide}
+use Rattle.strangers.specs.Together.{JointEvent, RunsAmong, events_among}
+use Rattle.strangers.specs.Together.JointEvent.{OfJobs, OfStranger}
+use Rattle.world_refines.proofs.state.ListEntries.{set_length}
 use Rattle.programs_refine.specs.Programs.{HasFilesOf}
 use Rattle.programs_refine.specs.WorldHistory.{AreOfConnections, IsOfConnections, LeadsBy}
 use Rattle.programs_refine.proofs.Lists.{same_there, set_other, set_there, within}
@@ -159,6 +162,7 @@ pub record HasLeft (done : Traffics) (c : ClientState) (p : Endpoint) : Type 0 w
   pub ended : is_running c.outcome ≡ false → p.client.outcome ≡ c.outcome
   pub stopped : is_running c.outcome ≡ true → p.client.outcome ≡ lost_outcome
   pub files : FilesTrack done.turned done.given p
+  pub link : p.link ≡ None
 
 pub data JobTracks (owner : Owner) (opened : ℕ) (flying : ℕ → List ℕ) (passed : ℕ → Passed) (done : Traffics) (i : ℕ) (job : Job) (c : ClientState) (p : Endpoint) : Type 0 where
   Unlinked : IsUnlinked owner opened passed done i job c p → JobTracks owner opened flying passed done i job c p
@@ -167,24 +171,52 @@ pub data JobTracks (owner : Owner) (opened : ℕ) (flying : ℕ → List ℕ) (p
 
 -- ---- all of them
 
--- what stays as it is from the first act to the last: what sources are, the world at first, whose sessions are, the jobs
+-- what stays as it is from the first act to the last: what sources are, the world at first, whose sessions are, whether strangers may
+-- speak, the jobs
 pub record Course : Type 0 where
   pub source : Source → SourceState
   pub first : WorldCore
   pub owner : Owner
+  pub among : Bool
   pub jobs : List Job
 
-abbrev pub course_of : (Source → SourceState) → WorldCore → Owner → List Job → Course
-course_of source first owner jobs = record { source = source; first = first; owner = owner; jobs = jobs }
+abbrev pub course_of : (Source → SourceState) → WorldCore → Owner → Bool → List Job → Course
+course_of source first owner among jobs = record { source = source; first = first; owner = owner; among = among; jobs = jobs }
+
+-- each act of a stranger is for a session that no job has, and where none may speak there is none
+abbrev pub AreTheirs : Owner → Bool → List JointEvent → Type 0
+AreTheirs owner among [] = Unit {0}
+AreTheirs owner among (OfJobs e ∷ xs) = AreTheirs owner among xs
+AreTheirs owner among (OfStranger a ∷ xs) = (owner a.session ≡ None) × (among ≡ true) × AreTheirs owner among xs
+
+-- events of connections and such acts led to a world
+pub record Led (course : Course) (events : List JointEvent) (w : WorldCore) : Type 0 where
+  pub are : AreOfConnections (events_among events)
+  pub theirs : AreTheirs course.owner course.among events
+  pub runs : RunsAmong course.source events course.first w
+
+-- so it is in each world to which these led
+abbrev pub AlwaysIn : Course → (WorldCore → Type 0) → Type 0
+AlwaysIn course Holds = (events : List JointEvent) (w : WorldCore) → Led course events w → Holds w
+
+-- without strangers they are events alone
+pub alone : (source : Source → SourceState) (owner : Owner) (among : Bool) (events : List JointEvent) (w v : WorldCore) → among ≡ false → AreTheirs owner among events → RunsAmong source events w v → Runs source (events_among events) w v
+alone source owner among [] w v off theirs r = r
+alone source owner among (OfJobs e ∷ xs) w v off theirs r = (r.0, r.1, alone source owner among xs r.0 v off theirs r.2)
+alone source owner among (OfStranger a ∷ xs) w v off theirs r = absurd (let clash : true ≡ false = sym theirs.1 ∙ off in cc)
+
+pub led_alone : (course : Course) (events : List JointEvent) (w : WorldCore) → course.among ≡ false → Led course events w → LeadsBy course.source course.first (events_among events) w
+led_alone course events w off l = record { are = l.are; runs = alone course.source course.owner course.among events course.first w off l.theirs l.runs }
 
 pub record Tracks (course : Course) (passed : ℕ → Passed) (done : ℕ → Traffics) (d : Core) (c : ℕ → ClientState) : Type 0 where
-  pub events : List Event
+  pub events : List JointEvent
   pub w : WorldCore
-  pub leads : LeadsBy course.source course.first events w
+  pub leads : Led course events w
+  pub count : length w.endpoints ≡ length course.jobs
   pub flying : ℕ → List ℕ
   pub differs : DiffersInFlight flying d w.daemon
   pub slots : (n : ℕ) → session_slot_of w.daemon.slots n ≢ None → (passed n).is_open ≡ true
-  pub owned : (n : ℕ) → (passed n).is_open ≡ true → (i : ℕ) × (course.owner n ≡ Some i)
+  pub owned : course.among ≡ false → (n : ℕ) → (passed n).is_open ≡ true → (i : ℕ) × (course.owner n ≡ Some i)
   -- no frame flows behind its end, or behind the loss of its connection
   pub calm : (n : ℕ) → ((passed n).dropped || (passed n).last) ≡ true → IsFlowing (frame_state_at w.daemon n) → ⊥
   pub each : (i : ℕ) (job : Job) → slice_get course.jobs i ≡ Some job → (p : Endpoint) × (slice_get w.endpoints i ≡ Some p) × JobTracks course.owner d.opened flying passed (done i) i job (c i) p
@@ -221,36 +253,45 @@ at_endpoint w i p event e q at can does =
       beyond = λ far. absurd (let low = within w.endpoints i p at in omega (arith, far, low));
     }
 
-runs_more : (source : Source → SourceState) (events : List Event) (event : Event) (first w v : WorldCore) → Runs source events first w → Leads source event w v → Runs source (events ++ event ∷ []) first v
-runs_more source [] event first w v r l = (v, subst (λ (x : WorldCore). Leads source event x v) r l, refl)
-runs_more source (e ∷ events) event first w v r l = (r.0, r.1, runs_more source events event r.0 w v r.2 l)
+runs_more : (source : Source → SourceState) (events : List JointEvent) (x : JointEvent) (first w v : WorldCore) → RunsAmong source events first w → RunsAmong source (x ∷ []) w v → RunsAmong source (events ++ x ∷ []) first v
+runs_more source [] x first w v r l = subst (λ (y : WorldCore). RunsAmong source (x ∷ []) y v) r l
+runs_more source (OfJobs e ∷ events) x first w v r l = (r.0, r.1, runs_more source events x r.0 w v r.2 l)
+runs_more source (OfStranger a ∷ events) x first w v r l = (r.0, r.1, runs_more source events x r.0 w v r.2 l)
 
-are_more : (events : List Event) (event : Event) → AreOfConnections events → IsOfConnections event → AreOfConnections (events ++ event ∷ [])
-are_more [] event all is = (is, tt)
-are_more (e ∷ events) event all is = (all.0, are_more events event all.1 is)
+are_more : (events : List JointEvent) (x : JointEvent) → AreOfConnections (events_among events) → AreOfConnections (events_among (x ∷ [])) → AreOfConnections (events_among (events ++ x ∷ []))
+are_more [] x all is = is
+are_more (OfJobs e ∷ events) x all is = (all.0, are_more events x all.1 is)
+are_more (OfStranger a ∷ events) x all is = are_more events x all is
 
-pub leads_more : (source : Source → SourceState) (events : List Event) (event : Event) (first w v : WorldCore) → LeadsBy source first events w → IsOfConnections event → Leads source event w v → LeadsBy source first (events ++ event ∷ []) v
-leads_more source events event first w v l is leads = record { are = are_more events event l.are is; runs = runs_more source events event first w v l.runs leads }
+theirs_more : (owner : Owner) (among : Bool) (events : List JointEvent) (x : JointEvent) → AreTheirs owner among events → AreTheirs owner among (x ∷ []) → AreTheirs owner among (events ++ x ∷ [])
+theirs_more owner among [] x all is = is
+theirs_more owner among (OfJobs e ∷ events) x all is = theirs_more owner among events x all is
+theirs_more owner among (OfStranger a ∷ events) x all is = (all.0, all.1, theirs_more owner among events x all.2 is)
+
+pub led_more : (course : Course) (events : List JointEvent) (x : JointEvent) (w v : WorldCore) → Led course events w → AreOfConnections (events_among (x ∷ [])) → AreTheirs course.owner course.among (x ∷ []) → RunsAmong course.source (x ∷ []) w v → Led course (events ++ x ∷ []) v
+led_more course events x w v l is theirs leads = record { are = are_more events x l.are is; theirs = theirs_more course.owner course.among events x l.theirs theirs; runs = runs_more course.source events x course.first w v l.runs leads }
 
 -- a world to which nothing happened, or an event of job i alone
-pub record Moved (source : Source → SourceState) (first w : WorldCore) (i : ℕ) (q : Endpoint) (e : Core) : Type 0 where
-  pub events : List Event
+pub record Moved (course : Course) (w : WorldCore) (i : ℕ) (q : Endpoint) (e : Core) : Type 0 where
+  pub events : List JointEvent
   pub v : WorldCore
-  pub leads : LeadsBy source first events v
+  pub leads : Led course events v
   pub daemon : v.daemon ≡ e
+  pub count : length v.endpoints ≡ length w.endpoints
   pub own : slice_get v.endpoints i ≡ Some q
   pub others : (j : ℕ) → j ≢ i → slice_get v.endpoints j ≡ slice_get w.endpoints j
 
-unfoldable pub not_moved : (source : Source → SourceState) (events : List Event) (first w : WorldCore) (i : ℕ) (p : Endpoint) → LeadsBy source first events w → slice_get w.endpoints i ≡ Some p → Moved source first w i p w.daemon
-not_moved source events first w i p l at = record { events = events; v = w; leads = l; daemon = refl; own = at; others = λ j off. refl }
+unfoldable pub not_moved : (course : Course) (events : List JointEvent) (w : WorldCore) (i : ℕ) (p : Endpoint) → Led course events w → slice_get w.endpoints i ≡ Some p → Moved course w i p w.daemon
+not_moved course events w i p l at = record { events = events; v = w; leads = l; daemon = refl; count = refl; own = at; others = λ j off. refl }
 
-unfoldable pub moved : (source : Source → SourceState) (events : List Event) (event : Event) (first w : WorldCore) (i : ℕ) (p q : Endpoint) (e : Core) → LeadsBy source first events w → slice_get w.endpoints i ≡ Some p → IsOfConnections event → Leads source event w (world_with w i e q)
-    → Moved source first w i q e
-moved source events event first w i p q e l at is leads = record {
-  events = events ++ event ∷ [];
+unfoldable pub moved : (course : Course) (events : List JointEvent) (event : Event) (w : WorldCore) (i : ℕ) (p q : Endpoint) (e : Core) → Led course events w → slice_get w.endpoints i ≡ Some p → IsOfConnections event → Leads course.source event w (world_with w i e q)
+    → Moved course w i q e
+moved course events event w i p q e l at is leads = record {
+  events = events ++ OfJobs event ∷ [];
   v = world_with w i e q;
-  leads = leads_more source events event first w (world_with w i e q) l is leads;
+  leads = led_more course events (OfJobs event) w (world_with w i e q) l (is, tt) tt (world_with w i e q, leads, refl);
   daemon = refl;
+  count = set_length w.endpoints i q;
   own = set_there w.endpoints i p q at;
   others = λ j off. set_other w.endpoints i j q (λ same. off (sym same));
 }
@@ -258,13 +299,14 @@ moved source events event first w i p q e l at is leads = record {
 -- ---- one job goes on, and the others stay
 
 pub goes_on : (course : Course) (passed passed_new : ℕ → Passed) (done done_new : ℕ → Traffics) (d d_new : Core) (c c_new : ℕ → ClientState) (t : Tracks course passed done d c)
-    → (i : ℕ) (q : Endpoint) (e : Core) (m : Moved course.source course.first t.w i q e) (flying : ℕ → List ℕ) → DiffersInFlight flying d_new e → ((n : ℕ) → session_slot_of e.slots n ≢ None → (passed_new n).is_open ≡ true) → ((n : ℕ) → (passed_new n).is_open ≡ true → (j : ℕ) × (course.owner n ≡ Some j)) → IsCalm passed_new e → d.opened ≤ d_new.opened
+    → (i : ℕ) (q : Endpoint) (e : Core) (m : Moved course t.w i q e) (flying : ℕ → List ℕ) → DiffersInFlight flying d_new e → ((n : ℕ) → session_slot_of e.slots n ≢ None → (passed_new n).is_open ≡ true) → (course.among ≡ false → (n : ℕ) → (passed_new n).is_open ≡ true → (j : ℕ) × (course.owner n ≡ Some j)) → IsCalm passed_new e → d.opened ≤ d_new.opened
     → ((j : ℕ) → j ≢ i → (k : ℕ) → course.owner k ≡ Some j → (d.opened ≤ k → d_new.opened ≤ k) × (passed_new k ≡ passed k) × (flying k ≡ t.flying k)) → ((j : ℕ) → j ≢ i → (done_new j ≡ done j) × (c_new j ≡ c j))
     → ((job : Job) → slice_get course.jobs i ≡ Some job → JobTracks course.owner d_new.opened flying passed_new (done_new i) i job (c_new i) q) → Tracks course passed_new done_new d_new c_new
 goes_on course passed passed_new done done_new d d_new c c_new t i q e m flying differs slots owned calm more others still mine = record {
   events = m.events;
   w = m.v;
   leads = m.leads;
+  count = m.count ∙ t.count;
   flying = flying;
   differs = subst (λ (x : Core). DiffersInFlight flying d_new x) (sym m.daemon) differs;
   slots = subst (λ (x : Core). (n : ℕ) → session_slot_of x.slots n ≢ None → (passed_new n).is_open ≡ true) (sym m.daemon) slots;

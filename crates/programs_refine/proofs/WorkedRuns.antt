@@ -1,6 +1,6 @@
 -- Small runs over connections that meet every premise.
-use Rattle.std.specs.Prelude.{◌<◌, ◌≤◌, ◌==◌, ◌||◌}
-use Rattle.std.proofs.Common.{◌≡◌, ◌≢◌, ◌∙◌, inl, inr, ℕ, zero, suc, Bool, true, false, Option, Some, None, List, [], ◌∷◌, ◌++◌, length, slice_get, take, eqb, refl, sym, ap, subst, arith, append-nil}
+use Rattle.std.specs.Prelude.{◌<◌, ◌≤◌}
+use Rattle.std.proofs.Common.{◌≡◌, ◌∙◌, inl, inr, ℕ, zero, suc, true, false, Some, None, List, [], ◌∷◌, slice_get, eqb, refl, sym, ap, subst, arith}
 use Rattle.std.proofs.lemmas.List.Elements.{All-from_recursion}
 use Rattle.std.proofs.lemmas.Bool.{ne_eqb}
 use Rattle.rand_chacha.specs.ChaCha.{ChaCha}
@@ -13,10 +13,10 @@ use Rattle.scan_job.specs.declared.job.Job.{Job}
 use Rattle.scan_job.specs.JobSize.{HasCount}
 use Rattle.client_replies.specs.ProtocolStates.{is_running}
 use Rattle.net_client.specs.ClientStates.{ClientState, IsNewClient}
-use Rattle.net_jobs.specs.JobSteps.{JobStep, StepsLead}
+use Rattle.net_jobs.specs.JobSteps.{StepsLead}
 use Rattle.saned_requests.specs.declared.session.StringSize.{StringSize}
 use Rattle.saned_requests.specs.Holding.{fresh_session}
-use Rattle.saned_core.specs.declared.session_slot.Fed.TheVariants.{Standing, Over, Starved}
+use Rattle.saned_core.specs.declared.session_slot.Fed.TheVariants.{Starved}
 use Rattle.saned_core.specs.declared.session_slot.SessionSlot.{SessionSlot}
 use Rattle.saned_core.specs.DaemonStates.{Core, after_open_session, after_taken, no_more, on_session_slot, session_slot_of, with_session_slot}
 use Rattle.saned_core.specs.Feeding.{Feeds, core_context}
@@ -28,9 +28,10 @@ use Rattle.saned_serve.specs.Journal.{LoopAction, empty_projection, projection_o
 use Rattle.saned_serve.specs.Journal.LoopAction.{Of}
 use Rattle.interleaving.specs.Interleavings.{bytes_heard, bytes_sent, connections_accepted, connections_made, job_journal, server_journal}
 use Rattle.interleaving.specs.Interleavings.JointAction.{OfJob}
+use Rattle.interleaving.specs.AmongStrangers.{owned_by_none}
 use Rattle.interleaving.specs.HandingOn.{HandsOn, HaveOneSession}
-use Rattle.programs_refine.specs.Programs.{JobsLead, OwnersAreJobs, RunOverConnections}
-use Rattle.programs_refine.specs.WorkedRuns.{LostAtOnceIsARun, NewIsFit, StarvedIsARun, StarvedIsKept, loses, lost_client, new_core, owned_by_first, owned_by_none, starved_acts, writes}
+use Rattle.programs_refine.specs.Programs.{OwnersAreJobs}
+use Rattle.programs_refine.specs.WorkedRuns.{LostAtOnceIsARun, NewIsFit, StarvedIsARun, StarvedIsKept, loses, lost_client, new_core, owned_by_first, starved_acts, writes}
 
 -- of one job
 pub one_job : (job other : Job) (i : ℕ) (P : ℕ → Job → Type 0) → slice_get (job ∷ []) i ≡ Some other → P 0 job → P i other
@@ -42,10 +43,10 @@ runs job c new = ap (λ (z : ClientState). is_running z.outcome) new.value
 
 -- ---- 1
 
-loses_leads : (job : Job) (c : ClientState) → IsNewClient job c → StepsLead c (loses ∷ []) (lost_client c)
+pub loses_leads : (job : Job) (c : ClientState) → IsNewClient job c → StepsLead c (loses ∷ []) (lost_client c)
 loses_leads job c new = (c, refl, refl, (refl, refl, record { lost = runs job c new; new_is = refl }))
 
-none_owned : (jobs : List Job) → OwnersAreJobs owned_by_none jobs
+pub none_owned : (jobs : List Job) → OwnersAreJobs owned_by_none jobs
 none_owned jobs = record { within = λ k i e. absurd (let clash : None ≡ Some i = e in cc); one = λ j k i e f. absurd (let clash : None ≡ Some i = e in cc) }
 
 pub lost_at_once : LostAtOnceIsARun
@@ -85,19 +86,19 @@ starves_leads : (job : Job) (c : ClientState) → IsNewClient job c → StepsLea
 starves_leads job c new = (record c { out = [] }, (c, refl, refl, (refl, refl, record { all = refl; new_is = refl })), refl, (refl, refl, record { lost = runs job c new; new_is = refl }))
 
 -- the daemon behind each act: a session is opened, none of its replies are taken, and it ran out of memory
-abbrev core_1 : Table → List Entry → StringSize → ChaCha → ℕ → Core
+abbrev pub core_1 : Table → List Entry → StringSize → ChaCha → ℕ → Core
 core_1 registry users strings stream port = after_open_session (new_core registry users strings stream) port
 
-abbrev core_2 : Table → List Entry → StringSize → ChaCha → ℕ → Core
+abbrev pub core_2 : Table → List Entry → StringSize → ChaCha → ℕ → Core
 core_2 registry users strings stream port = record (core_1 registry users strings stream port) { slots = on_session_slot (after_taken 0) 0 (core_1 registry users strings stream port).slots }
 
-abbrev core_3 : Table → List Entry → StringSize → ChaCha → ℕ → Core
+abbrev pub core_3 : Table → List Entry → StringSize → ChaCha → ℕ → Core
 core_3 registry users strings stream port = record (core_2 registry users strings stream port) { slots = on_session_slot no_more 0 (core_2 registry users strings stream port).slots }
 
 none_number : (slot new : SessionSlot DeviceState) → no_more slot ≡ Some new → new.number ≡ slot.number
 none_number slot new e = absurd (let clash : None ≡ Some new = e in cc)
 
-starves : (registry : Table) (users : List Entry) (strings : StringSize) (stream : ChaCha) (port byte : ℕ) → Feeds 0 (core_2 registry users strings stream port) (byte ∷ []) Starved (core_3 registry users strings stream port)
+pub starves : (registry : Table) (users : List Entry) (strings : StringSize) (stream : ChaCha) (port byte : ℕ) → Feeds 0 (core_2 registry users strings stream port) (byte ∷ []) Starved (core_3 registry users strings stream port)
 unfolding session_slot_of on_session_slot with_session_slot
 starves registry users strings stream port byte =
     let d = core_2 registry users strings stream port in
@@ -132,7 +133,7 @@ first_projection : (id : ℕ) → projection_of id [] ≡ empty_projection
 unfolding projection_of
 first_projection id = refl
 
-unused_behind : (id port byte : ℕ) → 1 ≤ id → projection_of id (Of 0 (Feed (byte ∷ []) Starved false) ∷ Of 0 (Hears (Moved 1) 4096 (byte ∷ [])) ∷ Of 0 (Take 4096 []) ∷ Of 0 (Opens port) ∷ []) ≡ empty_projection
+pub unused_behind : (id port byte : ℕ) → 1 ≤ id → projection_of id (Of 0 (Feed (byte ∷ []) Starved false) ∷ Of 0 (Hears (Moved 1) 4096 (byte ∷ [])) ∷ Of 0 (Take 4096 []) ∷ Of 0 (Opens port) ∷ []) ≡ empty_projection
 unused_behind id port byte low =
     let off = ne_eqb 0 id (λ same. omega (arith, low, same)) in
     other_projection id _ _ off ∙ (other_projection id _ _ off ∙ (other_projection id _ _ off ∙ (other_projection id _ _ off ∙ first_projection id)))

@@ -1,7 +1,6 @@
 -- From what the loops ensure of their journals to a run over connections.
 use Rattle.std.specs.Prelude.{ℕ, ◌≡◌, ◌⊎◌, Option, Some, List, All, slice_get}
 use Rattle.scan_job.specs.declared.job.Job.{Job}
-use Rattle.scan_job.specs.declared.outcome.Outcome.{Outcome}
 use Rattle.scan_job.specs.declared.outcome.Outcome.TheVariants.{Done, Ended}
 use Rattle.scan_job.specs.declared.outcome.Why.TheVariants as whys
 use Rattle.scan_job.specs.declared.report.Reports.{Reports}

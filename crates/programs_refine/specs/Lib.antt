@@ -5,3 +5,5 @@ pub mod Keeping
 pub mod StoppedLoops
 pub mod WorkedRuns
 pub mod LedInto
+pub mod AmongStrangers
+pub mod KeepingAmong

@@ -1,5 +1,5 @@
 -- Small runs over connections that meet every premise.
-use Rattle.std.specs.Prelude.{ℕ, zero, suc, ◌≡◌, Option, Some, None, false, List, [], ◌∷◌, All}
+use Rattle.std.specs.Prelude.{ℕ, zero, suc, ◌≡◌, Some, None, false, List, [], ◌∷◌, All}
 use Rattle.rand_chacha.specs.ChaCha.{ChaCha}
 use Rattle.md5_auth.specs.declared.users.Entry.{Entry}
 use Rattle.sane_fixed.specs.declared.status.Status.TheVariants as statuses
@@ -22,6 +22,7 @@ use Rattle.saned_serve.specs.declared.sockets.Got.TheVariants.{Moved}
 use Rattle.saned_serve.specs.SessionActions.SessionAction.{Feed, Hears, Opens, Take}
 use Rattle.saned_serve.specs.Journal.LoopAction.{Of}
 use Rattle.interleaving.specs.Interleavings.JointAction.{OfJob, OfServer}
+use Rattle.interleaving.specs.AmongStrangers.{owned_by_none}
 use Rattle.interleaving.specs.HandingOn.{Owner}
 use Rattle.event_world.specs.Worlds.{IsFitJob}
 use Rattle.programs_refine.specs.Keeping.{AllLoopsAreKept, AreFit}
@@ -39,9 +40,6 @@ new_core registry users strings stream = record {
   stream = stream;
   opened = 0;
 }
-
-abbrev pub owned_by_none : Owner
-owned_by_none k = None
 
 -- the first session is the first job's
 abbrev pub owned_by_first : Owner

@@ -5,10 +5,16 @@
 ghost use Rattle.programs_refine.specs.Keeping.{ProgramsKeepAll, WorldsHearInTurn, WorldsWantBeforeItFlows};
 ghost use Rattle.programs_refine.specs.Programs.{ProgramsAreAWorld};
 
+mod among_strangers;
 mod led_into;
 mod stopped_loops;
 mod worked_runs;
 
+pub use among_strangers::{
+    a_run_among_strangers_is_kept, a_stranger_may_come, programs_are_a_world_among_strangers,
+    programs_keep_among_strangers, runs_are_among_strangers, strangers_complete_no_loop,
+    worlds_keep_turn_among_strangers,
+};
 pub use led_into::{loops_lead, loops_lead_into_runs};
 use scan_world::all_is_right;
 pub use stopped_loops::programs_keep_each;

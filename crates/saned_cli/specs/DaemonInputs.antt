@@ -5,6 +5,7 @@ use Rattle.std.specs.Str.{bytes_eq}
 use Rattle.dispatch.specs.ConfigLines.{HasConfigFault}
 use Rattle.md5_auth.specs.UserLines.{HasLineFault, TellsUsers}
 use Rattle.md5_auth.specs.declared.users.Entry.{Entry}
+use Rattle.md5_auth.specs.declared.line_fault.LineFault.{LineFault}
 use Rattle.config_pages.specs.InputTexts.{InputTexts}
 use Rattle.saned_cli.specs.declared.daemon_ending.DaemonEnding.{DaemonEnding}
 use Rattle.saned_cli.specs.declared.daemon_options.DaemonOptions.{DaemonOptions}
@@ -55,12 +56,24 @@ abbrev pub AreUsersAt : InputTexts → Option (List ℕ) → List Entry → Type
 AreUsersAt texts None users = TellsUsers [] users
 AreUsersAt texts (Some path) users = TellsUsersIn (texts.file path) users
 
--- **the config and the users that are named (`config_text`, `AreUsersIn`)**: the text on standard input, for `-`, or in
--- the file of that path; the users of the text in the file that is named, and those of an empty text where none is.
+-- **the config and the users that are named (`config_text`, `AreUsersIn`, `RefusesConfigIn`, `RefusesUsersIn`)**: the
+-- text on standard input, for `-`, or in the file of that path; the users of the text in the file that is named, and
+-- those of an empty text where none is; and that the one or the others are not taken, for what is told of that text.
 abbrev pub config_text : InputTexts → DaemonOptions → Option (List ℕ)
 config_text texts options =
     if bytes_eq (string_bytes options.config) (codes "-") then texts.standard
     else texts.file (string_bytes options.config)
 
+abbrev pub RefusesConfigIn : InputTexts → DaemonOptions → DaemonEnding → Type 0
+RefusesConfigIn texts options = RefusesDaemonConfig (string_bytes options.config) (config_text texts options)
+
 abbrev pub AreUsersIn : InputTexts → DaemonOptions → List Entry → Type 0
 AreUsersIn texts options users = AreUsersAt texts (option_map string_bytes options.users) users
+
+abbrev pub RefusesUsersAt : InputTexts → Option (List ℕ) → DaemonEnding → Type 0
+RefusesUsersAt texts None ending =
+    (fault : LineFault) × (ending ≡ Users fault) × HasLineFault [] fault.line fault.reason
+RefusesUsersAt texts (Some path) ending = RefusesUsers path (texts.file path) ending
+
+abbrev pub RefusesUsersIn : InputTexts → DaemonOptions → DaemonEnding → Type 0
+RefusesUsersIn texts options = RefusesUsersAt texts (option_map string_bytes options.users)

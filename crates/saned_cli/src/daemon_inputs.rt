@@ -2,7 +2,7 @@ ghost use Rattle.std.specs.Prelude.{◌≡◌, IfErr, IfOk, IsOk, OnOk, string_b
 ghost use Rattle.config_pages.specs.ConfigReading.{remaining_of};
 ghost use Rattle.config_pages.specs.InputTexts.{TellsLines, input_texts};
 ghost use Rattle.saned_cli.specs.DaemonEndings.{IsDaemonFailure};
-ghost use Rattle.saned_cli.specs.DaemonInputs.{AreUsersIn, IsUnreadFile, RefusesDaemonConfig, RefusesUsers, TellsUsersIn, config_text};
+ghost use Rattle.saned_cli.specs.DaemonInputs.{AreUsersIn, IsUnreadFile, RefusesConfigIn, RefusesDaemonConfig, RefusesUsers, RefusesUsersIn, TellsUsersIn, config_text};
 
 use crate::daemon_ending::DaemonEnding;
 use crate::daemon_options::DaemonOptions;
@@ -51,6 +51,9 @@ pub fn config_from<R: Read + Drop>(
         (λ lines. TellsLines (remaining_of R.remaining opened) lines.items) }
     ensures refused { IfErr result
         (RefusesDaemonConfig name.now (remaining_of R.remaining opened)) }
+    /// Of a config or a users file that could not be opened that is told, or that memory ran out, and no bad line.
+    /// Carried by: `unopened` of `config_from`, of `users_from`
+    ensures unopened { IfErr opened (λ _. IfErr result (IsUnreadFile name.now)) }
 {
     match read_config(alloc, opened) {
         Ok(lines) => Ok(lines),
@@ -73,6 +76,7 @@ pub fn users_from<R: Read + Drop>(
     ensures opened { OnOk result (IsOk opened) }
     ensures users { IfOk result (TellsUsersIn (remaining_of R.remaining opened)) }
     ensures refused { IfErr result (RefusesUsers name.now (remaining_of R.remaining opened)) }
+    ensures unopened { IfErr opened (λ _. IfErr result (IsUnreadFile name.now)) }
 {
     let reader = match opened {
         Ok(reader) => reader,
@@ -100,6 +104,11 @@ pub fn config_lines<I: Inputs>(
     ensures lines { IfOk result (λ lines. TellsLines (config_text
         (input_texts (I.standard_text inputs.now) (I.file_text inputs.now))
         options.now) lines.items) }
+    /// A config is refused for the first bad line of that text, or since the file of that name cannot be read, or for want of
+    /// memory; and so are the users.
+    /// Carried by: `refused` of `config_lines`, of `users_of`
+    ensures refused { IfErr result (RefusesConfigIn
+        (input_texts (I.standard_text inputs.now) (I.file_text inputs.now)) options.now) }
     /// Where a config or a users file is not there, no ending has the exit status 0.
     /// Carried by: `failed` of `config_lines`, of `users_of`
     ensures failed { IfErr result IsDaemonFailure }
@@ -122,6 +131,8 @@ pub fn users_of<I: Inputs>(
     /// where they name none.
     /// Carried by: `users` of `users_of`: `AreUsersIn`
     ensures users { IfOk result (AreUsersIn
+        (input_texts (I.standard_text inputs.now) (I.file_text inputs.now)) options.now) }
+    ensures refused { IfErr result (RefusesUsersIn
         (input_texts (I.standard_text inputs.now) (I.file_text inputs.now)) options.now) }
     ensures failed { IfErr result IsDaemonFailure }
 {

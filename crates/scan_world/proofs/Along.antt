@@ -14,8 +14,9 @@ use Rattle.system_model.specs.AbstractInForce.{SettingsResult, abstract_in_force
 use Rattle.system_model.specs.Settings.{SettingsMeanTheSame, pair_of}
 use Rattle.system_model.specs.AbstractDevices.{AbstractDevice}
 use Rattle.system_model.specs.SystemStates.{SystemState, make_for, device_for, wanted_place}
-use Rattle.system_model.specs.Transitions.{By, IsEnabled, Loads, Transition, Unplugs, after_transition}
-use Rattle.system_model.specs.Marks.{DeviceView, MarksLead, marks, device_view, touched_device}
+use Rattle.system_model.specs.Transitions.{By, IsEnabled, Loads, Transition, Unplugs, Uses, after_transition}
+use Rattle.system_model.specs.Marks.{DeviceView, MarksLead, device_view}
+use Rattle.system_model.specs.StepMarks.{marks, touched_device}
 use Rattle.system_model.specs.ModelPromises.{CausesAreGrounded, HistoriesKeepInvariant, MarksAreEnabled, OutcomesLast}
 use Rattle.system_model.specs.Invariants.{Invariant}
 use Rattle.world_refines.specs.NewWorlds.{PageSources, make_of}
@@ -57,11 +58,13 @@ make_stays : (s : SystemState) (x : Transition) → (after_transition s x).make 
 make_stays s (By i x) = refl
 make_stays s (Loads d page) = refl
 make_stays s (Unplugs d) = refl
+make_stays s (Uses u d shown left) = refl
 
 device_stays : (s : SystemState) (x : Transition) (d : ℕ) → eqb d (touched_device s x) ≡ false → (after_transition s x).device d ≡ s.device d
 device_stays s (By i x) d e = rw e refl
 device_stays s (Loads l page) d e = rw e refl
 device_stays s (Unplugs l) d e = rw e refl
+device_stays s (Uses u l shown left) d e = rw e refl
 
 abbrev pub slot_at : SystemState → ℕ → DeviceView
 slot_at s d = device_view (s.make d) (s.device d)

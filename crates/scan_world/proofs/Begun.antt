@@ -9,7 +9,7 @@ use Rattle.system_model.specs.Daemon.{FailureCounts}
 use Rattle.system_model.specs.SystemStates.{JobState, SystemState, listed_devices, make_for, device_for, wanted_place}
 use Rattle.system_model.specs.Actions
 use Rattle.system_model.specs.Actions.{Action, answer_next, job_after_action}
-use Rattle.system_model.specs.Transitions.{By, Loads, Transition, Unplugs, after_transition, after_all}
+use Rattle.system_model.specs.Transitions.{By, Loads, Transition, Unplugs, Uses, after_transition, after_all}
 use Rattle.daemon_refines.proofs.Moved.{own}
 
 -- ---- a job stays what it is
@@ -52,6 +52,7 @@ pub job_same : (s : SystemState) (x : Transition) (i : ℕ) → ((after_transiti
 job_same s (By j x) i = job_kept s j x i (eqb i j) refl
 job_same s (Loads d page) i = refl
 job_same s (Unplugs d) i = refl
+job_same s (Uses u d shown left) i = refl
 
 pub wants_same : (s : SystemState) (x : Transition) (i : ℕ) → wanted_place (after_transition s x) i ≡ wanted_place s i
 wants_same s x i = ap (λ (job : AbstractJob). job.wants) (job_same s x i)

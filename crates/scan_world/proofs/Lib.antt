@@ -2,7 +2,6 @@ pub mod Lists
 pub mod Rows
 pub mod Jobs
 pub mod Led
-pub mod Mine
 pub mod Marked
 pub mod Begun
 pub mod Asked

@@ -4,9 +4,8 @@ use Rattle.std.specs.List.{AllByRecursion}
 use Rattle.std.proofs.Common.{◌≡◌, ℕ, List, [], ◌∷◌, Bool, true, false, Some, None, subst, sym}
 use Rattle.device_api.specs.Kinds.{Model, Page, laid_in, is_feeder}
 use Rattle.system_model.specs.AbstractDevices.{Begin, without_first}
-use Rattle.system_model.specs.Marks.{Mark, Took, Started, Rested, Returned, Loaded, Removed, DeviceView, MarksLead, MayMark, view_after_mark, starts_in}
+use Rattle.system_model.specs.Marks.{IsMarkOf, Mark, Took, Started, Rested, Returned, Loaded, Removed, DeviceView, MarksLead, MayMark, view_after_mark, starts_in}
 use Rattle.scan_world.proofs.Lists.{all_then}
-use Rattle.scan_world.proofs.Mine.{IsMine}
 use Rattle.device_api.specs.State.{pages_with}
 use Rattle.device_api.proofs.KindLaws.{laid_is}
 
@@ -76,7 +75,7 @@ starts_all R (Loaded d page ∷ ms) a = starts_all R ms a.1
 starts_all R (Removed d ∷ ms) a = starts_all R ms a.1
 
 -- a this_action lays no page in
-pub mine_loads : (P : Page → Type 0) (i d : ℕ) (m : Mark) → IsMine i d m → LoadsIt P m
+pub mine_loads : (P : Page → Type 0) (i d : ℕ) (m : Mark) → IsMarkOf i d m → LoadsIt P m
 mine_loads P i d (Took j e) h = tt
 mine_loads P i d (Started j e begin) h = tt
 mine_loads P i d (Rested j e) h = tt

@@ -7,7 +7,7 @@ use Rattle.frame_join.specs.FrameHistory.{JoinHistory}
 use Rattle.system_model.specs.Actions as model_actions
 use Rattle.system_model.specs.Daemon.{Quiet, Waiting}
 use Rattle.system_model.specs.SystemStates.{JobState, SystemState}
-use Rattle.system_model.specs.Transitions.{By, Loads, Transition, Unplugs, after_transition, after_all}
+use Rattle.system_model.specs.Transitions.{By, Loads, Transition, Unplugs, Uses, after_transition, after_all}
 use Rattle.event_world.specs.declared.endpoint.Endpoint.{Endpoint}
 use Rattle.event_world.specs.declared.event.Event.{Event}
 use Rattle.event_world.specs.declared.event.Event.TheVariants.{Connect, ToDaemon, ToClient, DataConnect, DataTurn, DataToClient, LoseControl, LoseImage, Cancel, Load, Unplug}
@@ -29,6 +29,7 @@ abbrev pub IsOfJob : ℕ → Transition → Type 0
 IsOfJob count (By j x) = j < count
 IsOfJob count (Loads d page) = Unit {0}
 IsOfJob count (Unplugs d) = Unit {0}
+IsOfJob count (Uses u d shown left) = ⊥
 
 -- nothing ever happened to it
 pub record Untouched (t : Ghost) (j : ℕ) : Type 0 where
@@ -81,6 +82,7 @@ of_job : (count i : ℕ) (w : JobEvent) (x : Transition) → i < count → ByOf 
 of_job count i w (By j x) less o = subst (λ (n : ℕ). n < count) (sym o.0) less
 of_job count i w (Loads d page) less o = tt
 of_job count i w (Unplugs d) less o = tt
+of_job count i w (Uses u d shown left) less o = absurd o
 
 none_of : (count : ℕ) (steps : List Transition) → steps ≡ [] → AllByRecursion (IsOfJob count) steps
 none_of count steps e = subst (λ (xs : List Transition). AllByRecursion (IsOfJob count) xs) (sym e) tt
@@ -96,11 +98,13 @@ of_load : (t : Ghost) (name : List ℕ) (source : _) (x : Transition) → StepOf
 of_load t name source (By j x) o = absurd o
 of_load t name source (Loads d page) o = tt
 of_load t name source (Unplugs d) o = tt
+of_load t name source (Uses u d shown left) o = absurd o
 
 of_unplug : (t : Ghost) (name : List ℕ) (x : Transition) → StepOf t.infos (Unplug name) x → IsOfJob t.count x
 of_unplug t name (By j x) o = absurd o
 of_unplug t name (Loads d page) o = tt
 of_unplug t name (Unplugs d) o = tt
+of_unplug t name (Uses u d shown left) o = absurd o
 
 jobs_of : (e : Event) (t : Ghost) (steps : List Transition) (u : Ghost) → AreUntouched t → GhostComes source_state e t steps u → AllByRecursion (IsOfJob t.count) steps
 jobs_of (Connect i) t steps u a h = may_of _ events.Connect i t steps u a (comes_of (Connect i) t steps u h) h
@@ -156,6 +160,7 @@ others_stay i w [] s j e a = refl
 others_stay i w (By k x ∷ steps) s j e a = others_stay i w steps (after_transition s (By k x)) j e a.1 ∙ party_stays s k x j (subst (λ (n : ℕ). eqb j n ≡ false) (sym a.0.0) e)
 others_stay i w (Loads d page ∷ steps) s j e a = absurd a.0
 others_stay i w (Unplugs d ∷ steps) s j e a = absurd a.0
+others_stay i w (Uses u d shown left ∷ steps) s j e a = absurd a.0
 
 untouched_if : (t : Ghost) (i : ℕ) (w : JobEvent) (steps : List Transition) (u : Ghost) (j : ℕ) (b : Bool) → eqb j i ≡ b → i < t.count → (j < t.count → ⊥) → AllByRecursion (ByOf i w) steps → Moves t i steps u → Untouched t j → Untouched u j
 untouched_if t i w steps u j true e less n by go old = absurd (n (subst (λ (k : ℕ). k < t.count) (sym (eqb-true j i e)) less))

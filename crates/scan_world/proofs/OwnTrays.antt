@@ -13,11 +13,12 @@ use Rattle.daemon_refines.specs.Cores.{fresh_device}
 use Rattle.daemon_refines.proofs.Moved.{own}
 use Rattle.system_model.specs.AbstractDevices.{Begin, without_first}
 use Rattle.system_model.specs.Actions.{Action}
-use Rattle.system_model.specs.Marks.{DeviceView, Loaded, Mark, MarksLead, Removed, Rested, Returned, Started, Took, device_view, marks, starts_in, touched_device, view_after_mark}
+use Rattle.system_model.specs.Marks.{IsMarkOf, DeviceView, Loaded, Mark, MarksLead, Removed, Rested, Returned, Started, Took, device_view, starts_in, view_after_mark}
+use Rattle.system_model.specs.StepMarks.{marks, touched_device}
 use Rattle.system_model.specs.MoveRuns.{all_marks, marks_at}
 use Rattle.system_model.specs.ModelPromises.{NotesAreTrue}
 use Rattle.system_model.specs.SystemStates.{JobState, SystemState, device_for, listed_devices, make_for, wanted_place}
-use Rattle.system_model.specs.Transitions.{By, Loads, Transition, Unplugs, after_all, after_transition}
+use Rattle.system_model.specs.Transitions.{By, Loads, Transition, Unplugs, Uses, after_all, after_transition}
 use Rattle.event_world.specs.declared.event.Event.{Event}
 use Rattle.event_world.specs.declared.event.Event.TheVariants.{Connect, ToDaemon, ToClient, DataConnect, DataTurn, DataToClient, LoseControl, LoseImage, Cancel, Load, Unplug}
 use Rattle.event_world.specs.Worlds.{WorldCore}
@@ -30,12 +31,12 @@ use Rattle.scan_world.proofs.Along.{device_named}
 use Rattle.scan_world.proofs.Begun.{party_stays, wants_same}
 use Rattle.scan_world.proofs.Jobs.{item_there}
 use Rattle.scan_world.proofs.Lists.{In, all_each, all_then, contains_in}
-use Rattle.scan_world.proofs.Mine.{IsMine, action_mine}
+use Rattle.system_model.proofs.OwnMarks.{action_mine}
 use Rattle.scan_world.proofs.OfJobs.{IsOfJob, all_of_jobs}
 use Rattle.scan_world.proofs.Pages.{IsOfOne, all_of_one, name_there}
 use Rattle.scan_world.proofs.Scanned.{at_first, infos_of, kept_by, name_of, untouched_at_first, wants_there}
 use Rattle.scan_world.proofs.Sources.{sources_of}
-use Rattle.scan_world.proofs.Traced.{StepOf, each_of, traced}
+use Rattle.scan_world.proofs.Traced.{StepOf, each_of, traced, no_use}
 use Rattle.scan_world.proofs.Unhindered.{kind_of_make, names_apart}
 
 -- ---- the starts of a device, by its marks, take its pages
@@ -65,7 +66,7 @@ marks_take (Removed d ∷ ms) s t g n f = marks_take ms (view_after_mark s (Remo
 
 -- ---- no page is laid in
 
-mine_unloaded : (i d : ℕ) (m : Mark) → IsMine i d m → IsNotLoaded m
+mine_unloaded : (i d : ℕ) (m : Mark) → IsMarkOf i d m → IsNotLoaded m
 mine_unloaded i d (Took j e) h = tt
 mine_unloaded i d (Started j e begin) h = tt
 mine_unloaded i d (Rested j e) h = tt
@@ -95,9 +96,10 @@ laid_in h d page name (Unplug other) among of is none = of
 
 step_unloaded : (h : History) (d : ℕ) (name : List ℕ) (s : SystemState) (x : Transition) → name_at (infos_of h) d ≡ Some name → Unladen h name → IsOfOne h x → (b : Bool) → eqb d (touched_device s x) ≡ b → AllByRecursion IsNotLoaded (cond b (marks s x) [])
 step_unloaded h d name s x is none of false e = tt
-step_unloaded h d name s (By j this_action) is none of true e = all_each (IsMine j (wanted_place s j)) IsNotLoaded (marks s (By j this_action)) (mine_unloaded j (wanted_place s j)) (action_mine j (wanted_place s j) (make_for s j) (listed_devices s) (s.job j) (device_for s j) this_action)
+step_unloaded h d name s (By j this_action) is none of true e = all_each (IsMarkOf j (wanted_place s j)) IsNotLoaded (marks s (By j this_action)) (mine_unloaded j (wanted_place s j)) (action_mine j (wanted_place s j) (make_for s j) (listed_devices s) (s.job j) (device_for s j) this_action)
 step_unloaded h d name s (Loads place page) is none of true e = absurd (laid_in h place page name of.event of.among of.is (subst (λ (n : ℕ). name_at (infos_of h) n ≡ Some name) (eqb-true d place e) is) none)
 step_unloaded h d name s (Unplugs place) is none of true e = (tt, tt)
+step_unloaded h d name s (Uses u place shown left) is none of true e = absurd (no_use (infos_of h) of.event u place shown left of.is)
 
 all_unloaded : (h : History) (d : ℕ) (name : List ℕ) (xs : List Transition) (s : SystemState) → name_at (infos_of h) d ≡ Some name → Unladen h name → AllByRecursion (IsOfOne h) xs → AllByRecursion IsNotLoaded (all_marks d s xs)
 all_unloaded h d name [] s is none of = tt
@@ -150,6 +152,7 @@ one_start : NotesAreTrue → (s : SystemState) (n i d : ℕ) (x : Transition) �
 one_start notes s n i d (By j x) only wants low = by_start notes s n i d j x only wants low (eqb i j) refl
 one_start notes s n i d (Loads l page) only wants low = none_more (s.job i).session.started (marks_at d s (Loads l page)) (laid_none (eqb d l) l page)
 one_start notes s n i d (Unplugs l) only wants low = none_more (s.job i).session.started (marks_at d s (Unplugs l)) (removed_none (eqb d l) l)
+one_start notes s n i d (Uses u l shown left) only wants low = absurd low
 
 own_starts : NotesAreTrue → (n i d : ℕ) (xs : List Transition) (s : SystemState) → IsNamedBy s n i d → wanted_place s i ≡ d → AllByRecursion (IsOfJob n) xs → ((after_all s xs).job i).session.started ≡ (s.job i).session.started ++ starts_in (all_marks d s xs)
 own_starts notes n i d [] s only wants of = sym (append-nil (s.job i).session.started)

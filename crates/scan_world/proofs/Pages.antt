@@ -10,8 +10,9 @@ use Rattle.device_api.specs.Kinds.{Page}
 use Rattle.system_model.specs.Devices.{Make}
 use Rattle.system_model.specs.AbstractDevices.{Begin}
 use Rattle.system_model.specs.SystemStates.{SystemState, listed_devices, make_for, device_for, wanted_place}
-use Rattle.system_model.specs.Transitions.{By, Loads, Transition, Unplugs}
-use Rattle.system_model.specs.Marks.{marks, device_view, touched_device}
+use Rattle.system_model.specs.Transitions.{By, Loads, Transition, Unplugs, Uses}
+use Rattle.system_model.specs.Marks.{IsMarkOf, device_view}
+use Rattle.system_model.specs.StepMarks.{marks, touched_device}
 use Rattle.event_world.specs.declared.event.Event.{Event}
 use Rattle.event_world.specs.declared.event.Event.TheVariants.{Connect, ToDaemon, ToClient, DataConnect, DataTurn, DataToClient, LoseControl, LoseImage, Cancel, Load, Unplug}
 use Rattle.world_refines.specs.NewWorlds.{info_of_state}
@@ -20,9 +21,9 @@ use Rattle.scan_world.specs.Histories.{History}
 use Rattle.scan_world.specs.Page.{CameFor}
 use Rattle.scan_world.specs.Page.CameFor.{AtFirst, WithEvent}
 use Rattle.scan_world.proofs.Lists.{In, all_each, all_in, contains_in, contains_at}
-use Rattle.scan_world.proofs.Mine.{IsMine, action_mine}
+use Rattle.system_model.proofs.OwnMarks.{action_mine}
 use Rattle.scan_world.proofs.Marked.{LoadsIt, Slotted, mine_loads}
-use Rattle.scan_world.proofs.Traced.{IsOfSome, StepOf}
+use Rattle.scan_world.proofs.Traced.{IsOfSome, StepOf, no_use}
 use Rattle.scan_world.proofs.OfJobs.{IsOfJob}
 use Rattle.page_picture.specs.SourceView.{source_state}
 
@@ -105,6 +106,7 @@ all_of_one h (x ∷ xs) a b = (record { event = a.0.event; among = a.0.among; is
 
 pub loads_if : (h : History) (d : ℕ) (s : SystemState) (x : Transition) → IsOfOne h x → (b : Bool) → eqb d (touched_device s x) ≡ b → AllByRecursion (LoadsIt (IsOfDevice h d)) (cond b (marks s x) [])
 loads_if h d s x of false e = tt
-loads_if h d s (By j this_action) of true e = all_each (IsMine j (wanted_place s j)) (LoadsIt (IsOfDevice h d)) (marks s (By j this_action)) (mine_loads (IsOfDevice h d) j (wanted_place s j)) (action_mine j (wanted_place s j) (make_for s j) (listed_devices s) (s.job j) (device_for s j) this_action)
+loads_if h d s (By j this_action) of true e = all_each (IsMarkOf j (wanted_place s j)) (LoadsIt (IsOfDevice h d)) (marks s (By j this_action)) (mine_loads (IsOfDevice h d) j (wanted_place s j)) (action_mine j (wanted_place s j) (make_for s j) (listed_devices s) (s.job j) (device_for s j) this_action)
 loads_if h d s (Loads place page) of true e = (subst (λ (n : ℕ). IsOfDevice h n page) (sym (eqb-true d place e)) (laid h place page of.event of.among of.is), tt)
 loads_if h d s (Unplugs place) of true e = (tt, tt)
+loads_if h d s (Uses u place shown left) of true e = absurd (no_use (map info_of_state h.devices) of.event u place shown left of.is)

@@ -6,7 +6,9 @@ use Rattle.sane_fixed.specs.declared.device_info.DeviceInfo.{DeviceInfo}
 use Rattle.system_model.specs.Actions as model_actions
 use Rattle.system_model.specs.Client.{JobStage, Idle, Running, Done, Ended}
 use Rattle.system_model.specs.Deliveries.{Chance, answers}
-use Rattle.system_model.specs.Transitions.{By, IsUnderWay, Loads, Transition, Unplugs}
+use Rattle.system_model.specs.AbstractDevices.{AbstractDevice}
+use Rattle.system_model.specs.Marks.{Mark}
+use Rattle.system_model.specs.Transitions.{By, IsUnderWay, Loads, Transition, Unplugs, Uses}
 use Rattle.event_world.specs.declared.event.Event.{Event}
 use Rattle.event_world.specs.declared.event.Event.TheVariants.{Connect, ToDaemon, ToClient, DataConnect, DataTurn, DataToClient, LoseControl, LoseImage, Cancel, Load, Unplug}
 use Rattle.event_world.specs.declared.event.JobEvent.{JobEvent}
@@ -57,6 +59,7 @@ abbrev pub ByOf : ℕ → JobEvent → Transition → Type 0
 ByOf i w (By j x) = (j ≡ i) × ActionOf w x
 ByOf i w (Loads d page) = ⊥
 ByOf i w (Unplugs d) = ⊥
+ByOf i w (Uses u d shown left) = ⊥
 
 abbrev pub StepOf : List DeviceInfo → Event → Transition → Type 0
 StepOf infos (Connect i) x = ByOf i events.Connect x
@@ -71,9 +74,25 @@ StepOf infos (Cancel i) x = ByOf i events.Cancel x
 StepOf infos (Load name source) (Loads d page) = (name_at infos d ≡ Some name) × ((source_state source).page ≡ page)
 StepOf infos (Load name source) (By i x) = ⊥
 StepOf infos (Load name source) (Unplugs d) = ⊥
+StepOf infos (Load name source) (Uses u d shown left) = ⊥
 StepOf infos (Unplug name) (Unplugs d) = name_at infos d ≡ Some name
 StepOf infos (Unplug name) (By i x) = ⊥
 StepOf infos (Unplug name) (Loads d page) = ⊥
+StepOf infos (Unplug name) (Uses u d shown left) = ⊥
+
+-- no event is a use by a client without a job
+pub no_use : (infos : List DeviceInfo) (e : Event) (u d : ℕ) (shown : List Mark) (left : AbstractDevice) → StepOf infos e (Uses u d shown left) → ⊥
+no_use infos (Connect i) u d shown left of = of
+no_use infos (ToDaemon i n) u d shown left of = of
+no_use infos (ToClient i n) u d shown left of = of
+no_use infos (DataConnect i) u d shown left of = of
+no_use infos (DataTurn i) u d shown left of = of
+no_use infos (DataToClient i n) u d shown left of = of
+no_use infos (LoseControl i) u d shown left of = of
+no_use infos (LoseImage i) u d shown left of = of
+no_use infos (Cancel i) u d shown left of = of
+no_use infos (Load name source) u d shown left of = of
+no_use infos (Unplug name) u d shown left of = of
 
 abbrev pub AreOf : List DeviceInfo → Event → List Transition → Type 0
 AreOf infos e steps = AllByRecursion (StepOf infos e) steps

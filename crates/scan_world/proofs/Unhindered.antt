@@ -17,10 +17,11 @@ use Rattle.daemon_refines.specs.ContextRefinement.{IsMade, page_views, pages_to_
 use Rattle.system_model.specs.AbstractDevices.{AbstractDevice}
 use Rattle.system_model.specs.Client.{AbstractJob as RuledJob}
 use Rattle.system_model.specs.Devices.{Make}
-use Rattle.system_model.specs.Marks.{DeviceView, Loaded, Mark, MarksLead, Removed, Rested, Returned, Started, Took, device_view, marks, touched_device, view_after_mark}
+use Rattle.system_model.specs.Marks.{IsMarkOf, DeviceView, Loaded, Mark, MarksLead, Removed, Rested, Returned, Started, Took, device_view, view_after_mark}
+use Rattle.system_model.specs.StepMarks.{marks, touched_device}
 use Rattle.system_model.specs.MoveRuns.{all_marks, marks_at}
 use Rattle.system_model.specs.SystemStates.{SystemState, device_for, listed_devices, make_for, wanted_place}
-use Rattle.system_model.specs.Transitions.{By, Loads, Transition, Unplugs, after_all, after_transition}
+use Rattle.system_model.specs.Transitions.{By, Loads, Transition, Unplugs, Uses, after_all, after_transition}
 use Rattle.event_world.specs.declared.event.Event.{Event}
 use Rattle.event_world.specs.declared.event.Event.TheVariants.{Connect, ToDaemon, ToClient, DataConnect, DataTurn, DataToClient, LoseControl, LoseImage, Cancel, Load, Unplug}
 use Rattle.event_world.specs.Worlds.{WorldCore}
@@ -34,12 +35,12 @@ use Rattle.scan_world.specs.Sessions.{Has}
 use Rattle.scan_world.proofs.Along.{device_named}
 use Rattle.scan_world.proofs.Jobs.{item_there}
 use Rattle.scan_world.proofs.Lists.{In, all_each, all_then}
-use Rattle.scan_world.proofs.Mine.{IsMine, action_mine}
+use Rattle.system_model.proofs.OwnMarks.{action_mine}
 use Rattle.scan_world.proofs.OfJobs.{all_of_jobs}
 use Rattle.scan_world.proofs.Pages.{IsOfOne, all_of_one, name_there}
 use Rattle.scan_world.proofs.Scanned.{at_first, infos_of, kept_by, name_of, untouched_at_first}
 use Rattle.scan_world.proofs.Sources.{have_sources, make_at, named_at, sources_of}
-use Rattle.scan_world.proofs.Traced.{StepOf, each_of, traced}
+use Rattle.scan_world.proofs.Traced.{StepOf, each_of, traced, no_use}
 use Rattle.scan_world.proofs.moments.Opened.{listed_found}
 use Rattle.scan_world.proofs.moments.Stands.{has_holds}
 
@@ -70,7 +71,7 @@ pub listed_stays : (ms : List Mark) (s t : DeviceView) → MarksLead s ms t → 
 listed_stays [] s t g n on = ap (λ (x : DeviceView). x.listed) (sym g) ∙ on
 listed_stays (m ∷ ms) s t g n on = listed_stays ms (view_after_mark s m) t g.1 n.1 (mark_stays s m n.0 on)
 
-mine_stays : (i d : ℕ) (m : Mark) → IsMine i d m → IsNotRemoved m
+mine_stays : (i d : ℕ) (m : Mark) → IsMarkOf i d m → IsNotRemoved m
 mine_stays i d (Took j e) h = tt
 mine_stays i d (Started j e begin) h = tt
 mine_stays i d (Rested j e) h = tt
@@ -97,9 +98,10 @@ taken_out h d name (Unplug other) among of is =
 
 step_stays : (h : History) (d : ℕ) (name : List ℕ) (s : SystemState) (x : Transition) → name_at (infos_of h) d ≡ Some name → (In (Unplug name) h.events → ⊥) → IsOfOne h x → (b : Bool) → eqb d (touched_device s x) ≡ b → AllByRecursion IsNotRemoved (cond b (marks s x) [])
 step_stays h d name s x is none of false e = tt
-step_stays h d name s (By j this_action) is none of true e = all_each (IsMine j (wanted_place s j)) IsNotRemoved (marks s (By j this_action)) (mine_stays j (wanted_place s j)) (action_mine j (wanted_place s j) (make_for s j) (listed_devices s) (s.job j) (device_for s j) this_action)
+step_stays h d name s (By j this_action) is none of true e = all_each (IsMarkOf j (wanted_place s j)) IsNotRemoved (marks s (By j this_action)) (mine_stays j (wanted_place s j)) (action_mine j (wanted_place s j) (make_for s j) (listed_devices s) (s.job j) (device_for s j) this_action)
 step_stays h d name s (Loads place page) is none of true e = (tt, tt)
 step_stays h d name s (Unplugs place) is none of true e = absurd (none (taken_out h place name of.event of.among of.is (subst (λ (n : ℕ). name_at (infos_of h) n ≡ Some name) (eqb-true d place e) is)))
+step_stays h d name s (Uses u place shown left) is none of true e = absurd (no_use (infos_of h) of.event u place shown left of.is)
 
 pub all_stay : (h : History) (d : ℕ) (name : List ℕ) (xs : List Transition) (s : SystemState) → name_at (infos_of h) d ≡ Some name → (In (Unplug name) h.events → ⊥) → AllByRecursion (IsOfOne h) xs → AllByRecursion IsNotRemoved (all_marks d s xs)
 all_stay h d name [] s is none of = tt

@@ -2,7 +2,7 @@ ghost use Rattle.std.specs.Prelude.{◌≡◌, IfOk, IfErr, IfSome, OnOk, IsOk, 
 ghost use Rattle.config_pages.specs.ConfigReading.{remaining_of};
 ghost use Rattle.config_pages.specs.InputTexts.{TellsLines, input_texts};
 ghost use Rattle.scanimage_cli.specs.Ending.{IsFailure, IsOfOutput};
-ghost use Rattle.scanimage_cli.specs.Inputs.{AreLinesOf, IsPasswordIn, IsUnread, RefusesNamedConfig};
+ghost use Rattle.scanimage_cli.specs.Inputs.{AreLinesOf, IsPasswordIn, IsUnread, IsUnreadAt, RefusesConfigAt, RefusesNamedConfig};
 ghost use Rattle.scanimage_cli.specs.Password.{first_line_of};
 
 use crate::ending::Ending;
@@ -49,6 +49,8 @@ pub fn config_from<R: Read + Drop>(
     ensures lines { IfOk result
         (λ lines. TellsLines (remaining_of R.remaining opened) lines.items) }
     ensures refused { IfErr result (RefusesNamedConfig name.now (remaining_of R.remaining opened)) }
+    /// Of a config that could not be opened that is told, or that memory ran out, and no bad line.
+    ensures unopened { IfErr opened (λ _. IfErr result (IsUnread name.now)) }
 {
     match read_config(alloc, opened) {
         Ok(lines) => Ok(lines),
@@ -98,6 +100,10 @@ pub fn config_lines<I: Inputs>(
     ensures lines { IfOk result (λ lines. AreLinesOf
         (input_texts (I.standard_text inputs.now) (I.file_text inputs.now))
         config.now lines.items) }
+    /// A config is refused for the first bad line of that text, or since the file of that name cannot be read, or for want of
+    /// memory.
+    ensures refused { IfErr result (RefusesConfigAt
+        (input_texts (I.standard_text inputs.now) (I.file_text inputs.now)) config.now) }
     /// Neither a config nor a password that is not there is told as the failure of an output, or as a success.
     /// Carried by: `spares`, `failed` of `config_lines`, of `password_of`
     ensures spares { IfErr result (λ ending. ¬ IsOfOutput ending) }
@@ -124,6 +130,9 @@ pub fn password_of<I: Inputs>(
     /// Carried by: `password` of `password_of`: `IsPasswordIn`
     ensures password { IfOk result (IsPasswordIn
         (input_texts (I.standard_text inputs.now) (I.file_text inputs.now)) file.now) }
+    /// Of a password that is not taken that is told: the file of that name cannot be read, or memory ran out.
+    /// Carried by: `refused` of `password_of`
+    ensures refused { IfErr result (IsUnreadAt file.now) }
     ensures spares { IfErr result (λ ending. ¬ IsOfOutput ending) }
     ensures failed { IfErr result IsFailure }
 {

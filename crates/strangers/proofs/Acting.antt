@@ -81,6 +81,7 @@ acted t w n e h nobodys a = record {
   };
   slots = a.left.slots;
   held = a.left.held;
+  uses = a.left.uses;
 }
   where
     by : (m : ℕ) → (m ≡ n) ⊎ (m ≢ n) → StrangerStands (ghost_with a.device t) (at_daemon w e) m
@@ -92,7 +93,7 @@ acted t w n e h nobodys a = record {
 nothing : (t : Ghost) (w : WorldCore) (n : ℕ) (e : Core) → StandsAmong t w → e ≡ w.daemon → ActLeaves t w (at_daemon w e) n
 nothing t w n e h is =
     subst (λ (x : Core). ActLeaves t w (at_daemon w x) n) (sym is)
-    (record { device = t.system.device; stands = h; slots = λ m off. refl; held = λ k j off e_held. refl })
+    (record { device = t.system.device; stands = h; slots = λ m off. refl; held = λ k j off e_held. refl; uses = λ k. inl refl })
 
 -- ---- he has a session
 
@@ -167,7 +168,7 @@ none_left t w n e h nobodys none limits opened registry slots gone =
     let table = t.system.device in
     let old = (h.strangers n).rests (inl none) in
     let now = subst (λ (r : Table). TableRefines i t.system.make [] r table) (sym registry) old in
-    let left = jobs_left t w i n e table (omega arith) (h.nowhere n) old nobodys h.jobs (record { held = []; shows = now; others = subst (λ (r : Table). LeavesOthers i w.daemon.registry r table table) (sym registry) (leaves_all i w.daemon.registry table); slots = slots; fit = h.jobs.sound.fit }) in
+    let left = jobs_left t w i n e table (omega arith) (h.nowhere n) old nobodys h.jobs (record { held = []; shows = now; others = subst (λ (r : Table). LeavesOthers i w.daemon.registry r table table) (sym registry) (leaves_all i w.daemon.registry table); slots = slots; uses = λ k. inl refl }) in
     is_gone t w n e table limits opened gone left now
 
 lost_none : (g : RequestSession DeviceState → RequestSession DeviceState) (o : Option (SessionSlot DeviceState)) → session_in o ≡ None → session_in (option_and_then (on_session g) o) ≡ None

@@ -23,7 +23,7 @@ use Rattle.system_model.specs.Actions as actions
 use Rattle.system_model.specs.Actions.{image_off}
 use Rattle.system_model.specs.Daemon.{TransferState}
 use Rattle.system_model.specs.SystemStates.{JobState, SessionView, with_entry}
-use Rattle.system_model.proofs.Treats.{Treats, fit_treated, treats}
+use Rattle.system_model.proofs.Treats.{Treats, treats}
 use Rattle.daemon_refines.specs.ContextRefinement.{ContextRefines, TableRefines}
 use Rattle.daemon_refines.specs.DataRefinement.{off_at, transfer_connected}
 use Rattle.daemon_refines.specs.OtherSessions.{IsHeldByNoOther, LeavesOthers, LeavesPlace}
@@ -39,7 +39,8 @@ use Rattle.event_world.specs.Worlds.{WorldCore}
 use Rattle.world_refines.specs.GhostStates.{Ghost}
 use Rattle.world_refines.proofs.state.CoreCallsKeep.{on_number}
 use Rattle.strangers.specs.LeavingJobs.{IsStrangers, JobsStand, StrangersConnect, StrangersLeave, StrangersLoseData, StrangersSayAnything}
-use Rattle.strangers.proofs.Treated.{AllFit, are_mine, fed_fit, let_go_fit}
+use Rattle.strangers.proofs.Leaving.{AllFit, AllLeft, off_left}
+use Rattle.strangers.proofs.Treated.{all_let_go, fed_left, put_left}
 use Rattle.strangers.proofs.Jobs.{Left, leaves_jobs}
 
 -- ---- a piece of his bytes
@@ -95,7 +96,7 @@ says_anything t w i n s piece fed e h st f =
         shows = subst (λ (r : Table). TableRefines i make b.held r device) (sym g.registry_is) b.shows;
         others = subst (λ (r : Table). LeavesOthers i d.registry r table device) (sym g.registry_is) b.others;
         slots = f.others.slots;
-        fit = fed_fit fed i make d.users (core_context d x.session) table s input piece g.rest g.context x.shows ran h.sound.fit;
+        uses = fed_left fed i make d.users (core_context d x.session) table s input piece g.rest g.context x.shows ran h.sound.fit;
       });
       own = own_behind fed i make n d e x.session table s input piece g.rest g.text g.context x.stands g.slots_is g.registry_is g.stream_is ran;
     }
@@ -127,18 +128,15 @@ treated_leaves i make registry table device h = record {
   names = λ name. refl;
 }
 
-pub treated_fit : (i : ℕ) (make : ℕ → Make) (table device : ℕ → AbstractDevice) → AllTreated i make table device → AllFit make table → AllFit make device
-treated_fit i make table device h fit k = fit_treated i (make k) (table k) (device k) (h k) (fit k)
-
 -- his session changed, and its devices
-left_on : (i : ℕ) (make : ℕ → Make) (n : ℕ) (d : Core) (g : RequestSession DeviceState → RequestSession DeviceState) (table device : ℕ → AbstractDevice) (s : AbstractSession) → AllFit make table → AllTreated i make table device → SessionRefines i make (record d { slots = on_session_slot (on_session g) n d.slots }) n device s
+left_on : (i : ℕ) (make : ℕ → Make) (n : ℕ) (d : Core) (g : RequestSession DeviceState → RequestSession DeviceState) (table device : ℕ → AbstractDevice) (s : AbstractSession) → AllLeft i make table device → AllTreated i make table device → SessionRefines i make (record d { slots = on_session_slot (on_session g) n d.slots }) n device s
     → Left i make n d (record d { slots = on_session_slot (on_session g) n d.slots }) table device
-left_on i make n d g table device s fit h own = record {
+left_on i make n d g table device s uses h own = record {
   held = own.session.held;
   shows = own.shows.devices;
   others = treated_leaves i make d.registry table device h;
   slots = λ m other. apart d.slots (on_session g) n m (on_number g) (λ same. other (sym same));
-  fit = treated_fit i make table device h fit;
+  uses = uses;
 }
 
 -- his data connection is made
@@ -149,7 +147,7 @@ connects t w i n s h st =
     let own = core_connects i make n w.daemon (record w.daemon { slots = on_session_slot (on_session after_connected) n w.daemon.slots }) table s st.sits refl in
     record {
       device = table;
-      leaves = leaves_jobs t w i n s _ table h st (left_on i make n w.daemon after_connected table table _ h.sound.fit (λ k. inl refl) own.own);
+      leaves = leaves_jobs t w i n s _ table h st (left_on i make n w.daemon after_connected table table _ (λ k. inl refl) (λ k. inl refl) own.own);
       session = record s { transfer = transfer_connected s.transfer };
       own = own.own;
     }
@@ -166,6 +164,10 @@ off_all : (i : ℕ) (make : ℕ → Make) (p : JobState) (c : TransferState) (ta
 off_all i make p c table None k = inl refl
 off_all i make p c table (Some d) k = put_treated i make table d (image_off i c (table d)) k (eqb k d) refl (off_treats i (make d) p c (table d))
 
+off_left_at : (i : ℕ) (make : ℕ → Make) (p : JobState) (c : TransferState) (table : ℕ → AbstractDevice) (o : Option ℕ) → AllFit make table → AllLeft i make table (off_at i c table o)
+off_left_at i make p c table None fit k = inl refl
+off_left_at i make p c table (Some d) fit k = put_left i make table d (image_off i c (table d)) k (eqb k d) refl (off_left i d (make d) p c (table d) (fit d))
+
 pub loses_data : StrangersLoseData
 loses_data t w i n s h st =
     let make = t.system.make in
@@ -174,7 +176,7 @@ loses_data t w i n s h st =
     let device = off_at i s.transfer table (s.words s.framed) in
     record {
       device = device;
-      leaves = leaves_jobs t w i n s _ device h st (left_on i make n w.daemon after_lost table device _ h.sound.fit (off_all i make (t.system.job i) s.transfer table (s.words s.framed)) own.own);
+      leaves = leaves_jobs t w i n s _ device h st (left_on i make n w.daemon after_lost table device _ (off_left_at i make (t.system.job i) s.transfer table (s.words s.framed) h.sound.fit) (off_all i make (t.system.job i) s.transfer table (s.words s.framed)) own.own);
       session = record s { transfer = actions.left_by_loss s.transfer };
       own = own.own;
     }
@@ -199,7 +201,7 @@ leaves t w i n s h st =
         shows = own.own;
         others = subst (λ (r : Table). LeavesOthers i d.registry r table device) (sym registry) (ends_leave i make st.sits.session.held d.registry table st.sits.shows.devices);
         slots = λ m other. apart d.slots no_more n m none_number (λ same. other (sym same));
-        fit = let_go_fit i make table h.sound.fit;
+        uses = all_let_go i make table h.sound.fit;
       });
       own = own.own;
     }

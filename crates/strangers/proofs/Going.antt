@@ -1,21 +1,18 @@
 -- What comes to a job among strangers, and what a stranger does among jobs.
-use Rattle.std.proofs.Common.{◌≡◌, ◌≢◌, ◌∙◌, ◌⊎◌, inl, inr, ℕ, zero, suc, ◌+◌, ◌≤◌, ◌<◌, List, [], ◌∷◌, Bool, true, false, cond, eqb, eqb-true, Option, Some, None, refl, sym, ap, subst, length, slice_get, arith}
-use Rattle.std.proofs.lemmas.Option.{slice_get_within}
+use Rattle.std.proofs.Common.{◌≡◌, ◌≢◌, ◌∙◌, inl, ℕ, zero, suc, ◌≤◌, ◌<◌, List, [], ◌∷◌, false, Option, Some, None, refl, sym, ap, subst, length, slice_get, arith}
+use Rattle.std.proofs.lemmas.Option.{slice_get_past}
 use Rattle.page_picture.specs.Source.{SourceState}
 use Rattle.page_picture.specs.declared.sources.kinds.Source.{Source}
 use Rattle.device_api.specs.State.{DeviceState}
+use Rattle.saned_requests.specs.declared.session.Session.{Session as RequestSession}
 use Rattle.saned_core.specs.declared.session_slot.SessionSlot.{SessionSlot}
 use Rattle.saned_core.specs.DaemonLimits.{HaveOwnNumbers, IsFree}
 use Rattle.saned_core.specs.DaemonStates.{Core, session_of}
 use Rattle.saned_serve.specs.SessionActions.{ActsOn, SessionAction}
 use Rattle.system_model.specs.AbstractDevices.{AbstractDevice}
-use Rattle.system_model.specs.Actions.{Action, device_after, job_after_action}
-use Rattle.system_model.specs.Client.{AbstractJob}
-use Rattle.system_model.specs.SystemStates.{JobState, SystemState, device_for, listed_devices, make_for, wanted_place}
-use Rattle.system_model.specs.Transitions.{By, IsEnabled, IsHistory, Loads, Transition, Unplugs, after_all, after_transition, with_page_laid_in, without_listing}
+use Rattle.system_model.specs.SystemStates.{JobState, SystemState, device_for}
+use Rattle.system_model.specs.Transitions.{HasNoJob, IsUnderWay, after_all}
 use Rattle.system_model.specs.Variant.{control_variant}
-use Rattle.system_model.proofs.InvariantAfter.{same_job}
-use Rattle.system_model.proofs.Treats.{treats}
 use Rattle.event_world.specs.declared.endpoint.Endpoint.{Endpoint}
 use Rattle.event_world.specs.declared.event.Event.{Event}
 use Rattle.event_world.specs.declared.event.Event.TheVariants as events
@@ -24,19 +21,18 @@ use Rattle.event_world.specs.declared.event.JobEvent.TheVariants.{Connect, ToDae
 use Rattle.event_world.specs.Worlds.{AtEndpoint, Leads, WorldCore}
 use Rattle.world_refines.specs.Costs.{Pays, counted_at}
 use Rattle.world_refines.specs.GhostStates.{Ghost, job_state, wires}
-use Rattle.world_refines.specs.MainTheorem.{IsFittingLoad, IsTrueLoad}
 use Rattle.world_refines.specs.WorldRefinement.{HaveDifferentNumbers, IsNobodys, WorldRefines, stranger_of}
 use Rattle.world_refines.proofs.job_events.Constant.{Fixed, stays_fixed}
 use Rattle.world_refines.proofs.job_events.Followed.{one_event}
 use Rattle.world_refines.proofs.job_events.LeftAlone.{at_left, event_limits}
 use Rattle.world_refines.proofs.state.Strangers.{far_from}
-use Rattle.strangers.specs.Among.{MayHaveStrangers}
-use Rattle.strangers.specs.LeavingJobs.{ghost_with}
-use Rattle.strangers.specs.Together.{JobGoesOn, JobsGoOn, LaysNoPage, StrangerIsLeft, StrangersKeepWorlds, WorldStays}
+use Rattle.strangers.specs.Among.{ActLeaves, MayHaveStrangers}
+use Rattle.strangers.specs.LeavingJobs.{ghost_behind, ghost_with, with_devices}
+use Rattle.strangers.specs.Together.{JobsGoOn, LaysNoPage, StrangerIsLeft, StrangersKeepWorlds, WorldStays}
 use Rattle.strangers.proofs.Acting.{at_daemon, below, by_session, same_world}
-use Rattle.strangers.proofs.Calls.{treated_listed}
 use Rattle.strangers.proofs.Coming.{may_come}
-use Rattle.strangers.proofs.Moving.{same_moves}
+use Rattle.strangers.proofs.Leaving.{AllLeft}
+use Rattle.strangers.proofs.Stepping.{all_his, all_legal, jobs_stay, leads_there, moves_stay, none_past, nowhere_still, uses_below}
 use Rattle.strangers.proofs.Steadying.{act_steady}
 
 -- ---- a stranger's act
@@ -65,88 +61,87 @@ different opened (Some slot ∷ slots) own (suc j) zero a b at_j at_k same =
     absurd (free_at slot.number slots j a own.1 at_j (same ∙ ap (λ (x : SessionSlot DeviceState). x.number) (sym one)))
 different opened (Some slot ∷ slots) own (suc j) (suc k) a b at_j at_k same = ap suc (different opened slots own.2 j k a b at_j at_k same)
 
-stays_at : (t : Ghost) (w : WorldCore) (n : ℕ) (act : SessionAction) (e : Core) → MayHaveStrangers t w → IsNobodys w n → ActsOn n w.daemon act e → WorldStays t w (at_daemon w e) n
-stays_at t w n act e h nobodys acts =
-    let a = by_session t w n act e (session_of w.daemon n) (may_come t w h) nobodys refl acts in
+-- past the last place nothing is
+beyond_all : (t : Ghost) (w : WorldCore) (n : ℕ) (device : ℕ → AbstractDevice) → WorldRefines t w → IsNobodys w n → AllLeft (stranger_of w n) t.system.make t.system.device device → (k : ℕ) → length w.daemon.registry ≤ k → device k ≡ t.system.device k
+beyond_all t w n device h nobodys left k high = by (session_of w.daemon n) refl
+  where
+    by : (o : Option (RequestSession DeviceState)) → session_of w.daemon n ≡ o → device k ≡ t.system.device k
+    by None is =
+        let shows = (h.strangers n).rests (inl is) in
+        none_past (stranger_of w n) k (t.system.make k) [] (t.system.device k) (device k) (slice_get w.daemon.registry k) (slice_get_past w.daemon.registry k high) (shows.places k) (left k)
+    by (Some session) is =
+        let sits = ((h.strangers n).sits session is nobodys).1 in
+        none_past (stranger_of w n) k (t.system.make k) sits.session.held (t.system.device k) (device k) (slice_get w.daemon.registry k) (slice_get_past w.daemon.registry k high) (sits.shows.devices.places k) (left k)
+
+has_no_job : (t : Ghost) (w : WorldCore) (n : ℕ) → MayHaveStrangers t w → HasNoJob t.system (stranger_of w n)
+has_no_job t w n h =
+    let high : length w.endpoints ≤ stranger_of w n = omega arith in
+    let b = h.refines.beyond (stranger_of w n) high in
+    record { idle = b.stage; linked = b.linked; nowhere = h.nowhere (stranger_of w n) high }
+
+stands_at : (t : Ghost) (w : WorldCore) (n : ℕ) (act : SessionAction) (e : Core) → MayHaveStrangers t w → ActsOn n w.daemon act e → (a : ActLeaves t w (at_daemon w e) n) → MayHaveStrangers (ghost_with a.device t) (at_daemon w e)
+stands_at t w n act e h acts a =
     let s = act_steady n act w.daemon e acts in
     let r = h.refines in
     record {
-      device = a.device;
-      stands = record {
-        refines = record {
-          sound = a.stands.jobs.sound;
-          asks = a.stands.jobs.asks;
-          shown = r.shown;
-          is_of = record {
-            count = r.is_of.count;
-            users = r.is_of.users ∙ sym s.users;
-            infos = r.is_of.infos ∙ sym s.infos;
-            apart = r.is_of.apart;
-            places = r.is_of.places;
-            counts = r.is_of.counts;
-          };
-          endpoints = a.stands.jobs.endpoints;
-          beyond = λ j high. let b = r.beyond j high in record { stage = b.stage; linked = b.linked; transfer = b.transfer; image = b.image };
-          strangers = a.stands.strangers;
-          own = r.own;
-          links = a.stands.links;
-          slots = below e.opened e.slots a.stands.limits.1;
-          apart = different e.opened e.slots a.stands.limits.1;
-          faithful = s.faithful r.faithful;
-          begun = r.begun;
+      refines = record {
+        sound = a.stands.jobs.sound;
+        asks = a.stands.jobs.asks;
+        shown = r.shown;
+        is_of = record {
+          count = r.is_of.count;
+          users = r.is_of.users ∙ sym s.users;
+          infos = r.is_of.infos ∙ sym s.infos;
+          apart = r.is_of.apart;
+          places = r.is_of.places;
+          counts = r.is_of.counts;
         };
-        limits = a.stands.limits;
-        nowhere = λ i high.
-            let far = far_from (length w.endpoints) i high in
-            subst (λ (x : ℕ). (device_for (ghost_with a.device t).system x).listed ≡ false) (sym far.1) (a.stands.nowhere far.0);
+        endpoints = a.stands.jobs.endpoints;
+        beyond = λ j high. let b = r.beyond j high in record { stage = b.stage; linked = b.linked; transfer = b.transfer; image = b.image };
+        strangers = a.stands.strangers;
+        own = r.own;
+        links = a.stands.links;
+        slots = below e.opened e.slots a.stands.limits.1;
+        apart = different e.opened e.slots a.stands.limits.1;
+        faithful = s.faithful r.faithful;
+        begun = r.begun;
       };
+      limits = a.stands.limits;
+      nowhere = λ i high.
+          let far = far_from (length w.endpoints) i high in
+          subst (λ (x : ℕ). (device_for (ghost_with a.device t).system x).listed ≡ false) (sym far.1) (a.stands.nowhere far.0);
+    }
+
+stays_at : (t : Ghost) (w : WorldCore) (n : ℕ) (act : SessionAction) (e : Core) → MayHaveStrangers t w → IsNobodys w n → ActsOn n w.daemon act e → WorldStays t w (at_daemon w e) n
+stays_at t w n act e h nobodys acts =
+    let a = by_session t w n act e (session_of w.daemon n) (may_come t w h) nobodys refl acts in
+    let i = stranger_of w n in
+    let s = t.system in
+    let many = length w.daemon.registry in
+    let steps = uses_below i s.make s.device a.device a.uses many in
+    let there : after_all s steps ≡ with_devices a.device s = leads_there i a.device many s a.uses (beyond_all t w n a.device h.refines nobodys a.uses) in
+    record {
+      steps = steps;
+      uses = all_his i s.make s.device a.device a.uses many;
+      legal = all_legal i s.make s.device a.device a.uses many s refl (has_no_job t w n h) (λ k low. refl);
+      stands = subst (λ (x : SystemState). MayHaveStrangers (record t { system = x }) (at_daemon w e)) (sym there) (stands_at t w n act e h acts a);
       slots = a.slots;
-      held = a.held;
+      held = λ k j off is. ap (λ (x : SystemState). x.device k) there ∙ a.held k j off is;
     }
 
 pub keeps_worlds : StrangersKeepWorlds
 keeps_worlds t w v n act h a = subst (λ (x : WorldCore). WorldStays t w x n) (sym (same_world w v a.rest)) (stays_at t w n act v.daemon h a.nobodys a.acts)
 
 -- and the moves that sufficed suffice
-pub act_pays : (t : Ghost) (w v : WorldCore) (n : ℕ) → MayHaveStrangers t w → v.endpoints ≡ w.endpoints → (s : WorldStays t w v n) → Pays t w → Pays (ghost_with s.device t) v
+pub act_pays : (t : Ghost) (w v : WorldCore) (n : ℕ) → MayHaveStrangers t w → v.endpoints ≡ w.endpoints → (s : WorldStays t w v n) → Pays t w → Pays (ghost_behind s.steps t) v
 act_pays t w v n h same s pays j endpoint at under =
     let there : slice_get w.endpoints j ≡ Some endpoint = ap (λ (ps : List Endpoint). slice_get ps j) (sym same) ∙ at in
-    let low = slice_get_within w.endpoints j endpoint there in
-    let k = wanted_place t.system j in
-    let off : j ≢ stranger_of w n = λ clash. omega (arith, low, clash) in
-    let moves : control_variant (ghost_with s.device t).system j ≡ control_variant t.system j =
-    same_moves j (make_for t.system j) (t.system.job j) (t.system.device k) (s.device k) (t.system.job j).client.stage (λ mine. ap (λ (d : AbstractDevice). d.phase) (s.held k j off mine)) (h.refines.sound.exchanges j) in
-    subst (λ (x : ℕ). x + counted_at (job_state t j).client.stage (wires t j) ≤ endpoint.budget) (sym moves) (pays j endpoint there under)
-
--- ---- a step of the model lists no device that was not
-
-by_wants : (b : Bool) (new old : JobState) → (b ≡ true → new.session.job.wants ≡ old.session.job.wants) → (cond b new old).session.job.wants ≡ old.session.job.wants
-by_wants true new old h = h refl
-by_wants false new old h = refl
-
-wants_still : (s : SystemState) (x : Transition) (i : ℕ) → wanted_place (after_transition s x) i ≡ wanted_place s i
-wants_still s (By j x) i =
-    by_wants (eqb i j) (job_after_action j (make_for s j) (listed_devices s) (s.job j) (device_for s j) x) (s.job i)
-    (λ e. ap (λ (job : AbstractJob). job.wants) (same_job j (make_for s j) (listed_devices s) (s.job j) (device_for s j) x) ∙ ap (λ (k : ℕ). (s.job k).session.job.wants) (sym (eqb-true i j e)))
-wants_still s (Loads d page) i = refl
-wants_still s (Unplugs d) i = refl
-
-by_listed : (b : Bool) (new old : AbstractDevice) → (b ≡ true → new.listed ≡ false) → old.listed ≡ false → (cond b new old).listed ≡ false
-by_listed true new old h e = h refl
-by_listed false new old h e = e
-
-unlisted_still : (s : SystemState) (x : Transition) (k : ℕ) → IsEnabled s x → (s.device k).listed ≡ false → ((after_transition s x).device k).listed ≡ false
-unlisted_still s (By j x) k legal off =
-    by_listed (eqb k (wanted_place s j)) (device_after j (make_for s j) (listed_devices s) (s.job j) (device_for s j) x) (s.device k)
-    (λ e. treated_listed j (make_for s j) (device_for s j) _ (treats j (make_for s j) (listed_devices s) (s.job j) (device_for s j) x legal) ∙ subst (λ (d : ℕ). (s.device d).listed ≡ false) (eqb-true k (wanted_place s j) e) off) off
-unlisted_still s (Loads d page) k legal off = by_listed (eqb k d) (with_page_laid_in (s.make d) page (s.device d)) (s.device k) (λ e. subst (λ (x : ℕ). (s.device x).listed ≡ false) (eqb-true k d e) off) off
-unlisted_still s (Unplugs d) k legal off = by_listed (eqb k d) (without_listing (s.device d)) (s.device k) (λ e. refl) off
-
-nowhere_still : (s : SystemState) (xs : List Transition) (i : ℕ) → IsHistory s xs → (device_for s i).listed ≡ false → (device_for (after_all s xs) i).listed ≡ false
-nowhere_still s [] i legal off = off
-nowhere_still s (x ∷ xs) i legal off =
-    nowhere_still (after_transition s x) xs i legal.1
-    (subst (λ (k : ℕ). ((after_transition s x).device k).listed ≡ false) (sym (wants_still s x i)) (unlisted_still s x (wanted_place s i) legal.0 off))
+    let jobs : (after_all t.system s.steps).job ≡ t.system.job = jobs_stay (stranger_of w n) t.system s.steps s.uses in
+    let moves : control_variant (after_all t.system s.steps) j ≡ control_variant t.system j = moves_stay (stranger_of w n) j t.system s.steps h.refines.sound s.legal s.uses in
+    let was : IsUnderWay (job_state t j).client.stage = subst (λ (f : ℕ → JobState). IsUnderWay (f j).client.stage) jobs under in
+    let same_bytes : counted_at ((after_all t.system s.steps).job j).client.stage (wires t j) ≡ counted_at (job_state t j).client.stage (wires t j) = ap (λ (f : ℕ → JobState). counted_at (f j).client.stage (wires t j)) jobs in
+    let paid = pays j endpoint there was in
+    omega (arith, moves, same_bytes, paid)
 
 -- ---- a job's event
 

@@ -26,7 +26,7 @@ use Rattle.world_refines.specs.GhostStates.{Ghost}
 use Rattle.world_refines.specs.Speaks.{SetsAsHeld}
 use Rattle.world_refines.proofs.state.Strangers.{sits_same}
 use Rattle.strangers.specs.LeavingJobs.{IsStrangers, JobsStand, LeavesJobs, ghost_with, with_devices}
-use Rattle.strangers.proofs.Treated.{AllFit}
+use Rattle.strangers.proofs.Leaving.{AllFit, AllLeft, left_fit}
 
 -- what a call for session n of client i leaves
 pub record Left (i : ℕ) (make : ℕ → Make) (n : ℕ) (d e : Core) (table device : ℕ → AbstractDevice) : Type 0 where
@@ -34,7 +34,7 @@ pub record Left (i : ℕ) (make : ℕ → Make) (n : ℕ) (d e : Core) (table de
   pub shows : TableRefines i make held e.registry device
   pub others : LeavesOthers i d.registry e.registry table device
   pub slots : (m : ℕ) → m ≢ n → session_slot_of e.slots m ≡ session_slot_of d.slots m
-  pub fit : AllFit make device
+  pub uses : AllLeft i make table device
 
 -- ---- a device, as another client sees it
 
@@ -99,13 +99,14 @@ AreApart w n = (j : ℕ) (endpoint : Endpoint) (id : SessionId) → slice_get w.
 pub jobs_left : (t : Ghost) (w : WorldCore) (i n : ℕ) (e : Core) (device : ℕ → AbstractDevice) → length w.endpoints ≤ i → (device_for t.system i).listed ≡ false → {held : Held} → TableRefines i t.system.make held w.daemon.registry t.system.device → AreApart w n → JobsStand t w → Left i t.system.make n w.daemon e t.system.device device → LeavesJobs t w i n e device
 jobs_left t w i n e device beyond nowhere {held = held} shown apart h l = record {
   stands = record {
-    sound = sound_with t.system device h.sound same l.fit;
+    sound = sound_with t.system device h.sound same (left_fit i t.system.make t.system.device device l.uses h.sound.fit);
     asks = λ j. sets_same j (make_for t.system j) (t.system.job j).client.known (device_for t.system j) (device (wanted_place t.system j)) (t.system.job j).todo (same j) (h.asks j);
     endpoints = λ j endpoint at. sits_same t i j n w.daemon e device endpoint (other j endpoint at) (λ id is. apart j endpoint id at is) (record { held = l.held; shows = l.shows; others = l.others; slots = l.slots }) (h.endpoints j endpoint at);
   };
   slots = l.slots;
   held = λ k j off e_held. stays_by i j (t.system.device k) (device k) (slice_get w.daemon.registry k) (slice_get e.registry k) off (l.others.places k) e_held;
   others = l.others;
+  uses = l.uses;
 }
   where
     same : AllSame t.system device

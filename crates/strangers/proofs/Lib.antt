@@ -1,3 +1,4 @@
+mod Leaving
 mod Treated
 mod Jobs
 mod Calls
@@ -5,8 +6,9 @@ mod Others
 mod Acting
 mod Coming
 mod Steadying
-mod Moving
+mod Stepping
 mod Going
 mod Together
 mod Holders
 mod There
+mod Busy

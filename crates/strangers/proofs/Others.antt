@@ -39,9 +39,10 @@ use Rattle.world_refines.specs.WorldRefinement.{IsBelow}
 use Rattle.world_refines.proofs.job_events.Fresh.{fresh_there}
 use Rattle.world_refines.proofs.state.EndpointSlots.{with_number}
 use Rattle.strangers.specs.LeavingJobs.{GoesOn, HasArrived, IsStrangers, JobsStand, MayCome, StrangersCome, StrangersTakeData, StrangersTakeReplies}
-use Rattle.strangers.proofs.Treated.{AllFit}
+use Rattle.strangers.proofs.Leaving.{AllLeft, action_left}
+use Rattle.strangers.proofs.Treated.{put_left}
 use Rattle.strangers.proofs.Jobs.{Left, jobs_left, leaves_jobs}
-use Rattle.strangers.proofs.Calls.{AllTreated, put_treated, treated_fit, treated_leaves}
+use Rattle.strangers.proofs.Calls.{AllTreated, put_treated, treated_leaves}
 
 -- ---- a record of his data
 
@@ -51,9 +52,9 @@ in_slot n slots session now None e is = absurd (let clash : None ≡ Some sessio
 in_slot n slots session now (Some slot) e is = ap session_in (own_slot (with_session now) n slots slot (record slot { session = Some now }) e refl refl)
 
 -- behind a turn of which this is so
-left_turned : (t : Ghost) (w : WorldCore) (i n : ℕ) (e : Core) (device : ℕ → AbstractDevice) (s : AbstractSession) (now : RequestSession DeviceState) → AllFit t.system.make t.system.device → AllTreated i t.system.make t.system.device device → e ≡ record w.daemon { slots = e.slots } → e.slots ≡ on_session_slot (with_session now) n w.daemon.slots
+left_turned : (t : Ghost) (w : WorldCore) (i n : ℕ) (e : Core) (device : ℕ → AbstractDevice) (s : AbstractSession) (now : RequestSession DeviceState) → AllLeft i t.system.make t.system.device device → AllTreated i t.system.make t.system.device device → e ≡ record w.daemon { slots = e.slots } → e.slots ≡ on_session_slot (with_session now) n w.daemon.slots
     → SessionRefines i t.system.make e n device s → Left i t.system.make n w.daemon e t.system.device device
-left_turned t w i n e device s now fit h rest slots own =
+left_turned t w i n e device s now uses h rest slots own =
     let d = w.daemon in
     let registry : e.registry ≡ d.registry = ap (λ (c : Core). c.registry) rest in
     record {
@@ -61,7 +62,7 @@ left_turned t w i n e device s now fit h rest slots own =
       shows = own.shows.devices;
       others = subst (λ (r : Table). LeavesOthers i d.registry r t.system.device device) (sym registry) (treated_leaves i t.system.make d.registry t.system.device device h);
       slots = λ m other. ap (λ (x : List (Option (SessionSlot DeviceState))). session_slot_of x m) slots ∙ apart d.slots (with_session now) n m (with_number now) (λ same. other (sym same));
-      fit = treated_fit i t.system.make t.system.device device h fit;
+      uses = uses;
     }
 
 -- nothing is to be had: the session is as it was
@@ -78,7 +79,7 @@ idle_turn t w i n s e now h st same rest slots =
       shows = subst (λ (c : RequestContext). ContextRefines i t.system.make c table s) (sym context) x.shows;
       begun = subst IsSessionBegun (sym context) x.begun;
     } in
-    record { device = table; leaves = leaves_jobs t w i n s e table h st (left_turned t w i n e table s now h.sound.fit (λ k. inl refl) rest slots own); session = s; own = own }
+    record { device = table; leaves = leaves_jobs t w i n s e table h st (left_turned t w i n e table s now (λ k. inl refl) (λ k. inl refl) rest slots own); session = s; own = own }
 
 -- an action of the model comes of it
 turned_by : (t : Ghost) (w : WorldCore) (i n : ℕ) (s : AbstractSession) (e : Core) (step : DataStep) (buf : List ℕ) (p : JobState) (place : ℕ) (now : RequestSession DeviceState) → JobsStand t w → IsStrangers t w i n s → CoreTurned i t.system.make n w.daemon e t.system.device s [] p place step buf → e ≡ record w.daemon { slots = e.slots }
@@ -90,7 +91,7 @@ turned_by t w i n s e step buf p place now h st c rest slots =
     let own = c.stands.own in
     record {
       device = device;
-      leaves = leaves_jobs t w i n s e device h st (left_turned t w i n e device _ now h.sound.fit (λ k. put_treated i make table place _ k (eqb k place) refl (treats i (make place) [] p (table place) c.action c.may)) rest slots own);
+      leaves = leaves_jobs t w i n s e device h st (left_turned t w i n e device _ now (λ k. put_left i make table place _ k (eqb k place) refl (action_left i place (make place) p (table place) c.action c.may (h.sound.fit place))) (λ k. put_treated i make table place _ k (eqb k place) refl (treats i (make place) [] p (table place) c.action c.may)) rest slots own);
       session = record s { transfer = (job_after_action i (make place) [] p (table place) c.action).session.transfer };
       own = own;
     }
@@ -146,7 +147,7 @@ takes_replies t w i n count s h st =
         shows = x.shows.devices;
         others = leaves_all i d.registry table;
         slots = λ m other. apart d.slots (after_taken count) n m (taken_number count) (λ same. other (sym same));
-        fit = h.sound.fit;
+        uses = λ k. inl refl;
       });
       session = s;
       own = record { session = x.session; stands = taken_slot count n d.slots x.session (session_slot_of d.slots n) refl x.stands; shows = x.shows; begun = x.begun };
@@ -174,7 +175,7 @@ comes t w i port h m =
       shows = m.nothing;
       others = leaves_all i d.registry table;
       slots = λ k other. other_slot d.slots (new_session_slot d.strings d.opened port) k (other_number n k other);
-      fit = h.sound.fit;
+      uses = λ k. inl refl;
     }) in
     record {
       leaves = leaves;

@@ -2,7 +2,7 @@
 use Rattle.std.specs.Prelude.{position, slice_index_or}
 use Rattle.std.proofs.lemmas.List.{length-map}
 use Rattle.std.proofs.lemmas.Option.{slice_get_past}
-use Rattle.std.proofs.Common.{◌≡◌, ◌≢◌, ◌∙◌, ℕ, zero, suc, ◌+◌, ◌≤◌, ◌<◌, List, [], ◌∷◌, Bool, true, false, Option, Some, None, refl, sym, ap, subst, map, length, slice_get, arith}
+use Rattle.std.proofs.Common.{◌≡◌, ◌≢◌, ◌∙◌, ℕ, zero, suc, ◌+◌, ◌≤◌, ◌<◌, List, [], ◌∷◌, ◌++◌, Bool, true, false, Option, Some, None, refl, sym, ap, subst, map, length, slice_get, arith}
 use Rattle.page_picture.specs.Source.{SourceState}
 use Rattle.page_picture.specs.declared.sources.kinds.Source.{Source}
 use Rattle.sane_fixed.specs.declared.device_info.DeviceInfo.{DeviceInfo}
@@ -10,6 +10,8 @@ use Rattle.device_api.specs.State.{DeviceState}
 use Rattle.scan_job.specs.declared.job.Job.{Job}
 use Rattle.system_model.specs.Devices.{Make}
 use Rattle.system_model.specs.SystemStates.{SystemState, device_for}
+use Rattle.system_model.specs.Transitions.{IsHistory, Transition, after_all}
+use Rattle.system_model.proofs.RunMarks.{histories_legal}
 use Rattle.event_world.specs.declared.endpoint.Endpoint.{Endpoint}
 use Rattle.event_world.specs.FileInvariant.{AllFilesRepresent}
 use Rattle.event_world.specs.Worlds.{AreNew, WorldCore}
@@ -31,30 +33,42 @@ use Rattle.world_refines.proofs.promise_proofs.Counted.{batches_are_counted}
 use Rattle.world_refines.proofs.promise_proofs.Named.{AllSpared, all_spared}
 use Rattle.world_refines.proofs.promise_proofs.PromiseProofs.{outcomes_are_right, scans_are_meant}
 use Rattle.world_refines.proofs.promise_proofs.WorldFiles.{new_files}
+use Rattle.world_refines.proofs.requests.Closing.{history_then, steps_then}
 use Rattle.world_refines.proofs.state.Infos.{is_name, name_here}
 use Rattle.world_refines.proofs.state.ListEntries.{within}
 use Rattle.strangers.specs.Among.{MayHaveStrangers}
-use Rattle.strangers.specs.LeavingJobs.{ghost_with}
-use Rattle.strangers.specs.Together.{AllGoOnTogether, AllIsKeptAmongStrangers, ComesAmong, Happening, RunsAmong, events_among}
-use Rattle.strangers.specs.Together.Happening.{OfJobs, OfStranger}
+use Rattle.strangers.specs.LeavingJobs.{ghost_behind}
+use Rattle.strangers.specs.Together.{AllGoOnTogether, AllIsKeptAmongStrangers, ComesAmong, JointEvent, RunsAmong, events_among}
+use Rattle.strangers.specs.Together.JointEvent.{OfJobs, OfStranger}
 use Rattle.strangers.proofs.Going.{act_pays, jobs_go, keeps_worlds}
 
 -- what stands behind them, with what the promises need
-record Behind (source : Source → SourceState) (xs : List Happening) (t : Ghost) (w v : WorldCore) (run : RunsAmong source xs w v) : Type 0 where
+record Behind (source : Source → SourceState) (xs : List JointEvent) (t : Ghost) (w v : WorldCore) (run : RunsAmong source xs w v) : Type 0 where
   ghost_then : Ghost
-  comes : ComesAmong source xs w v run t ghost_then
+  steps : List Transition
+  comes : ComesAmong source xs w v run t steps ghost_then
+  legal : IsHistory t.system steps
+  rules_are : ghost_then.system ≡ after_all t.system steps
   stands : MayHaveStrangers ghost_then v
   pays : Pays t w → Pays ghost_then v
-  spared : AllSpared t.system → AllSpared ghost_then.system
   files : AllFilesRepresent w.endpoints → AllFilesRepresent v.endpoints
 
-all_behind : (source : Source → SourceState) (xs : List Happening) (t : Ghost) (w v : WorldCore) → MayHaveStrangers t w → AreTrueLoads source (events_among xs) → AreFittingLoads source t.infos t.system.make (events_among xs) → (run : RunsAmong source xs w v) → Behind source xs t w v run
+-- steps behind steps that led there
+legal_then : (s u : SystemState) (xs ys : List Transition) → u ≡ after_all s xs → IsHistory s xs → IsHistory u ys → IsHistory s (xs ++ ys)
+legal_then s u xs ys is legal more = history_then s xs ys legal (subst (λ (x : SystemState). IsHistory x ys) is more)
+
+leads_then : (s u v : SystemState) (xs ys : List Transition) → u ≡ after_all s xs → v ≡ after_all u ys → v ≡ after_all s (xs ++ ys)
+leads_then s u v xs ys is more = more ∙ (ap (λ (x : SystemState). after_all x ys) is ∙ sym (steps_then s xs ys))
+
+all_behind : (source : Source → SourceState) (xs : List JointEvent) (t : Ghost) (w v : WorldCore) → MayHaveStrangers t w → AreTrueLoads source (events_among xs) → AreFittingLoads source t.infos t.system.make (events_among xs) → (run : RunsAmong source xs w v) → Behind source xs t w v run
 all_behind source [] t w v h loads fits run = record {
   ghost_then = t;
-  comes = refl;
+  steps = [];
+  comes = (refl, refl);
+  legal = tt;
+  rules_are = refl;
   stands = subst (MayHaveStrangers t) (sym run) h;
   pays = λ pays. subst (Pays t) (sym run) pays;
-  spared = λ spared. spared;
   files = λ files. subst (λ (x : WorldCore). AllFilesRepresent x.endpoints) (sym run) files;
 }
 all_behind source (OfJobs e ∷ xs) t w v h loads fits (u, leads, rest) =
@@ -68,30 +82,43 @@ all_behind source (OfJobs e ∷ xs) t w v h loads fits (u, leads, rest) =
     let more = all_behind source xs g u v one.stands loads.1 later rest in
     record {
       ghost_then = more.ghost_then;
-      comes = (one.steps, g, one.comes, one.legal, one.stands, more.comes);
+      steps = one.steps ++ more.steps;
+      comes = (one.steps, more.steps, g, refl, one.comes, one.rules_are, one.stands, more.comes);
+      legal = legal_then t.system g.system one.steps more.steps one.rules_are one.legal more.legal;
+      rules_are = leads_then t.system g.system more.ghost_then.system one.steps more.steps one.rules_are more.rules_are;
       stands = more.stands;
       pays = λ pays. more.pays (one.pays pays);
-      spared = λ spared. more.spared (subst AllSpared (sym one.rules_are) (all_spared t.system one.steps one.legal spared));
       files = λ files. more.files (stands_run source (e ∷ []) w u (u, leads, refl) files);
     }
 all_behind source (OfStranger a ∷ xs) t w v h loads fits (u, acts, rest) =
     let one = keeps_worlds t w u a.session a.act h acts in
-    let g = ghost_with one.device t in
-    let more = all_behind source xs g u v one.stands loads fits rest in
-    let count : t.count ≡ length w.endpoints = h.refines.is_of.count in
+    let g = ghost_behind one.steps t in
+    let later : AreFittingLoads source t.infos g.system.make (events_among xs) = subst (λ (m : ℕ → Make). AreFittingLoads source t.infos m (events_among xs)) (sym (makes_stay t.system one.steps)) fits in
+    let more = all_behind source xs g u v one.stands loads later rest in
     record {
       ghost_then = more.ghost_then;
-      comes = (one.device, λ k j low e. one.held k j (λ clash. omega (arith, low, count, clash)) e, one.stands, more.comes);
+      steps = one.steps ++ more.steps;
+      comes = (one.steps, more.steps, refl, one.uses, one.stands, more.comes);
+      legal = legal_then t.system g.system one.steps more.steps refl one.legal more.legal;
+      rules_are = leads_then t.system g.system more.ghost_then.system one.steps more.steps refl more.rules_are;
       stands = more.stands;
       pays = λ pays. more.pays (act_pays t w u a.session h acts.rest one pays);
-      spared = λ spared. more.spared spared;
       files = λ files. more.files (subst AllFilesRepresent (sym acts.rest) files);
     }
 
 pub all_go_on : AllGoOnTogether
 all_go_on source xs t w v h loads fits run =
     let b = all_behind source xs t w v h loads fits run in
-    record { ghost_then = b.ghost_then; comes = b.comes; stands = b.stands; pays = b.pays }
+    record {
+      ghost_then = b.ghost_then;
+      steps = b.steps;
+      comes = b.comes;
+      legal = b.legal;
+      rules_are = b.rules_are;
+      marks = λ d. histories_legal d t.system b.steps h.refines.sound b.legal;
+      stands = b.stands;
+      pays = b.pays;
+    }
 
 -- ---- from a new world on
 
@@ -136,9 +163,18 @@ all_kept source xs sources jobs other devices w v new daemon names limits fit un
     let stands = b.stands.refines in
     let pays = b.pays (new_worlds_pay sources jobs other devices w new fit) in
     let files = b.files (new_files jobs w.endpoints fit new) in
-    let spared : AllSpared u.system = b.spared (λ i none. none) in
+    let spared : AllSpared u.system = subst AllSpared (sym b.rules_are) (all_spared t.system b.steps b.legal (λ i none. none)) in
     record {
-      all = record { ghost_then = u; comes = b.comes; stands = b.stands; pays = b.pays };
+      all = record {
+        ghost_then = u;
+        steps = b.steps;
+        comes = b.comes;
+        legal = b.legal;
+        rules_are = b.rules_are;
+        marks = λ d. histories_legal d t.system b.steps begins.refines.sound b.legal;
+        stands = b.stands;
+        pays = b.pays;
+      };
       promises = record {
         outcomes = λ i endpoint at. outcomes_are_right u v i endpoint stands at;
         statuses = λ i endpoint status why at e. ended_named u v i endpoint status why stands at spared e;

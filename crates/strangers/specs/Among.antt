@@ -15,7 +15,7 @@ use Rattle.event_world.specs.declared.endpoint.Endpoint.{Endpoint}
 use Rattle.event_world.specs.Worlds.{WorldCore}
 use Rattle.world_refines.specs.GhostStates.{Ghost}
 use Rattle.world_refines.specs.WorldRefinement.{IsNobodys, StrangerStands, WorldRefines, stranger_of}
-use Rattle.strangers.specs.LeavingJobs.{JobsStand, ghost_with}
+use Rattle.strangers.specs.LeavingJobs.{IsLeftBy, JobsStand, ghost_with}
 
 -- **stands among (`StandsAmong`)**: all jobs stand, and all strangers: each session that no endpoint has is by the
 -- model that of a client behind all jobs, any session, with up to four devices; and of such a number that has none
@@ -36,12 +36,14 @@ pub record StrangerActs (n : ℕ) (act : SessionAction) (w v : WorldCore) : Type
   pub acts : ActsOn n w.daemon act v.daemon
   pub rest : v.endpoints ≡ w.endpoints
 
--- the jobs stand, and all strangers; no other session is touched, nor a device that another holds
+-- the jobs stand, and all strangers; no other session is touched, nor a device that another holds, and each device is
+-- as it was or used by him
 pub record ActLeaves (t : Ghost) (w v : WorldCore) (n : ℕ) : Type 0 where
   pub device : ℕ → AbstractDevice
   pub stands : StandsAmong (ghost_with device t) v
   pub slots : (m : ℕ) → m ≢ n → session_slot_of v.daemon.slots m ≡ session_slot_of w.daemon.slots m
   pub held : (k j : ℕ) → j ≢ stranger_of w n → (t.system.device k).holder ≡ Some j → device k ≡ t.system.device k
+  pub uses : (k : ℕ) → IsLeftBy (stranger_of w n) k (t.system.make k) (t.system.device k) (device k)
 
 abbrev pub StrangersDoAnything : Type 0
 StrangersDoAnything =

@@ -1,5 +1,5 @@
 -- A stranger: a session of the daemon that is no job's. What his calls leave to the jobs of a world.
-use Rattle.std.specs.Prelude.{ℕ, ◌≡◌, ◌≢◌, ◌≤◌, ◌<◌, false, Some, List, [], length, slice_get}
+use Rattle.std.specs.Prelude.{ℕ, ◌≡◌, ◌≢◌, ◌≤◌, ◌<◌, ◌⊎◌, false, Some, List, [], length, slice_get}
 use Rattle.std.specs.List.{AllByRecursion}
 use Rattle.saned_core.specs.declared.session_slot.SessionId.{SessionId}
 use Rattle.saned_core.specs.declared.session_slot.Fed.{Fed}
@@ -8,7 +8,10 @@ use Rattle.saned_core.specs.DaemonStates.{after_taken, is_closed, on_session, on
 use Rattle.saned_core.specs.Feeding.{Feeds}
 use Rattle.saned_core.specs.Turns.{Turns}
 use Rattle.saned_core.specs.declared.session_slot.DataStep.{DataStep}
+use Rattle.system_model.specs.Devices.{Make}
 use Rattle.system_model.specs.AbstractDevices.{AbstractDevice}
+use Rattle.system_model.specs.Marks.{Mark}
+use Rattle.system_model.specs.Transitions.{By, IsUsedBy, Loads, Transition, Unplugs, Uses, after_all}
 use Rattle.system_model.specs.AbstractSessions.{AbstractSession}
 use Rattle.system_model.specs.SystemStates.{SystemState, device_for}
 use Rattle.system_model.specs.Invariants.{Invariant}
@@ -27,6 +30,17 @@ with_devices device s = record s { device = device }
 
 abbrev pub ghost_with : (ℕ → AbstractDevice) → Ghost → Ghost
 ghost_with device t = record t { system = with_devices device t.system }
+
+-- behind these steps, which move no byte
+abbrev pub ghost_behind : List Transition → Ghost → Ghost
+ghost_behind steps t = record t { system = after_all t.system steps }
+
+-- a use of a device by client i
+abbrev pub IsUseOf : ℕ → Transition → Type 0
+IsUseOf i (By j x) = ⊥
+IsUseOf i (Loads d page) = ⊥
+IsUseOf i (Unplugs d) = ⊥
+IsUseOf i (Uses j d shown left) = j ≡ i
 
 -- **the jobs stand (`JobsStand`)**: the model's invariant holds, each job asks for what it holds alone, and each
 -- endpoint of the world refines its job; so it is of a world of jobs, and nothing is said of whoever else has a session
@@ -47,14 +61,19 @@ pub record IsStrangers (t : Ghost) (w : WorldCore) (i n : ℕ) (s : AbstractSess
       → endpoint.link ≡ Some id → id.number ≢ n
   pub sits : SessionRefines i t.system.make w.daemon n t.system.device s
 
+-- **left by a client (`IsLeftBy`)**: a device is as it was, or client i used it, by marks of its own.
+abbrev pub IsLeftBy : ℕ → ℕ → Make → AbstractDevice → AbstractDevice → Type 0
+IsLeftBy i d make old new = (new ≡ old) ⊎ ((shown : List Mark) × IsUsedBy i d make old shown new)
+
 -- **leaves the jobs (`LeavesJobs`)**: behind a call for a stranger's session the devices are these; with them the jobs
 -- stand, no slot of another session is touched, so no reply that waits there, each device that anybody else holds is as
--- it was, and so is what the sessions of all others stand for.
+-- it was, and so is what the sessions of all others stand for, and each is as it was or used by him.
 pub record LeavesJobs (t : Ghost) (w : WorldCore) (i n : ℕ) (e : Core) (device : ℕ → AbstractDevice) : Type 0 where
   pub stands : JobsStand (ghost_with device t) (record w { daemon = e })
   pub slots : (m : ℕ) → m ≢ n → session_slot_of e.slots m ≡ session_slot_of w.daemon.slots m
   pub held : (k j : ℕ) → j ≢ i → (t.system.device k).holder ≡ Some j → device k ≡ t.system.device k
   pub others : LeavesOthers i w.daemon.registry e.registry t.system.device device
+  pub uses : (k : ℕ) → IsLeftBy i k (t.system.make k) (t.system.device k) (device k)
 
 -- **whatever a stranger does (`SaysAnything`, `GoesOn`, `HasArrived`, `ActLeaves`)**: he is fed any bytes, also where
 -- memory runs out; his data connection is made or lost, a record or replies of his are taken, and he has a session

@@ -1,3 +1,4 @@
 pub mod LeavingJobs
 pub mod Among
 pub mod Together
+pub mod Busy

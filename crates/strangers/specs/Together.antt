@@ -1,6 +1,7 @@
 -- Jobs and strangers together: whatever happens to any of them, in any order, all stand, and what is promised of jobs
 -- is kept.
-use Rattle.std.specs.Prelude.{ℕ, ◌≡◌, ◌≢◌, ◌<◌, false, Some, List, [], ◌∷◌, All, map, slice_get}
+use Rattle.std.specs.Prelude.{ℕ, ◌≡◌, ◌≢◌, ◌<◌, ◌++◌, false, Some, List, [], ◌∷◌, All, map, slice_get}
+use Rattle.std.specs.List.{AllByRecursion}
 use Rattle.netpbm.specs.Pnm.{IsWhole}
 use Rattle.page_picture.specs.Source.{SourceState}
 use Rattle.page_picture.specs.declared.sources.kinds.Source.{Source}
@@ -14,7 +15,8 @@ use Rattle.saned_core.specs.DaemonStates.{session_of, session_slot_of}
 use Rattle.saned_serve.specs.SessionActions.{SessionAction}
 use Rattle.saned_serve.specs.SessionActions.SessionAction.{Opens}
 use Rattle.scan_job.specs.declared.job.Job.{Job}
-use Rattle.system_model.specs.AbstractDevices.{AbstractDevice}
+use Rattle.system_model.specs.Marks.{MarksLead, device_view}
+use Rattle.system_model.specs.MoveRuns.{all_marks}
 use Rattle.system_model.specs.Transitions.{IsHistory, Transition, after_all}
 use Rattle.event_world.specs.declared.endpoint.Endpoint.{Endpoint}
 use Rattle.event_world.specs.declared.event.Event.{Event}
@@ -29,15 +31,19 @@ use Rattle.world_refines.specs.NewWorlds.{HaveSourcesAt, IsNewDaemon, PageSource
 use Rattle.world_refines.specs.NewWorlds.{make_of}
 use Rattle.world_refines.specs.WorldRefinement.{HasNoStrangers, IsNobodys, stranger_of}
 use Rattle.strangers.specs.Among.{MayHaveStrangers, StrangerAct, StrangerActs}
-use Rattle.strangers.specs.LeavingJobs.{ghost_with}
+use Rattle.strangers.specs.LeavingJobs.{IsUseOf, ghost_behind}
 
--- **a stranger's act among jobs (`WorldStays`)**: behind it the world stands for the same with other devices: no other
--- session's slot is touched, nor a device that another holds.
+-- **a stranger's act among jobs (`WorldStays`, `IsUseOf`)**: it is steps of the model, each a use of a device by that
+-- stranger; behind it the world stands for what they lead to: no other session's slot is touched, nor a device that
+-- another holds.
 pub record WorldStays (t : Ghost) (w v : WorldCore) (n : ℕ) : Type 0 where
-  pub device : ℕ → AbstractDevice
-  pub stands : MayHaveStrangers (ghost_with device t) v
+  pub steps : List Transition
+  pub uses : AllByRecursion (IsUseOf (stranger_of w n)) steps
+  pub legal : IsHistory t.system steps
+  pub stands : MayHaveStrangers (ghost_behind steps t) v
   pub slots : (m : ℕ) → m ≢ n → session_slot_of v.daemon.slots m ≡ session_slot_of w.daemon.slots m
-  pub held : (k j : ℕ) → j ≢ stranger_of w n → (t.system.device k).holder ≡ Some j → device k ≡ t.system.device k
+  pub held : (k j : ℕ) → j ≢ stranger_of w n → (t.system.device k).holder ≡ Some j
+      → (after_all t.system steps).device k ≡ t.system.device k
 
 abbrev pub StrangersKeepWorlds : Type 0
 StrangersKeepWorlds =
@@ -74,48 +80,53 @@ JobsGoOn = (source : Source → SourceState) (e : Event) (t : Ghost) (w v : Worl
 
 -- ---- one after another
 
--- **a history of jobs and strangers (`Happening`, `RunsAmong`, `ComesAmong`)**: events of jobs and devices, and acts of
--- strangers, one after another; each event takes its steps of the model, and each act gives the devices that no job
--- holds another state; behind each of them the world stands for what it led to.
-pub data Happening : Type 0 where
-  OfJobs : Event → Happening
-  OfStranger : StrangerAct → Happening
+-- **a history of jobs and strangers (`JointEvent`, `RunsAmong`, `ComesAmong`)**: events of jobs and devices, and acts
+-- of strangers, one after another; each takes its steps of the model, those of an act are uses of devices by its
+-- stranger; behind each of them the world stands for what it led to.
+pub data JointEvent : Type 0 where
+  OfJobs : Event → JointEvent
+  OfStranger : StrangerAct → JointEvent
 
 -- the events among them
-abbrev pub events_among : List Happening → List Event
+abbrev pub events_among : List JointEvent → List Event
 events_among [] = []
 events_among (OfJobs e ∷ xs) = e ∷ events_among xs
 events_among (OfStranger a ∷ xs) = events_among xs
 
-abbrev pub RunsAmong : (Source → SourceState) → List Happening → WorldCore → WorldCore → Type 0
+abbrev pub RunsAmong : (Source → SourceState) → List JointEvent → WorldCore → WorldCore → Type 0
 RunsAmong source [] w v = v ≡ w
 RunsAmong source (OfJobs e ∷ xs) w v = (u : WorldCore) × Leads source e w u × RunsAmong source xs u v
 RunsAmong source (OfStranger a ∷ xs) w v =
     (u : WorldCore) × StrangerActs a.session a.act w u × RunsAmong source xs u v
 
--- a device that a job holds stays as it is
-abbrev pub StayWithJobs : Ghost → (ℕ → AbstractDevice) → Type 0
-StayWithJobs t device = (k j : ℕ) → j < t.count → (t.system.device k).holder ≡ Some j → device k ≡ t.system.device k
+abbrev pub ComesAmong : (source : Source → SourceState) (xs : List JointEvent) (w v : WorldCore)
+    → RunsAmong source xs w v → Ghost → List Transition → Ghost → Type 0
+ComesAmong source [] w v run t steps u = (steps ≡ []) × (u ≡ t)
+ComesAmong source (OfJobs e ∷ xs) w v run t steps u = (first more : List Transition) × (mid : Ghost)
+    × (steps ≡ first ++ more) × GhostComes source e t first mid × (mid.system ≡ after_all t.system first)
+    × MayHaveStrangers mid run.0 × ComesAmong source xs run.0 v run.2 mid more u
+ComesAmong source (OfStranger a ∷ xs) w v run t steps u = (first more : List Transition) × (steps ≡ first ++ more)
+    × AllByRecursion (IsUseOf (stranger_of w a.session)) first × MayHaveStrangers (ghost_behind first t) run.0
+    × ComesAmong source xs run.0 v run.2 (ghost_behind first t) more u
 
-abbrev pub ComesAmong : (source : Source → SourceState) (xs : List Happening) (w v : WorldCore)
-    → RunsAmong source xs w v → Ghost → Ghost → Type 0
-ComesAmong source [] w v run t u = u ≡ t
-ComesAmong source (OfJobs e ∷ xs) w v run t u = (steps : List Transition) × (mid : Ghost)
-    × GhostComes source e t steps mid × IsHistory t.system steps × MayHaveStrangers mid run.0
-    × ComesAmong source xs run.0 v run.2 mid u
-ComesAmong source (OfStranger a ∷ xs) w v run t u = (device : ℕ → AbstractDevice) × StayWithJobs t device
-    × MayHaveStrangers (ghost_with device t) run.0 × ComesAmong source xs run.0 v run.2 (ghost_with device t) u
-
-pub record AllGoOn (source : Source → SourceState) (xs : List Happening) (t : Ghost) (w v : WorldCore)
+-- **all go on (`AllGoOn`)**: their steps are one history of the model, and its marks may come at each device: no two
+-- hold one, a start takes the page that is next, and no page is laid in within a scan, whoever it is.
+pub record AllGoOn (source : Source → SourceState) (xs : List JointEvent) (t : Ghost) (w v : WorldCore)
     (run : RunsAmong source xs w v) : Type 0 where
   pub ghost_then : Ghost
-  pub comes : ComesAmong source xs w v run t ghost_then
+  pub steps : List Transition
+  pub comes : ComesAmong source xs w v run t steps ghost_then
+  pub legal : IsHistory t.system steps
+  pub rules_are : ghost_then.system ≡ after_all t.system steps
+  pub marks : (d : ℕ)
+      → MarksLead (device_view (t.system.make d) (t.system.device d)) (all_marks d t.system steps)
+      (device_view (t.system.make d) ((after_all t.system steps).device d))
   pub stands : MayHaveStrangers ghost_then v
   -- moves that sufficed suffice
   pub pays : Pays t w → Pays ghost_then v
 
 abbrev pub AllGoOnTogether : Type 0
-AllGoOnTogether = (source : Source → SourceState) (xs : List Happening) (t : Ghost) (w v : WorldCore)
+AllGoOnTogether = (source : Source → SourceState) (xs : List JointEvent) (t : Ghost) (w v : WorldCore)
     → MayHaveStrangers t w → AreTrueLoads source (events_among xs)
     → AreFittingLoads source t.infos t.system.make (events_among xs) → (run : RunsAmong source xs w v)
     → AllGoOn source xs t w v run
@@ -126,14 +137,14 @@ AllGoOnTogether = (source : Source → SourceState) (xs : List Happening) (t : G
 -- and any acts of any strangers, in any order, all that is promised of jobs in a world of jobs alone is kept: outcomes,
 -- files, finished pages, moves. (The other job stands for those that there are not, and names no device. A job for
 -- which no session is free, since strangers have them, is shut out as one out of memory is, and told so.)
-pub record KeptAmongStrangers (source : Source → SourceState) (xs : List Happening) (t : Ghost) (w v : WorldCore)
+pub record KeptAmongStrangers (source : Source → SourceState) (xs : List JointEvent) (t : Ghost) (w v : WorldCore)
     (run : RunsAmong source xs w v) : Type 0 where
   pub all : AllGoOn source xs t w v run
   pub promises : Promises all.ghost_then v
 
 abbrev pub AllIsKeptAmongStrangers : Type 0
 AllIsKeptAmongStrangers =
-    (source : Source → SourceState) (xs : List Happening) (sources : ℕ → PageSources) (jobs : List Job) (other : Job)
+    (source : Source → SourceState) (xs : List JointEvent) (sources : ℕ → PageSources) (jobs : List Job) (other : Job)
     (devices : List DeviceState) (w v : WorldCore) → AreNew jobs w.endpoints → IsNewDaemon devices w.daemon
     → HaveOwnNames devices → All HasLimits devices → All IsFitJob jobs
     → ((k : ℕ) → name_at (map info_of_state devices) k ≢ Some other.device)
@@ -146,7 +157,7 @@ AllIsKeptAmongStrangers =
 -- the smallest lie: a file that is whole, of a job that is not done
 abbrev pub StrangersCompleteNoFile : Type 0
 StrangersCompleteNoFile =
-    (source : Source → SourceState) (xs : List Happening) (t : Ghost) (w v : WorldCore) (run : RunsAmong source xs w v)
+    (source : Source → SourceState) (xs : List JointEvent) (t : Ghost) (w v : WorldCore) (run : RunsAmong source xs w v)
     → KeptAmongStrangers source xs t w v run → (i : ℕ) (endpoint : Endpoint) (file : List ℕ)
     → slice_get v.endpoints i ≡ Some endpoint → is_done endpoint.client.outcome ≡ false → endpoint.file ≡ Some file
     → IsWhole file → ⊥

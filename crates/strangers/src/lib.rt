@@ -3,6 +3,7 @@
 #![tactic(auto)]
 
 ghost use Rattle.strangers.specs.Among.{StrangersDoAll, StrangersDoAnything, StrangersMayCome};
+ghost use Rattle.strangers.specs.Busy.{BusyByItself, BusyHasHolder, BusyIsExplained, HadByStranger};
 ghost use Rattle.strangers.specs.LeavingJobs.{StrangersCome, StrangersConnect, StrangersLeave, StrangersLoseData, StrangersSayAnything, StrangersTakeData, StrangersTakeReplies};
 ghost use Rattle.strangers.specs.Together.{AllGoOnTogether, AllIsKeptAmongStrangers, JobsGoOn, OneHolderAmong, StrangersCompleteNoFile, StrangersKeepWorlds, ThereAreStrangers};
 
@@ -54,10 +55,11 @@ pub fn jobs_go_on_among_strangers()
     /// alone; all stand behind it, and each stranger's session is as it was, with its devices and replies, but that a
     /// page that is laid in may come to a device that he holds.
     ensures jobs { JobsGoOn }
-    /// Whatever act comes of a stranger, the world stands for the same with other devices, and no session of another
-    /// is touched, nor a device that another holds.
+    /// Whatever act comes of a stranger, it is steps of the model, each a use of a device by him; the world stands for
+    /// what they lead to, and no session of another is touched, nor a device that another holds.
     ensures strangers { StrangersKeepWorlds }
-    /// So it is of events of jobs and acts of strangers, any number, in any order.
+    /// So it is of events of jobs and acts of strangers, any number, in any order: their steps are one history of the
+    /// model, and its marks may come at each device: no two hold one, and a start takes the page that is next.
     ensures all { AllGoOnTogether }
 {}
 
@@ -79,6 +81,28 @@ pub fn strangers_complete_no_file()
 pub fn no_two_hold_one_device()
     /// Among jobs and strangers no two sessions hold one device, whoever they are.
     ensures { OneHolderAmong }
+{}
+
+#[tactic(none)]
+pub fn busy_devices_have_a_holder()
+    /// A job that found its device held found it so in front of one of its deliveries to the daemon: there a session that
+    /// is not the job's had a device of that name, another job's or a stranger's.
+    /// Carried by: `busy_devices_have_a_holder`: `HadInFront`, `LeasesNamed`
+    ensures held { BusyHasHolder }
+    /// So a job that ended with DEVICE_BUSY found another with its device so, or a setting of its own names that status.
+    ensures ended { BusyIsExplained }
+{}
+
+#[tactic(none)]
+pub fn strangers_may_hold_it()
+    /// An example is a stranger's session that has it in front of a delivery.
+    ensures { HadByStranger }
+{}
+
+#[tactic(none)]
+pub fn nothing_is_busy_by_itself()
+    /// The smallest lie against it is refuted: that a job of which nothing was delivered found its device held.
+    ensures { BusyByItself }
 {}
 
 #[tactic(none)]

@@ -10,8 +10,9 @@ use Rattle.system_model.specs.Daemon.{TransferState, Quiet, Waiting, Streaming, 
 use Rattle.system_model.specs.SystemStates.{JobState, SystemState, with_entry, listed_devices, wanted_place, make_for, device_for}
 use Rattle.system_model.specs.Actions
 use Rattle.system_model.specs.Actions.{Action, environment_of, device_after, device_after_answer, image_off}
-use Rattle.system_model.specs.Transitions.{By, Loads, Unplugs, IsActionEnabled, with_page_laid_in, without_listing}
-use Rattle.system_model.specs.Marks.{Mark, DeviceView, is_busy, device_view, MayMark, view_after_mark, MarksLead, rested_if, left_marks, page_marks, tray_marks, pass_marks, start_marks, fault_marks, starts_marks, take_marks, open_marks, allow_marks, answer_marks, awaited_marks, request_marks, next_marks, lost_marks, off_marks, action_marks, marks, touched_device}
+use Rattle.system_model.specs.Transitions.{By, Loads, Unplugs, Uses, IsActionEnabled, with_page_laid_in, without_listing}
+use Rattle.system_model.specs.Marks.{Mark, DeviceView, is_busy, device_view, MayMark, view_after_mark, MarksLead}
+use Rattle.system_model.specs.StepMarks.{rested_if, left_marks, page_marks, tray_marks, pass_marks, start_marks, fault_marks, starts_marks, take_marks, open_marks, allow_marks, answer_marks, awaited_marks, request_marks, next_marks, lost_marks, off_marks, action_marks, marks, touched_device}
 use Rattle.system_model.specs.Marks
 use Rattle.system_model.specs.ModelPromises.{MarksAreEnabled}
 use Rattle.system_model.proofs.OtherJobs.{put_same}
@@ -32,11 +33,11 @@ leave_goes s i d true h e = ((h, e), ((h, refl), refl))
 leave_goes s i d false h e = ((h, e), ap (λ (x : Bool). record s { holder = None; busy = x }) e)
 
 -- A device goes by marks to another.
-abbrev Leads : Make → AbstractDevice → List Mark → AbstractDevice → Type 0
+abbrev pub Leads : Make → AbstractDevice → List Mark → AbstractDevice → Type 0
 Leads k dev ms new = MarksLead (device_view k dev) ms (device_view k new)
 
 -- a device that nobody holds is at rest
-abbrev IsDown : AbstractDevice → Type 0
+abbrev pub IsDown : AbstractDevice → Type 0
 IsDown dev = dev.holder ≡ None → dev.phase ≡ Resting
 
 take_goes : (i d : ℕ) (k : Make) (dev : AbstractDevice) (c : TransferState) (listed_devices : Bool) (h : Option ℕ) → IsDown dev → dev.listed ≡ listed_devices → dev.holder ≡ h → listed_devices ≡ true → Leads k dev (take_marks i d listed_devices h) (hand_out_device i k dev c h).device
@@ -134,7 +135,7 @@ awaited_goes : (i d : ℕ) (k : Make) (dev : AbstractDevice) (c : TransferState)
 awaited_goes i d k dev c x sent (Authorize challenge) z = allow_goes i d k dev c (same_text challenge sent) (x.allows sent) z
 awaited_goes i d k dev c x sent q z = lets_go i d k dev
 
-request_goes : (i d : ℕ) (k : Make) (dev : AbstractDevice) (c : TransferState) (a : Option Challenge) (x : Environment) (q : AbstractRequest) → IsDown dev → Leads k dev (request_marks i d k dev c a x q) (answer i k dev c a x q).device
+pub request_goes : (i d : ℕ) (k : Make) (dev : AbstractDevice) (c : TransferState) (a : Option Challenge) (x : Environment) (q : AbstractRequest) → IsDown dev → Leads k dev (request_marks i d k dev c a x q) (answer i k dev c a x q).device
 request_goes i d k dev c None x q z = answer_goes (is_held_by i dev.holder) i d k dev c x q (is_held i dev.holder) z
 request_goes i d k dev c (Some sent) x q z = awaited_goes i d k dev c x sent q z
 
@@ -143,7 +144,7 @@ next_goes : (i d : ℕ) (k : Make) (places : List ℕ) (p : JobState) (dev : Abs
 next_goes i d k places p dev challenge fault [] z = refl
 next_goes i d k places p dev challenge fault (q ∷ rest) z = request_goes i d k dev p.session.transfer p.session.awaited (environment_of p.session places challenge fault) q z
 
-image_goes : (i d : ℕ) (k : Make) (c : TransferState) (b : Bool) (dev : AbstractDevice) → is_held_by i dev.holder ≡ b → Leads k dev (off_marks b c i d dev) (image_off i c dev)
+pub image_goes : (i d : ℕ) (k : Make) (c : TransferState) (b : Bool) (dev : AbstractDevice) → is_held_by i dev.holder ≡ b → Leads k dev (off_marks b c i d dev) (image_off i c dev)
 image_goes i d k Quiet true dev e = refl
 image_goes i d k Waiting true dev e = refl
 image_goes i d k Streaming true dev e = rw e (rest_goes (device_view k dev) i d (is_busy dev.phase) (is_held i dev.holder e) refl)
@@ -161,7 +162,7 @@ ends_goes i d k dev f rest (g ∷ more) ph h p e = rw e (busy_same (device_view 
 reads_slot : (k : Make) (dev : AbstractDevice) (f : Frame) (rest bytes : List ℕ) (more : List Frame) → dev.phase ≡ Reading f rest more → Leads k dev [] (record dev { phase = read_on dev.phase bytes })
 reads_slot k dev f rest bytes more p = busy_same (device_view k dev) true (ap is_busy p) ∙ sym (ap (λ (x : ScanPhase). device_view k (record dev { phase = read_on x bytes })) p)
 
-action_goes : (i d : ℕ) (k : Make) (places : List ℕ) (p : JobState) (dev : AbstractDevice) (x : Action) → IsDown dev → IsActionEnabled i k p dev x → Leads k dev (action_marks i d k places p dev x) (device_after i k places p dev x)
+pub action_goes : (i d : ℕ) (k : Make) (places : List ℕ) (p : JobState) (dev : AbstractDevice) (x : Action) → IsDown dev → IsActionEnabled i k p dev x → Leads k dev (action_marks i d k places p dev x) (device_after i k places p dev x)
 action_goes i d k places p dev (Actions.Answers challenge fault) z l = next_goes i d k places p dev challenge fault p.todo z
 action_goes i d k places p dev (Actions.Turns bytes) z l = reads_slot k dev l.0 _ bytes l.2 l.3.reads.2
 action_goes i d k places p dev Actions.TurnsLast z l = ends_goes i d k dev l.0 [] l.1 _ l.2.1 l.2.2 (ap ended_phase l.2.2)
@@ -181,3 +182,4 @@ marks_legal s (By i x) h l =
     at_put s (wanted_place s i) _ _ (action_goes i (wanted_place s i) (make_for s i) (listed_devices s) (s.job i) (device_for s i) x (let f = h.fit (wanted_place s i) in f.laid_down) l)
 marks_legal s (Loads d page) h l = at_put s d (with_page_laid_in (s.make d) page (s.device d)) (marks s (Loads d page)) ((l.0, ap is_busy l.1, l.2), refl)
 marks_legal s (Unplugs d) h l = at_put s d (without_listing (s.device d)) (marks s (Unplugs d)) (l, refl)
+marks_legal s (Uses i d shown left) h l = at_put s d left shown l.1.leads

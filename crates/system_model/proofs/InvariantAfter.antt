@@ -16,13 +16,14 @@ use Rattle.system_model.specs.Causes.{SourceFailed, NamesEof, Names, ClientOutOf
 use Rattle.system_model.specs.SystemStates.{JobState, SystemState, listed_devices, make_for, device_for, wanted_place}
 use Rattle.system_model.specs.Actions
 use Rattle.system_model.specs.Actions.{Action, job_after_action, device_after, answer_next, device_after_answer, served_by, job_after_answer, loss_cause, image_off}
-use Rattle.system_model.specs.Transitions.{Transition, By, Loads, Unplugs, IsActionEnabled, IsEnabled, IsHistory, after_transition, after_all, with_page_laid_in, without_listing}
+use Rattle.system_model.specs.Transitions.{Transition, By, Loads, Unplugs, Uses, IsActionEnabled, IsEnabled, IsHistory, after_transition, after_all, with_page_laid_in, without_listing}
 use Rattle.system_model.specs.Invariants.{IsCalm, StageInvariant, PagesAreOfStarts, Invariant}
 use Rattle.system_model.proofs.OtherJobs.{sound_change, sound_device}
 use Rattle.system_model.proofs.Image.{same_pages}
 use Rattle.system_model.proofs.Turns.{without_append, turned_right, last_right, short_right, fails_right, off_right}
 use Rattle.system_model.proofs.Kept.{IsKept, kept_connected, kept_answered, answered_pages, kept_heard, hear_pages, lift, kept_dialled, kept_read, read_pages, kept_finished, explains_loss, kept_stopped, kept_broken}
 use Rattle.system_model.proofs.Treats.{treats, same_treated, fit_treated}
+use Rattle.system_model.proofs.Using.{used_same}
 
 not_quiet : (c d : TransferState) → c ≡ d → d ≢ Quiet → c ≢ Quiet
 not_quiet c d e n x = n (cc (x, e))
@@ -146,10 +147,11 @@ sound_after s (By i x) h l =
 sound_after s (Loads d page) h l =
     let f = h.fit d in
     sound_device s d (with_page_laid_in (s.make d) page (s.device d)) h (record { laid_down = f.laid_down; allowed = f.allowed; stocked = laid_stocked (s.make d).model page (s.device d).tray l.2; shaped = laid_shaped (s.make d).model page (s.device d).tray l.3 f.shaped })
-    (λ j. record { held = λ x. (x, refl, refl); free = λ x. x })
+    (λ j named. record { held = λ x. (x, refl, refl); free = λ x. x })
 sound_after s (Unplugs d) h l =
     let f = h.fit d in
-    sound_device s d (without_listing (s.device d)) h (record { laid_down = f.laid_down; allowed = f.allowed; stocked = f.stocked; shaped = f.shaped }) (λ j. record { held = λ x. (x, refl, refl); free = λ x. x })
+    sound_device s d (without_listing (s.device d)) h (record { laid_down = f.laid_down; allowed = f.allowed; stocked = f.stocked; shaped = f.shaped }) (λ j named. record { held = λ x. (x, refl, refl); free = λ x. x })
+sound_after s (Uses i d shown left) h l = sound_device s d left h l.1.fit (used_same s i d shown left h l.0 l.1)
 
 pub sound_after_all : (s : SystemState) (xs : List Transition) → Invariant s → IsHistory s xs → Invariant (after_all s xs)
 sound_after_all s [] h l = h

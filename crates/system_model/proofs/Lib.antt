@@ -9,6 +9,8 @@ pub mod Turns
 pub mod Calm
 pub mod Kept
 pub mod Treats
+pub mod Using
+pub mod OwnMarks
 pub mod InvariantAfter
 pub mod JobPromises
 pub mod NextMoves

@@ -12,7 +12,8 @@ use Rattle.system_model.specs.SystemStates.{JobState, listed_devices, wanted_pla
 use Rattle.system_model.specs.Actions
 use Rattle.system_model.specs.Actions.{Action, first_noted, environment_of, answer_next, served_by, job_after_action}
 use Rattle.system_model.specs.Transitions.{By}
-use Rattle.system_model.specs.Marks.{Mark, is_busy, starts_in, rested_if, left_marks, page_marks, tray_marks, pass_marks, start_marks, fault_marks, starts_marks, take_marks, open_marks, allow_marks, answer_marks, awaited_marks, request_marks, next_marks, lost_marks, off_marks, action_marks, marks}
+use Rattle.system_model.specs.Marks.{Mark, is_busy, starts_in}
+use Rattle.system_model.specs.StepMarks.{rested_if, left_marks, page_marks, tray_marks, pass_marks, start_marks, fault_marks, starts_marks, take_marks, open_marks, allow_marks, answer_marks, awaited_marks, request_marks, next_marks, lost_marks, off_marks, action_marks, marks}
 use Rattle.system_model.specs.ModelPromises.{NotesAreTrue}
 use Rattle.system_model.proofs.OtherJobs.{put_same}
 

@@ -150,12 +150,15 @@ fit_at : (k : ℕ → Make) (f : ℕ → AbstractDevice) (w d : ℕ) (dev : Abst
 fit_at k f w d dev true here one all = rw (here refl) one
 fit_at k f w d dev false here one all = all
 
--- a device that another comes to, seen by j
-seen_by : (s : SystemState) (w j : ℕ) (dev : AbstractDevice) → Invariant s → Same j (s.device w) dev → StageInvariant j (make_for s j) (s.job j) (with_entry s.device w dev (wanted_place s j)) (s.job j).client.stage
-seen_by s w j dev h same =
+-- a device that another comes to, seen by j where j names it
+seen_where : (s : SystemState) (w j : ℕ) (dev : AbstractDevice) → Invariant s → (wanted_place s j ≡ w → Same j (s.device w) dev) → StageInvariant j (make_for s j) (s.job j) (with_entry s.device w dev (wanted_place s j)) (s.job j).client.stage
+seen_where s w j dev h same =
     at_device j _ (s.job j) (device_for s j) dev (eqb (wanted_place s j) w)
-    (λ e. let q : wanted_place s j ≡ w = eqb-true _ _ e in kept_exchanges j (make_for s j) (s.job j) (device_for s j) dev (s.job j).client.stage (subst (λ (n : ℕ). Same j (s.device n) dev) (sym q) same) (h.exchanges j))
+    (λ e. let q : wanted_place s j ≡ w = eqb-true _ _ e in kept_exchanges j (make_for s j) (s.job j) (device_for s j) dev (s.job j).client.stage (subst (λ (n : ℕ). Same j (s.device n) dev) (sym q) (same q)) (h.exchanges j))
     (h.exchanges j)
+
+seen_by : (s : SystemState) (w j : ℕ) (dev : AbstractDevice) → Invariant s → Same j (s.device w) dev → StageInvariant j (make_for s j) (s.job j) (with_entry s.device w dev (wanted_place s j)) (s.job j).client.stage
+seen_by s w j dev h same = seen_where s w j dev h (λ q. same)
 
 -- one job state put in another's place
 at_party : (s : SystemState) (i j w : ℕ) (p : JobState) (dev : AbstractDevice) (x : Bool) → (x ≡ true → j ≡ i) → (x ≡ false → j ≢ i) → p.session.job.wants ≡ w →
@@ -181,10 +184,10 @@ sound_change s i p dev h e t f fit others =
     }
 
 -- a device alone
-pub sound_device : (s : SystemState) (d : ℕ) (dev : AbstractDevice) → Invariant s → DeviceInvariant (s.make d) dev → ((l : ℕ) → Same l (s.device d) dev) → Invariant (with_device_at s d dev)
+pub sound_device : (s : SystemState) (d : ℕ) (dev : AbstractDevice) → Invariant s → DeviceInvariant (s.make d) dev → ((l : ℕ) → wanted_place s l ≡ d → Same l (s.device d) dev) → Invariant (with_device_at s d dev)
 sound_device s d dev h fit same =
     record {
-      exchanges = λ j. seen_by s d j dev h (same j);
+      exchanges = λ j. seen_where s d j dev h (same j);
       pages = λ j. h.pages j;
       fit = λ e. fit_at s.make s.device d e dev (eqb e d) (eqb-true e d) fit (h.fit e);
     }

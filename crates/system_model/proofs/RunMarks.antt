@@ -2,14 +2,15 @@
 use Rattle.std.proofs.Common.{◌≡◌, ℕ, List, [], ◌∷◌, ◌++◌, Bool, true, false, refl, sym, subst, ap, cond, eqb, eqb-true}
 use Rattle.system_model.specs.Devices.{Make}
 use Rattle.system_model.specs.SystemStates.{SystemState}
-use Rattle.system_model.specs.Transitions.{Transition, By, Loads, Unplugs, IsEnabled, after_transition, after_all}
+use Rattle.system_model.specs.Transitions.{Transition, By, Loads, Unplugs, Uses, IsEnabled, after_transition, after_all}
 use Rattle.system_model.specs.Invariants.{Invariant}
-use Rattle.system_model.specs.Marks.{Mark, DeviceView, MarksLead, view_after_mark, marks, device_view, touched_device}
+use Rattle.system_model.specs.Marks.{Mark, DeviceView, MarksLead, view_after_mark, device_view}
+use Rattle.system_model.specs.StepMarks.{marks, touched_device}
 use Rattle.system_model.specs.MoveRuns.{all_marks, marks_at, HistoryMarksAreEnabled}
 use Rattle.system_model.proofs.InvariantAfter.{sound_after}
 use Rattle.system_model.proofs.EnabledMarks.{marks_legal}
 
-goes_then : (ms ns : List Mark) (s t u : DeviceView) → MarksLead s ms t → MarksLead t ns u → MarksLead s (ms ++ ns) u
+pub goes_then : (ms ns : List Mark) (s t u : DeviceView) → MarksLead s ms t → MarksLead t ns u → MarksLead s (ms ++ ns) u
 goes_then [] ns s t u e g = subst (λ (x : DeviceView). MarksLead x ns u) (sym e) g
 goes_then (m ∷ ms) ns s t u e g = (e.0, goes_then ms ns (view_after_mark s m) t u e.1 g)
 
@@ -17,12 +18,14 @@ make_stays : (s : SystemState) (x : Transition) → (after_transition s x).make 
 make_stays s (By i x) = refl
 make_stays s (Loads d page) = refl
 make_stays s (Unplugs d) = refl
+make_stays s (Uses i d shown left) = refl
 
 -- a step leaves the devices that it does not come to
 device_stays : (s : SystemState) (x : Transition) (d : ℕ) → eqb d (touched_device s x) ≡ false → (after_transition s x).device d ≡ s.device d
 device_stays s (By i x) d e = rw e refl
 device_stays s (Loads l page) d e = rw e refl
 device_stays s (Unplugs l) d e = rw e refl
+device_stays s (Uses i l shown left) d e = rw e refl
 
 step_legal : (d : ℕ) (s : SystemState) (x : Transition) (b : Bool) → eqb d (touched_device s x) ≡ b → Invariant s → IsEnabled s x →
     MarksLead (device_view (s.make d) (s.device d)) (cond b (marks s x) []) (device_view (s.make d) ((after_transition s x).device d))

@@ -5,7 +5,7 @@ use Rattle.std.proofs.lemmas.Bool.{eq-eqb}
 use Rattle.system_model.specs.Client.{JobStage, Idle, Running, Done, Ended}
 use Rattle.system_model.specs.SystemStates.{SystemState}
 use Rattle.system_model.specs.Actions.{Action}
-use Rattle.system_model.specs.Transitions.{Transition, By, Loads, Unplugs, IsUnderWay, IsEnabled, after_transition}
+use Rattle.system_model.specs.Transitions.{Transition, By, Loads, Unplugs, Uses, IsUnderWay, IsEnabled, after_transition}
 use Rattle.system_model.specs.Invariants.{Invariant}
 use Rattle.system_model.specs.Variant.{job_variant}
 use Rattle.system_model.specs.MoveRuns.{AreOver, RunsAreBounded, RunsEnd, RunsGoOn, RunsToTheEnd, sum_to}
@@ -52,6 +52,7 @@ runs_bounded n s (By i x ∷ xs) h l m =
     omega arith
 runs_bounded n s (Loads d page ∷ xs) h l m = absurd m
 runs_bounded n s (Unplugs d ∷ xs) h l m = absurd m
+runs_bounded n s (Uses i d shown left ∷ xs) h l m = absurd m
 
 pub runs_go_on : RunsGoOn
 runs_go_on n i s h l u = let a = nobody_is_stuck s i h u in (By i a.0, (a.2, tt), (l, u, a.1, tt))

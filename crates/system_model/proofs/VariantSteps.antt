@@ -11,13 +11,14 @@ use Rattle.system_model.specs.Daemon.{FailureCounts}
 use Rattle.system_model.specs.SystemStates.{SessionView, JobState, SystemState, with_entry, listed_devices, wanted_place, make_for, device_for}
 use Rattle.system_model.specs.Actions
 use Rattle.system_model.specs.Actions.{Action, answer_next, job_after_action, device_after}
-use Rattle.system_model.specs.Transitions.{Transition, By, Loads, Unplugs, IsUnderWay, IsActionEnabled, IsEnabled, after_transition, with_page_laid_in, without_listing}
+use Rattle.system_model.specs.Transitions.{Transition, By, Loads, Unplugs, Uses, IsUnderWay, IsActionEnabled, IsEnabled, after_transition, with_page_laid_in, without_listing}
 use Rattle.system_model.specs.Sync.{DataUnderWay, InSync}
 use Rattle.system_model.specs.Invariants.{IsRight, StageInvariant, Invariant}
 use Rattle.system_model.specs.Variant.{exchange_cost, progress_variant, later_pages, stage_variant_of, running_variant, control_variant_at, control_variant_of, flight_variant_at, variant_of, control_variant, job_variant, action_cost, IsOthers}
 use Rattle.system_model.specs.ModelPromises.{StepsArePaid, VariantDecreases, OthersKeepVariant, VariantEndsAtZero, VariantIsBounded}
 use Rattle.system_model.proofs.OtherJobs.{Same, put_same}
 use Rattle.system_model.proofs.Treats.{treats, same_treated}
+use Rattle.system_model.proofs.Using.{used_same}
 use Rattle.system_model.proofs.InvariantAfter.{same_job}
 use Rattle.system_model.proofs.Turns.{without_append}
 use Rattle.system_model.proofs.StageVariants.{at_least}
@@ -174,10 +175,10 @@ put_moves i k p dev new true s h = same_moves i k p dev new p.client.stage (s re
 put_moves i k p dev new false s h = refl
 
 -- a device at place w becomes another
-device_moves : (s : SystemState) (i w : ℕ) (new : AbstractDevice) → Invariant s → Same i (s.device w) new → control_variant_of (s.job i) (with_entry s.device w new (wanted_place s i)) ≡ control_variant s i
+device_moves : (s : SystemState) (i w : ℕ) (new : AbstractDevice) → Invariant s → (wanted_place s i ≡ w → Same i (s.device w) new) → control_variant_of (s.job i) (with_entry s.device w new (wanted_place s i)) ≡ control_variant s i
 device_moves s i w new h same =
     put_moves i (make_for s i) (s.job i) (device_for s i) new (eqb (wanted_place s i) w)
-    (λ e. let q : wanted_place s i ≡ w = eqb-true _ _ e in subst (λ (n : ℕ). Same i (s.device n) new) (sym q) same) (h.exchanges i)
+    (λ e. let q : wanted_place s i ≡ w = eqb-true _ _ e in subst (λ (n : ℕ). Same i (s.device n) new) (sym q) (same q)) (h.exchanges i)
 
 put_other : {X : Type 0} (f : ℕ → X) (j i : ℕ) (x : X) → i ≢ j → with_entry f j x i ≡ f i
 put_other f j i x n = ap (λ (b : Bool). cond b x (f i)) (ne_eqb i j n)
@@ -185,9 +186,10 @@ put_other f j i x n = ap (λ (b : Bool). cond b x (f i)) (ne_eqb i j n)
 other_moves : (s : SystemState) (i : ℕ) (x : Transition) → Invariant s → IsEnabled s x → IsOthers i x → ((after_transition s x).job i ≡ s.job i) × (control_variant_of (s.job i) ((after_transition s x).device (wanted_place s i)) ≡ control_variant s i)
 other_moves s i (By j x) h l n =
     let t = treats j (make_for s j) (listed_devices s) (s.job j) (device_for s j) x l in
-    (put_other s.job j i _ n, device_moves s i (wanted_place s j) (device_after j (make_for s j) (listed_devices s) (s.job j) (device_for s j) x) h (same_treated j i (make_for s j) (device_for s j) _ n t))
-other_moves s i (Loads d page) h l n = (refl, device_moves s i d (with_page_laid_in (s.make d) page (s.device d)) h (record { held = λ x. (x, refl, refl); free = λ x. x }))
-other_moves s i (Unplugs d) h l n = (refl, device_moves s i d (without_listing (s.device d)) h (record { held = λ x. (x, refl, refl); free = λ x. x }))
+    (put_other s.job j i _ n, device_moves s i (wanted_place s j) (device_after j (make_for s j) (listed_devices s) (s.job j) (device_for s j) x) h (λ named. same_treated j i (make_for s j) (device_for s j) _ n t))
+other_moves s i (Loads d page) h l n = (refl, device_moves s i d (with_page_laid_in (s.make d) page (s.device d)) h (λ named. record { held = λ x. (x, refl, refl); free = λ x. x }))
+other_moves s i (Unplugs d) h l n = (refl, device_moves s i d (without_listing (s.device d)) h (λ named. record { held = λ x. (x, refl, refl); free = λ x. x }))
+other_moves s i (Uses j d shown left) h l n = (refl, device_moves s i d left h (used_same s j d shown left h l.0 l.1 i))
 
 pub others_raise_none : OthersKeepVariant
 others_raise_none s i x h l n =

@@ -9,10 +9,11 @@ pub mod Daemon
 pub mod Grounds
 pub mod SystemStates
 pub mod Actions
+pub mod Marks
 pub mod Transitions
+pub mod StepMarks
 pub mod Sync
 pub mod Invariants
-pub mod Marks
 pub mod Moves
 pub mod Variant
 pub mod ModelPromises

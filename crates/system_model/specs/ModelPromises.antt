@@ -4,6 +4,7 @@ use Rattle.std.specs.Prelude.{None, length}
 use Rattle.scan_job.specs.declared.outcome.Why.{Why}
 use Rattle.sane_fixed.specs.declared.status.Status.{Status}
 use Rattle.page_picture.specs.Shows.{Frame}
+use Rattle.device_api.specs.Kinds.{Page}
 use Rattle.system_model.specs.AbstractMessages.{Challenge, AbstractRequest}
 use Rattle.system_model.specs.Devices.{Make, OptionsInForce, descriptors_in_force, readable_options}
 use Rattle.system_model.specs.AbstractInForce.{AreAnswered, values_of}
@@ -15,11 +16,12 @@ use Rattle.system_model.specs.Grounds.{HaveGrounds}
 use Rattle.system_model.specs.SystemStates.{SystemState, listed_devices, initial_job, make_for}
 use Rattle.system_model.specs.Actions
 use Rattle.system_model.specs.Actions.{Action}
-use Rattle.system_model.specs.Transitions.{Transition, By, IsUnderWay, IsEnabled, IsHistory, after_transition}
-use Rattle.system_model.specs.Transitions.{after_all}
+use Rattle.system_model.specs.Transitions.{Transition, By, Uses, HasNoJob, IsUnderWay, IsEnabled, IsHistory}
+use Rattle.system_model.specs.Transitions.{after_transition, after_all}
 use Rattle.system_model.specs.Sync.{IsPermitted, IsPictureOfStart, ArePictures, AllInForce}
 use Rattle.system_model.specs.Invariants.{Invariant, IsCaused}
-use Rattle.system_model.specs.Marks.{touched_device, MarksLead, device_view, marks, starts_in}
+use Rattle.system_model.specs.Marks.{Mark, Took, MarksLead, device_view, starts_in}
+use Rattle.system_model.specs.StepMarks.{touched_device, marks}
 use Rattle.system_model.specs.Moves.{IsMove, turn_of}
 use Rattle.system_model.specs.Variant.{control_variant, job_variant, action_cost, IsOthers}
 
@@ -149,6 +151,30 @@ NotesAreTrue =
     ≡ (s.job i).session.started ++ starts_in (marks s (By i x)))
     × ((ds : List ℕ) → (s.job i).session.shown ≡ None → ((after_transition s (By i x)).job i).session.shown ≡ Some ds
     → ds ≡ listed_devices s)
+
+-- CLIENTS WITHOUT A JOB
+-- **what a client without a job leaves (`UseLeaves`)**: of a device that it uses: it is listed as it was, held by
+-- nobody or by that client, before and after, and its pages are those that it had, but for some that came first.
+pub record UseLeaves (i : ℕ) (dev left : AbstractDevice) : Type 0 where
+  pub listed : left.listed ≡ dev.listed
+  pub before : (dev.holder ≡ None) ⊎ (dev.holder ≡ Some i)
+  pub after : (left.holder ≡ None) ⊎ (left.holder ≡ Some i)
+  pub taken : List Page
+  pub pages : dev.tray ≡ taken ++ left.tray
+
+abbrev pub UsesLeave : Type 0
+UsesLeave = (s : SystemState) (i d : ℕ) (shown : List Mark) (left : AbstractDevice)
+    → IsEnabled s (Uses i d shown left) → UseLeaves i (s.device d) left
+
+-- an example: it may take a device that is listed and that nobody holds
+abbrev pub FreeDevicesAreUsed : Type 0
+FreeDevicesAreUsed = (s : SystemState) (i d : ℕ) → Invariant s → HasNoJob s i → (s.device d).listed ≡ true
+    → (s.device d).holder ≡ None → IsEnabled s (Uses i d (Took i d ∷ []) (record (s.device d) { holder = Some i }))
+
+-- the smallest lie: that it uses a device that another holds
+abbrev pub HeldDevicesAreNotUsed : Type 0
+HeldDevicesAreNotUsed = (s : SystemState) (i j d : ℕ) (shown : List Mark) (left : AbstractDevice) → j ≢ i
+    → (s.device d).holder ≡ Some j → IsEnabled s (Uses i d shown left) → ⊥
 
 -- MOVES
 -- a job that is not over has a next move, and none comes before it

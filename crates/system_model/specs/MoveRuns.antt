@@ -1,10 +1,11 @@
 -- Runs: moves of jobs one after another, and what all steps of a history show of a device.
 use Rattle.std.specs.Prelude.{ℕ, zero, ◌+◌, ◌<◌, ◌≤◌, suc, List, [], ◌∷◌, ◌++◌, length, if◌then◌else◌, ◌==◌}
 use Rattle.system_model.specs.SystemStates.{SystemState}
-use Rattle.system_model.specs.Transitions.{Transition, By, Loads, Unplugs, IsUnderWay, IsHistory, after_transition}
-use Rattle.system_model.specs.Transitions.{after_all}
+use Rattle.system_model.specs.Transitions.{Transition, By, Loads, Unplugs, Uses, IsUnderWay, IsHistory}
+use Rattle.system_model.specs.Transitions.{after_transition, after_all}
 use Rattle.system_model.specs.Invariants.{Invariant}
-use Rattle.system_model.specs.Marks.{Mark, MarksLead, marks, device_view, touched_device}
+use Rattle.system_model.specs.Marks.{Mark, MarksLead, device_view}
+use Rattle.system_model.specs.StepMarks.{marks, touched_device}
 use Rattle.system_model.specs.Moves.{IsMove}
 use Rattle.system_model.specs.Variant.{job_variant}
 
@@ -16,6 +17,7 @@ AreMoves n s (By i x ∷ xs) = (i < n) × IsUnderWay (s.job i).client.stage × I
     × AreMoves n (after_transition s (By i x)) xs
 AreMoves n s (Loads d page ∷ xs) = ⊥
 AreMoves n s (Unplugs d ∷ xs) = ⊥
+AreMoves n s (Uses i d shown left ∷ xs) = ⊥
 
 -- f 0 and so on up to f (n - 1), together
 abbrev pub sum_to : ℕ → (ℕ → ℕ) → ℕ

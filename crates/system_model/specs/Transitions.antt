@@ -1,6 +1,7 @@
 -- The steps of a world, when they may come, and what stands after them.
 use Rattle.std.specs.Prelude.{ℕ, ◌≡◌, ◌≢◌, ◌<◌, ◌^◌, ◌-◌, ◌⊎◌, List, [], ◌∷◌, ◌++◌, true, false, Option, Some, None}
 use Rattle.std.specs.Prelude.{length}
+use Rattle.std.specs.List.{AllByRecursion}
 use Rattle.sane_fixed.specs.declared.status.Status.TheVariants.{Good, Eof}
 use Rattle.sane_fixed.specs.declared.params.Params.{Params}
 use Rattle.page_picture.specs.Shows.{Frame}
@@ -8,7 +9,8 @@ use Rattle.system_model.specs.AbstractMessages.{AbstractReply}
 use Rattle.device_api.specs.Kinds.{Page, laid_in, has_room}
 use Rattle.system_model.specs.Devices.{Make, IsPageShaped, read_status_of}
 use Rattle.system_model.specs.Client.{JobStage, Idle, Running, Done, Ended, AbstractProgress, Imaging, request_awaited}
-use Rattle.system_model.specs.AbstractDevices.{AbstractDevice, Resting, Reading}
+use Rattle.system_model.specs.AbstractDevices.{AbstractDevice, DeviceInvariant, Resting, Reading}
+use Rattle.system_model.specs.Marks.{Mark, MarksLead, IsMarkOf, device_view}
 use Rattle.system_model.specs.Daemon.{Waiting, Streaming, Ending, FailureCounts}
 use Rattle.system_model.specs.SystemStates.{JobState, SystemState, with_entry, wanted_place, make_for, device_for}
 use Rattle.system_model.specs.SystemStates.{listed_devices}
@@ -20,6 +22,8 @@ pub data Transition : Type 0 where
   -- a page is laid into device d, or it is listed no more
   Loads : (d : ℕ) → (page : Page) → Transition
   Unplugs : (d : ℕ) → Transition
+  -- client i, who has no job, uses device d: it shows these marks, and is left so
+  Uses : (i d : ℕ) → (shown : List Mark) → (left : AbstractDevice) → Transition
 
 -- job state i becomes this, and the device that it wants this
 abbrev pub state_with_job : SystemState → ℕ → JobState → AbstractDevice → SystemState
@@ -41,6 +45,7 @@ after_transition s (By i x) =
     (Actions.device_after i (make_for s i) (listed_devices s) (s.job i) (device_for s i) x)
 after_transition s (Loads d page) = with_device_at s d (with_page_laid_in (s.make d) page (s.device d))
 after_transition s (Unplugs d) = with_device_at s d (without_listing (s.device d))
+after_transition s (Uses i d shown left) = with_device_at s d left
 
 abbrev pub after_all : SystemState → List Transition → SystemState
 after_all s [] = s
@@ -117,12 +122,32 @@ IsActionEnabled i k p dev (Actions.Breaks memory) = (p.served ≡ true) × MayBr
 IsActionEnabled i k p dev Actions.RunsOutOfMemory = IsRunning p.client.stage
 IsActionEnabled i k p dev Actions.Stops = IsUnderWay p.client.stage
 
+-- **a client without a job (`HasNoJob`, `IsUsedBy`)**: it is not connected, and the device that it names is not listed.
+-- It may hold devices all the same, and use them: each is one that it holds, or takes first, what it shows are that
+-- client's marks, each of which may come where the device stands, and it is left fit.
+pub record HasNoJob (s : SystemState) (i : ℕ) : Type 0 where
+  pub idle : (s.job i).client.stage ≡ Idle
+  pub linked : (s.job i).linked ≡ false
+  pub nowhere : (device_for s i).listed ≡ false
+
+-- it holds the device, or takes it first
+abbrev pub IsHisToUse : ℕ → Option ℕ → List Mark → Type 0
+IsHisToUse i holder shown = (holder ≡ Some i) ⊎ ((holder ≡ None) × (shown ≢ []))
+
+pub record IsUsedBy (i d : ℕ) (k : Make) (dev : AbstractDevice) (shown : List Mark)
+    (left : AbstractDevice) : Type 0 where
+  pub his : IsHisToUse i dev.holder shown
+  pub own : AllByRecursion (IsMarkOf i d) shown
+  pub leads : MarksLead (device_view k dev) shown (device_view k left)
+  pub fit : DeviceInvariant k left
+
 -- the steps that may come
 abbrev pub IsEnabled : SystemState → Transition → Type 0
 IsEnabled s (By i x) = IsActionEnabled i (make_for s i) (s.job i) (device_for s i) x
 IsEnabled s (Loads d page) = ((s.device d).listed ≡ true) × ((s.device d).phase ≡ Resting)
     × (has_room (s.make d).model (s.device d).tray ≡ true) × IsPageShaped page
 IsEnabled s (Unplugs d) = ((s.device d).listed ≡ true) × ((s.device d).holder ≡ None)
+IsEnabled s (Uses i d shown left) = HasNoJob s i × IsUsedBy i d (s.make d) (s.device d) shown left
 
 -- **history (`IsHistory`, `after_all`)**: enabled transitions one after another, from any client in any order.
 abbrev pub IsHistory : SystemState → List Transition → Type 0

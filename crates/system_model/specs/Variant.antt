@@ -12,7 +12,7 @@ use Rattle.system_model.specs.Daemon.{TransferState, Quiet, Waiting, Streaming, 
 use Rattle.system_model.specs.SystemStates.{SessionView, JobState, SystemState, device_for}
 use Rattle.system_model.specs.Actions
 use Rattle.system_model.specs.Actions.{Action}
-use Rattle.system_model.specs.Transitions.{Transition, By, Loads, Unplugs}
+use Rattle.system_model.specs.Transitions.{Transition, By, Loads, Unplugs, Uses}
 
 -- as many bytes as two of the wire's longest messages, each of at most 1,048,576: what one exchange puts on the way at
 -- most
@@ -155,3 +155,4 @@ abbrev pub IsOthers : ℕ → Transition → Type 0
 IsOthers i (By j x) = i ≢ j
 IsOthers i (Loads d page) = Unit {0}
 IsOthers i (Unplugs d) = Unit {0}
+IsOthers i (Uses j d shown left) = Unit {0}

@@ -6,7 +6,7 @@ ghost use Rattle.system_model.specs.Settings.{SettingsMeanTheSame};
 ghost use Rattle.system_model.specs.AbstractSessions.{OneWordIsEnough, OthersFramesStay, WordsAreFour};
 ghost use Rattle.system_model.specs.MoveRuns.{HistoryMarksAreEnabled, RunsAreBounded, RunsEnd, RunsGoOn};
 ghost use Rattle.system_model.specs.Deliveries.{PiecesComplete, PiecesShowTheSame};
-ghost use Rattle.system_model.specs.ModelPromises.{BatchPagesAreCounted, InitialStateIsInvariant, CausesAreGrounded, DoneIsAllowed, EndsAreCaused, EndsEnd, HistoriesKeepInvariant, ListingsAreTrue, ListsAreRight, MarksAreEnabled, NoDeadlock, NotesAreTrue, VariantIsBounded, VariantEndsAtZero, VariantDecreases, OutcomesLast, OthersKeepVariant, PagesAreRight, ScansAreRight, SettingsAreAnswered, ShowsAreRight, StepsArePaid};
+ghost use Rattle.system_model.specs.ModelPromises.{BatchPagesAreCounted, InitialStateIsInvariant, CausesAreGrounded, DoneIsAllowed, EndsAreCaused, EndsEnd, FreeDevicesAreUsed, HeldDevicesAreNotUsed, HistoriesKeepInvariant, ListingsAreTrue, ListsAreRight, MarksAreEnabled, NoDeadlock, NotesAreTrue, VariantIsBounded, VariantEndsAtZero, VariantDecreases, OutcomesLast, OthersKeepVariant, PagesAreRight, ScansAreRight, SettingsAreAnswered, ShowsAreRight, StepsArePaid, UsesLeave};
 
 pub fn the_initial_state_is_invariant()
     /// The invariant holds before anything has happened, and whatever enabled transitions come, it holds.
@@ -90,6 +90,24 @@ pub fn marks_are_enabled()
     /// Two clients never hold one device, and no page changes within a scan, over every history.
     /// Carried by: `marks_are_enabled`, `history_marks_are_enabled`, `notes_are_true`
     ensures { MarksAreEnabled }
+{}
+
+pub fn clients_without_jobs_leave_others()
+    /// A client without a job that uses a device leaves it listed as it was, held by nobody or by that client, with the
+    /// pages that it had but for some that came first.
+    /// Carried by: `clients_without_jobs_leave_others`: `HasNoJob`, `IsUsedBy`, `UseLeaves`
+    ensures { UsesLeave }
+{}
+
+pub fn free_devices_are_used()
+    /// It may take a device that is listed and that nobody holds, and no device that another holds.
+    /// Carried by: `free_devices_are_used`, `held_devices_are_not_used`
+    ensures { FreeDevicesAreUsed }
+{}
+
+/// A client without a job uses no device that another holds.
+pub fn held_devices_are_not_used()
+    ensures { HeldDevicesAreNotUsed }
 {}
 
 /// What is noted of a job is what its steps show.

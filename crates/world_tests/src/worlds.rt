@@ -10,6 +10,7 @@ use std::alloc::Global;
 use std::process::Abort;
 use virtual_scanner::VirtualScanner;
 
+mod among_strangers;
 mod calls;
 mod examples;
 mod jobs;

@@ -1,5 +1,5 @@
-use Rattle.interleaving.proofs.Ahead.{all_sooner}
+use Rattle.interleaving.proofs.Owners.{all_at_once}
 use Rattle.interleaving.proofs.all_may_come_sooner.Goals as goal
 
 pub returns : goal.returns
-returns g c = all_sooner
+returns g c = all_at_once

@@ -1,5 +1,5 @@
-use Rattle.interleaving.proofs.Sooner.{comes_sooner}
+use Rattle.interleaving.proofs.Owners.{moves_sooner}
 use Rattle.interleaving.proofs.moves_may_come_sooner.Goals as goal
 
 pub returns : goal.returns
-returns g c = comes_sooner
+returns g c = moves_sooner

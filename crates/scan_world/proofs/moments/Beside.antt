@@ -24,7 +24,7 @@ use Rattle.system_model.specs.Client.{ClientView, JobStage, Idle, Running, Done,
 use Rattle.system_model.specs.Devices.{Make}
 use Rattle.system_model.specs.Invariants.{Invariant, IsCaused, StageInvariant}
 use Rattle.system_model.specs.SystemStates.{JobState, SystemState, device_for, listed_devices, make_for, wanted_place}
-use Rattle.system_model.specs.Transitions.{By, IsEnabled, IsHistory, IsUnderWay, Loads, Transition, Unplugs, after_all, after_transition}
+use Rattle.system_model.specs.Transitions.{By, IsEnabled, IsHistory, IsUnderWay, Loads, Transition, Unplugs, Uses, after_all, after_transition}
 use Rattle.world_refines.specs.FailedSources.{AllAlong}
 use Rattle.world_refines.specs.GhostStates.{Ghost, abstract_job, job_state, name_at, place_named, place_of_info}
 use Rattle.world_refines.specs.WorldRefinement.{HaveDifferentNames, WorldRefines, client_at_greeting}
@@ -324,6 +324,7 @@ one_step : (h : History) (w : WorldCore) (o : Job) (s : SystemState) (a b : ℕ)
 one_step h w o s a b ja jb (By n x) pair st sound bes = by_job h w o s n a b ja jb x (eqb a n) (eqb b n) refl refl pair st sound bes
 one_step h w o s a b ja jb (Loads d page) pair st sound bes = record { one = bes.one; other = bes.other; unnamed = bes.unnamed; unnamed_too = bes.unnamed_too; is = bes.is; is_too = bes.is_too }
 one_step h w o s a b ja jb (Unplugs d) pair st sound bes = record { one = bes.one; other = bes.other; unnamed = bes.unnamed; unnamed_too = bes.unnamed_too; is = bes.is; is_too = bes.is_too }
+one_step h w o s a b ja jb (Uses u d shown left) pair st sound bes = record { one = bes.one; other = bes.other; unnamed = bes.unnamed; unnamed_too = bes.unnamed_too; is = bes.is; is_too = bes.is_too }
 
 all_steps : (below : Below) (laws : Laws) (h : History) (w : WorldCore) (o : Job) (a b : ℕ) (ja jb : Job) (xs : List Transition) (s : SystemState) → Pair h o a b ja jb → HaveDifferentNames (infos_of h) → Fine h o s → Invariant s → AllByRecursion (IsOfOne h) xs → AllAlong (AnsweredSo h w o) s xs → IsHistory s xs → Besides h s a b ja jb → Besides h (after_all s xs) a b ja jb
 all_steps below laws h w o a b ja jb [] s pair apart f sound of answers may bes = bes

@@ -17,7 +17,7 @@ use Rattle.system_model.specs.Daemon.{Environment, FailureCounts, TransferState,
 use Rattle.system_model.specs.Devices.{Make}
 use Rattle.system_model.specs.Invariants.{Invariant, StageInvariant}
 use Rattle.system_model.specs.SystemStates.{JobState, SystemState, device_for, listed_devices, make_for}
-use Rattle.system_model.specs.Transitions.{By, IsEnabled, IsActionEnabled, IsHistory, IsUnderWay, Loads, Transition, Unplugs, after_all, after_transition}
+use Rattle.system_model.specs.Transitions.{By, IsEnabled, IsActionEnabled, IsHistory, IsUnderWay, Loads, Transition, Unplugs, Uses, after_all, after_transition}
 use Rattle.system_model.proofs.JobPromises.{batches_counted}
 use Rattle.daemon_refines.proofs.Moved.{own}
 use Rattle.event_world.specs.Worlds.{WorldCore}
@@ -419,6 +419,7 @@ one_step : Laws → (h : History) (w : WorldCore) (i : ℕ) (job : Job) (s : Sys
 one_step laws h w i job s (By j x) here now so may k = by_step laws h w i job s j x (eqb i j) refl here now so may k
 one_step laws h w i job s (Loads d page) here now so may k = k
 one_step laws h w i job s (Unplugs d) here now so may k = k
+one_step laws h w i job s (Uses u d shown left) here now so may k = k
 
 all_steps : Laws → (h : History) (w : WorldCore) (i : ℕ) (job : Job) (xs : List Transition) (s : SystemState) → Here h i job s → AllByRecursion (IsOfOne h) xs → AllAlong (AnsweredSo h w job) s xs → IsHistory s xs → KeptAt h w i job s → KeptAt h w i job (after_all s xs)
 all_steps laws h w i job [] s e of so may k = k

@@ -32,7 +32,7 @@ use Rattle.system_model.specs.Devices.{Make, picture_frames, read_status_of}
 use Rattle.system_model.specs.Invariants.{IsCaused, StageInvariant}
 use Rattle.system_model.specs.ModelPromises.{CausesAreGrounded}
 use Rattle.system_model.specs.SystemStates.{JobState, SystemState, listed_devices, make_for, device_for, wanted_place}
-use Rattle.system_model.specs.Transitions.{By, IsActionEnabled, IsHistory, IsEnabled, IsUnderWay, Loads, Transition, Unplugs, after_transition, after_all}
+use Rattle.system_model.specs.Transitions.{By, IsActionEnabled, IsHistory, IsEnabled, IsUnderWay, Loads, Transition, Unplugs, Uses, after_transition, after_all}
 use Rattle.event_world.specs.declared.event.Event.{Event}
 use Rattle.event_world.specs.declared.event.Event.TheVariants.{Cancel, DataTurn}
 use Rattle.event_world.specs.Worlds.{WorldCore}
@@ -396,6 +396,7 @@ one_step : Laws → (h : History) (w : WorldCore) (changing : List Event) (i : �
 one_step laws h w changing i job s (By j x) here f now of step legal judged = by_step laws h w changing i job s j x (eqb i j) refl here f now of step legal judged
 one_step laws h w changing i job s (Loads d page) here f now of step legal judged = judged
 one_step laws h w changing i job s (Unplugs d) here f now of step legal judged = judged
+one_step laws h w changing i job s (Uses u d shown left) here f now of step legal judged = judged
 
 asks_by : (s : SystemState) (j : ℕ) (x : Action) (i : ℕ) (b : Bool) → eqb i j ≡ b → AsksGuarded (s.job i) → AsksGuarded ((after_transition s (By j x)).job i)
 asks_by s j x i false e h = subst AsksGuarded (sym (party_stays s j x i e)) h
@@ -407,6 +408,7 @@ still_asks : (s : SystemState) (x : Transition) (i : ℕ) → AsksGuarded (s.job
 still_asks s (By j x) i h = asks_by s j x i (eqb i j) refl h
 still_asks s (Loads d page) i h = h
 still_asks s (Unplugs d) i h = h
+still_asks s (Uses u d shown left) i h = h
 
 pub here_then : Laws → (h : History) (w : WorldCore) (i : ℕ) (job : Job) (s : SystemState) (x : Transition) → Here h i job s → IsOfOne h x → IsEnabled s x → Here h i job (after_transition s x)
 here_then laws h w i job s x e of legal = record {

@@ -24,7 +24,7 @@ use Rattle.system_model.specs.Devices.{Make}
 use Rattle.system_model.specs.Invariants.{Invariant, IsRightlyDone, StageInvariant}
 use Rattle.system_model.specs.ModelPromises.{HistoriesKeepInvariant, NotesAreTrue, OutcomesLast}
 use Rattle.system_model.specs.SystemStates.{JobState, SystemState, listed_devices, listed_of, make_for, device_for}
-use Rattle.system_model.specs.Transitions.{By, IsEnabled, IsHistory, IsUnderWay, Loads, Transition, Unplugs, after_transition, after_all}
+use Rattle.system_model.specs.Transitions.{By, IsEnabled, IsHistory, IsUnderWay, Loads, Transition, Unplugs, Uses, after_transition, after_all}
 use Rattle.event_world.specs.declared.endpoint.Endpoint.{Endpoint}
 use Rattle.event_world.specs.Worlds.{WorldCore}
 use Rattle.daemon_refines.specs.Cores.{SessionRefines}
@@ -204,6 +204,7 @@ one_step : NotesAreTrue → OutcomesLast → (h : History) (w : WorldCore) (job 
 one_step notes last h w job i s (By j x) sound may so lists known = by_step notes last h w job i s j x (eqb i j) refl sound may so lists known
 one_step notes last h w job i s (Loads d page) sound may so lists known = known
 one_step notes last h w job i s (Unplugs d) sound may so lists known = known
+one_step notes last h w job i s (Uses u d shown left) sound may so lists known = known
 
 all_steps : NotesAreTrue → OutcomesLast → HistoriesKeepInvariant → (h : History) (w : WorldCore) (job : Job) (i : ℕ) (xs : List Transition) (s : SystemState) → Invariant s → IsHistory s xs → AllAlong (AnsweredSo h w job) s xs → Lists s i → KnownAt h w i s → KnownAt h w i (after_all s xs)
 all_steps notes last keeps h w job i [] s sound may so lists known = known

@@ -20,7 +20,7 @@ use Rattle.system_model.specs.Devices.{Make}
 use Rattle.system_model.specs.Invariants.{Invariant, StageInvariant}
 use Rattle.system_model.specs.ModelPromises.{HistoriesKeepInvariant, OutcomesLast}
 use Rattle.system_model.specs.SystemStates.{JobState, SystemState, listed_devices, make_for, device_for}
-use Rattle.system_model.specs.Transitions.{By, IsEnabled, IsHistory, IsUnderWay, Loads, Transition, Unplugs, after_transition, after_all}
+use Rattle.system_model.specs.Transitions.{By, IsEnabled, IsHistory, IsUnderWay, Loads, Transition, Unplugs, Uses, after_transition, after_all}
 use Rattle.event_world.specs.declared.endpoint.Endpoint.{Endpoint}
 use Rattle.event_world.specs.declared.event.Event.{Event}
 use Rattle.event_world.specs.declared.event.Event.TheVariants.{Connect, ToDaemon, ToClient, DataConnect, DataTurn, DataToClient, LoseControl, LoseImage, Cancel, Load, Unplug}
@@ -168,6 +168,7 @@ left_by infos k n s (By j (Actions.Breaks memory)) sound of = subst (Left (after
 left_by infos k n s (By j x) sound of = absurd of.1
 left_by infos k n s (Loads d page) sound of = absurd of
 left_by infos k n s (Unplugs d) sound of = absurd of
+left_by infos k n s (Uses u d shown left) sound of = absurd of
 
 spent_then : (infos : List DeviceInfo) (e : Event) (s : SystemState) (x : Transition) → Invariant s → StepOf infos e x → IsSpent infos e (after_transition s x)
 spent_then infos (Connect k) s x sound of i challenge fault other = absurd other.1
@@ -193,6 +194,7 @@ still_none infos k n s (By j (Actions.Breaks memory)) of none = subst (λ (m : �
 still_none infos k n s (By j x) of none = absurd of.1
 still_none infos k n s (Loads d page) of none = absurd of
 still_none infos k n s (Unplugs d) of none = absurd of
+still_none infos k n s (Uses u d shown left) of none = absurd of
 
 all_none : (infos : List DeviceInfo) (k n : ℕ) (xs : List Transition) (s : SystemState) → AreOf infos (ToDaemon k n) xs → NoneLeft k s → NoneLeft k (after_all s xs)
 all_none infos k n [] s of none = none

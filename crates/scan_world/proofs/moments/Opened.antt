@@ -26,7 +26,7 @@ use Rattle.system_model.specs.ClientReplies.{finish_in, hear_at, hear_in, client
 use Rattle.system_model.specs.Daemon.{Environment, FailureCounts, TransferState, Quiet, Waiting, Streaming, Ending, allow, answer, answer_awaited, answer_if, begin_page, begin_pass, get_reply, hand_out_device, open_listed, put_reply, refuse, serve, set_reply, start_at, start_effect, start_or_fail, start_page, take_listed}
 use Rattle.system_model.specs.Devices.{Make, AbstractAcceptedSet, accept_value, has_readable_value, picture_frames}
 use Rattle.system_model.specs.SystemStates.{JobState, SystemState, device_for, listed_devices, make_for, wanted_place}
-use Rattle.system_model.specs.Transitions.{By, IsEnabled, IsActionEnabled, IsHistory, IsUnderWay, Loads, Transition, Unplugs, after_all, after_transition}
+use Rattle.system_model.specs.Transitions.{By, IsEnabled, IsActionEnabled, IsHistory, IsUnderWay, Loads, Transition, Unplugs, Uses, after_all, after_transition}
 use Rattle.daemon_refines.specs.ContextRefinement.{PlaceRefines, SlotRefines}
 use Rattle.daemon_refines.proofs.OtherSessions.{IsThere}
 use Rattle.event_world.specs.Worlds.{WorldCore}
@@ -507,6 +507,7 @@ one_step : Laws → (h : History) (w : WorldCore) (i : ℕ) (job : Job) (s : Sys
 one_step laws h w i job s (By j x) here so may k = by_step laws h w i job s j x (eqb i j) refl here so may k
 one_step laws h w i job s (Loads d page) here so may k = k
 one_step laws h w i job s (Unplugs d) here so may k = k
+one_step laws h w i job s (Uses u d shown left) here so may k = k
 
 all_steps : Laws → (h : History) (w : WorldCore) (i : ℕ) (job : Job) (xs : List Transition) (s : SystemState) → Here h i job s → AllByRecursion (IsOfOne h) xs → AllAlong (AnsweredSo h w job) s xs → IsHistory s xs → KeptAt h w i job s → KeptAt h w i job (after_all s xs)
 all_steps laws h w i job [] s e of so may k = k

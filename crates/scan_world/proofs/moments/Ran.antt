@@ -18,7 +18,7 @@ use Rattle.system_model.specs.Client as model
 use Rattle.system_model.specs.Client.{ClientView, JobStage, Idle, Running, Done, Ended}
 use Rattle.system_model.specs.ModelPromises.{OutcomesLast}
 use Rattle.system_model.specs.SystemStates.{JobState, SystemState}
-use Rattle.system_model.specs.Transitions.{By, IsEnabled, IsUnderWay, Loads, Transition, Unplugs, after_transition}
+use Rattle.system_model.specs.Transitions.{By, IsEnabled, IsUnderWay, Loads, Transition, Unplugs, Uses, after_transition}
 use Rattle.event_world.specs.declared.endpoint.Endpoint.{Endpoint}
 use Rattle.event_world.specs.declared.event.JobEvent.{JobEvent}
 use Rattle.event_world.specs.JobEvents.{job_event_of}
@@ -96,3 +96,4 @@ pub were_on : OutcomesLast → (t s : SystemState) (x : Transition) → IsEnable
 were_on last t s (By j x) may before i on = before i (on_by last s j x may i (eqb i j) refl on)
 were_on last t s (Loads d page) may before i on = before i on
 were_on last t s (Unplugs d) may before i on = before i on
+were_on last t s (Uses u d shown left) may before i on = before i on

@@ -15,7 +15,7 @@ use Rattle.system_model.specs.Devices.{Make}
 use Rattle.system_model.specs.Invariants.{PagesAreOfStarts}
 use Rattle.system_model.specs.Sync.{Ready}
 use Rattle.system_model.specs.SystemStates.{JobState, SystemState, device_for, listed_devices, make_for, wanted_place}
-use Rattle.system_model.specs.Transitions.{By, IsEnabled, IsHistory, IsUnderWay, Loads, Transition, Unplugs, after_all, after_transition}
+use Rattle.system_model.specs.Transitions.{By, IsEnabled, IsHistory, IsUnderWay, Loads, Transition, Unplugs, Uses, after_all, after_transition}
 use Rattle.event_world.specs.declared.event.Event.{Event}
 use Rattle.event_world.specs.Worlds.{WorldCore}
 use Rattle.world_refines.specs.FailedSources.{AllAlong}
@@ -221,6 +221,7 @@ one_step : Laws → (h : History) (w : WorldCore) (changing : List Event) (i : �
 one_step laws h w changing i job s (By j x) here f so may kept = by_step laws h w changing i job s j x (eqb i j) refl here f so may kept
 one_step laws h w changing i job s (Loads d page) here f so may kept = kept
 one_step laws h w changing i job s (Unplugs d) here f so may kept = kept
+one_step laws h w changing i job s (Uses u d shown left) here f so may kept = kept
 
 all_steps : Laws → (h : History) (w : WorldCore) (changing : List Event) (i : ℕ) (job : Job) (xs : List Transition) (s : SystemState) → Here h i job s → Fine (history_up_to h changing) job s → AllByRecursion (IsOfOne h) xs → AllByRecursion (IsOfOne (history_up_to h changing)) xs → AllAlong (AnsweredSo h w job) s xs → IsHistory s xs → KeptAt h w changing i job s → KeptAt h w changing i job (after_all s xs)
 all_steps laws h w changing i job [] s e f of those so may kept = kept

@@ -7,7 +7,7 @@ use Rattle.md5_auth.specs.declared.users.Entry.{Entry}
 use Rattle.scan_job.specs.declared.job.Job.{Job}
 use Rattle.system_model.specs.Actions as model_actions
 use Rattle.system_model.specs.SystemStates.{SystemState}
-use Rattle.system_model.specs.Transitions.{By, Loads, Transition, Unplugs, after_all, after_transition}
+use Rattle.system_model.specs.Transitions.{By, Loads, Transition, Unplugs, Uses, after_all, after_transition}
 use Rattle.event_world.specs.declared.event.Event.{Event}
 use Rattle.event_world.specs.declared.event.Event.TheVariants.{Connect, ToDaemon, ToClient, DataConnect, DataTurn, DataToClient, LoseControl, LoseImage, Cancel, Load, Unplug}
 use Rattle.event_world.specs.declared.event.JobEvent.TheVariants as events
@@ -23,6 +23,7 @@ makes_stay s [] = refl
 makes_stay s (By i x ∷ xs) = makes_stay (after_transition s (By i x)) xs
 makes_stay s (Loads d page ∷ xs) = makes_stay (after_transition s (Loads d page)) xs
 makes_stay s (Unplugs d ∷ xs) = makes_stay (after_transition s (Unplugs d)) xs
+makes_stay s (Uses i d shown left ∷ xs) = makes_stay (after_transition s (Uses i d shown left)) xs
 
 abbrev pub Fixed : Type 0
 Fixed = List Entry × List DeviceInfo × ℕ × (ℕ → Job)

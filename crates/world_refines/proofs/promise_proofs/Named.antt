@@ -15,7 +15,7 @@ use Rattle.system_model.specs.Grounds.{HasGround, HaveGrounds}
 use Rattle.system_model.specs.AbstractDevices.{AbstractDevice}
 use Rattle.system_model.specs.Invariants.{IsCaused}
 use Rattle.system_model.specs.SystemStates.{SessionView, JobState, SystemState, listed_devices, make_for, device_for}
-use Rattle.system_model.specs.Transitions.{By, IsHistory, IsEnabled, Loads, IsActionEnabled, Transition, Unplugs, after_transition, after_all}
+use Rattle.system_model.specs.Transitions.{By, IsHistory, IsEnabled, Loads, IsActionEnabled, Transition, Unplugs, Uses, after_transition, after_all}
 use Rattle.system_model.proofs.Grounds.{causes_grounded}
 
 -- none of these causes names GOOD
@@ -87,6 +87,7 @@ step_spared s (By i x) legal h =
     λ j. either_spared (eqb j i) (job_after_action i (make_for s i) (listed_devices s) (s.job i) (device_for s i) x) (s.job j) (action_spared i (make_for s i) (listed_devices s) (s.job i) (device_for s i) x legal (h i)) (h j)
 step_spared s (Loads d page) legal h = h
 step_spared s (Unplugs d) legal h = h
+step_spared s (Uses i d shown left) legal h = h
 
 pub all_spared : (s : SystemState) (xs : List Transition) → IsHistory s xs → AllSpared s → AllSpared (after_all s xs)
 all_spared s [] legal h = h

@@ -10,13 +10,14 @@ use Rattle.system_model.specs.Daemon.{TransferState, Quiet, Waiting, Streaming, 
 use Rattle.system_model.specs.Actions as actions
 use Rattle.system_model.specs.Actions.{Action, job_after_action, device_after, answer_next, device_after_answer, image_off}
 use Rattle.system_model.specs.SystemStates.{JobState, SystemState, with_entry, listed_devices, make_for, device_for, wanted_place}
-use Rattle.system_model.specs.Transitions.{Transition, By, Loads, Unplugs, IsHistory, IsEnabled, IsUnderWay, IsActionEnabled, after_transition, after_all, state_with_job, with_page_laid_in, without_listing}
+use Rattle.system_model.specs.Transitions.{Transition, By, Loads, Unplugs, Uses, IsHistory, IsEnabled, IsUnderWay, IsActionEnabled, after_transition, after_all, state_with_job, with_page_laid_in, without_listing}
 use Rattle.system_model.specs.Sync.{InSync}
 use Rattle.system_model.specs.Invariants.{Invariant, StageInvariant}
 use Rattle.system_model.proofs.Kept.{images}
 use Rattle.system_model.proofs.OtherJobs.{Same, put_same}
 use Rattle.system_model.proofs.InvariantAfter.{kept, same_job, sound_after}
 use Rattle.system_model.proofs.Treats.{treats, same_treated}
+use Rattle.system_model.proofs.Using.{used_same}
 use Rattle.world_refines.specs.Speaks.{AsksAsHeld, SetsAsHeld, SetsNothing}
 
 -- ---- requests
@@ -169,17 +170,17 @@ at_device j k p dev new true one all = one refl
 at_device j k p dev new false one all = all
 
 -- a device that another comes to
-seen_by : (s : SystemState) (w j : ℕ) (dev : AbstractDevice) → ((l : ℕ) → AsksAsHeld s l) → Same j (s.device w) dev → SetsAsHeld j (make_for s j) (s.job j).client.known (with_entry s.device w dev (wanted_place s j)) (s.job j).todo
+seen_by : (s : SystemState) (w j : ℕ) (dev : AbstractDevice) → ((l : ℕ) → AsksAsHeld s l) → (wanted_place s j ≡ w → Same j (s.device w) dev) → SetsAsHeld j (make_for s j) (s.job j).client.known (with_entry s.device w dev (wanted_place s j)) (s.job j).todo
 seen_by s w j dev h same =
     at_device j (make_for s j) (s.job j) (device_for s j) dev (eqb (wanted_place s j) w)
-    (λ e. let q : wanted_place s j ≡ w = eqb-true (wanted_place s j) w e in held_same j (make_for s j) (s.job j).client.known (device_for s j) dev (s.job j).todo (subst (λ (n : ℕ). Same j (s.device n) dev) (sym q) same) (h j))
+    (λ e. let q : wanted_place s j ≡ w = eqb-true (wanted_place s j) w e in held_same j (make_for s j) (s.job j).client.known (device_for s j) dev (s.job j).todo (subst (λ (n : ℕ). Same j (s.device n) dev) (sym q) (same q)) (h j))
     (h j)
 
 at_party : (s : SystemState) (i j w : ℕ) (p : JobState) (dev : AbstractDevice) (x : Bool) → (x ≡ true → j ≡ i) → (x ≡ false → j ≢ i) → p.session.job.wants ≡ w → SetsAsHeld i (s.make w) p.client.known dev p.todo → ((l : ℕ) → AsksAsHeld s l) → ((l : ℕ) → l ≢ i → Same l (s.device w) dev) →
     SetsAsHeld j (s.make (cond x p (s.job j)).session.job.wants) (cond x p (s.job j)).client.known (with_entry s.device w dev (cond x p (s.job j)).session.job.wants) (cond x p (s.job j)).todo
 at_party s i j w p dev true here there e own h others =
     rw (here refl) (subst (λ (n : ℕ). SetsAsHeld i (s.make n) p.client.known (with_entry s.device w dev n) p.todo) (sym e) (rw (put_same s.device w dev) own))
-at_party s i j w p dev false here there e own h others = seen_by s w j dev h (others j (there refl))
+at_party s i j w p dev false here there e own h others = seen_by s w j dev h (λ named. others j (there refl))
 
 change_held : (s : SystemState) (i : ℕ) (p : JobState) (dev : AbstractDevice) → p.session.job.wants ≡ wanted_place s i → SetsAsHeld i (make_for s i) p.client.known dev p.todo → ((l : ℕ) → AsksAsHeld s l) → ((l : ℕ) → l ≢ i → Same l (device_for s i) dev) → (j : ℕ) → AsksAsHeld (state_with_job s i p dev) j
 change_held s i p dev e own h others j = at_party s i j (wanted_place s i) p dev (eqb j i) (eqb-true j i) (eqb-false j i) e own h others
@@ -199,8 +200,9 @@ held_after s (By i x) sound h may =
     let stands = kept i k (listed_devices s) p dev x may (sound.fit (wanted_place s i)) (sound.exchanges i) (sound.pages i) in
     let own = own_by i k (listed_devices s) p dev x may (sound.exchanges i) (h i) stands.0 (under_or (job_after_action i k (listed_devices s) p dev x).client.stage) in
     change_held s i (job_after_action i k (listed_devices s) p dev x) (device_after i k (listed_devices s) p dev x) (ap (λ (job : AbstractJob). job.wants) (same_job i k (listed_devices s) p dev x)) own h (λ l n. same_treated i l k dev _ n t)
-held_after s (Loads d page) sound h may = λ j. seen_by s d j (with_page_laid_in (s.make d) page (s.device d)) h (record { held = λ x. (x, refl, refl); free = λ x. x })
-held_after s (Unplugs d) sound h may = λ j. seen_by s d j (without_listing (s.device d)) h (record { held = λ x. (x, refl, refl); free = λ x. x })
+held_after s (Loads d page) sound h may = λ j. seen_by s d j (with_page_laid_in (s.make d) page (s.device d)) h (λ named. record { held = λ x. (x, refl, refl); free = λ x. x })
+held_after s (Unplugs d) sound h may = λ j. seen_by s d j (without_listing (s.device d)) h (λ named. record { held = λ x. (x, refl, refl); free = λ x. x })
+held_after s (Uses i d shown left) sound h may = λ j. seen_by s d j left h (used_same s i d shown left sound may.0 may.1 j)
 
 pub held_after_all : (s : SystemState) (xs : List Transition) → Invariant s → ((l : ℕ) → AsksAsHeld s l) → IsHistory s xs → (j : ℕ) → AsksAsHeld (after_all s xs) j
 held_after_all s [] sound h may = h

@@ -8,7 +8,7 @@ use Rattle.system_model.specs.Daemon.{FailureCounts}
 use Rattle.system_model.specs.Actions as actions
 use Rattle.system_model.specs.Actions.{Action, answer_next, first_noted, job_after_action, served_by}
 use Rattle.system_model.specs.SystemStates.{JobState, SystemState, listed_devices, listed_of, make_for, device_for}
-use Rattle.system_model.specs.Transitions.{By, Loads, Transition, Unplugs, after_transition, after_all}
+use Rattle.system_model.specs.Transitions.{By, Loads, Transition, Unplugs, Uses, after_transition, after_all}
 use Rattle.system_model.proofs.Noted.{notes_true}
 use Rattle.system_model.proofs.OtherJobs.{put_same}
 use Rattle.daemon_refines.proofs.Moved.{unsome}
@@ -66,11 +66,13 @@ after_below : (n : ℕ) (s : SystemState) (x : Transition) → AreBelow n s.plac
 after_below n s (By i x) low h j = at_below n (party_then s i x) (s.job j) (eqb j i) (own_below n s i x (s.job i).session.shown (party_then s i x).session.shown low refl refl (h i)) (h j)
 after_below n s (Loads d page) low h j = h j
 after_below n s (Unplugs d) low h j = h j
+after_below n s (Uses i d shown left) low h j = h j
 
 places_after : (n : ℕ) (s : SystemState) (x : Transition) → AreBelow n s.places → AreBelow n (after_transition s x).places
 places_after n s (By i x) low = low
 places_after n s (Loads d page) low = low
 places_after n s (Unplugs d) low = low
+places_after n s (Uses i d shown left) low = low
 
 after_all_below : (n : ℕ) (s : SystemState) (xs : List Transition) → AreBelow n s.places → ((i : ℕ) → AreListedBelow n (s.job i).session.shown) → (j : ℕ) → AreListedBelow n ((after_all s xs).job j).session.shown
 after_all_below n s [] low h j = h j

@@ -1,0 +1,70 @@
+//! What becomes of jobs while strangers speak to the server.
+
+ghost use Rattle.programs_refine.specs.KeepingAmong.{ProgramsKeepAmongStrangers, StrangerComesIsARun, StrangerComesIsKept, StrangersCompleteNoLoop, WorldsKeepTurnAmongStrangers};
+ghost use Rattle.programs_refine.specs.AmongStrangers.{LoopsLeadIntoRunsAmong, ProgramsAreAWorldAmongStrangers, RunsAreAmongStrangers};
+
+use strangers::all_is_kept_among_strangers;
+
+#[tactic(none)]
+pub fn programs_are_a_world_among_strangers()
+    /// Where strangers speak to the server as well, events of connections and acts of strangers, each for a session
+    /// that no job has, lead to a world whose daemon is the server's, but for replies that are on their way; and from
+    /// there losses alone to where each job is as its loop has it.
+    /// Carried by: `programs_are_a_world_among_strangers`: `ComeToAWorldAmong`, `HasDaemonAmong`
+    ensures { ProgramsAreAWorldAmongStrangers }
+{}
+
+#[tactic(none)]
+pub fn runs_are_among_strangers()
+    /// A run over connections is one among strangers, in which none speaks.
+    ensures over_connections { RunsAreAmongStrangers }
+    /// Acts in which the journal of a server that has served and loops of jobs are interleaved are one, with what is
+    /// assumed of connections: that they hand on among strangers, and that a lost one brings no more.
+    ensures led { LoopsLeadIntoRunsAmong }
+{}
+
+/// What that law asks of worlds is so.
+#[tactic(none)]
+pub fn worlds_keep_turn_among_strangers()
+    /// What that law asks of worlds is so among strangers: a job that wants the data connection of a frame has none
+    /// that flows, and no reply comes to a job before the request that it answers was taken.
+    ensures { WorldsKeepTurnAmongStrangers }
+{
+    all_is_kept_among_strangers();
+}
+
+/// THE HEADLINE, OF LOOPS AMONG STRANGERS. What is promised of jobs among strangers holds of what their loops come to.
+#[tactic(none)]
+pub fn programs_keep_among_strangers()
+    /// So where strangers speak to the server, a job whose loop is over has an outcome by the model: a scan that is
+    /// done the picture of its start, where the sources of its device are steady; any other no whole file.
+    /// Carried by: `programs_keep_among_strangers`: `LoopIsKeptAmong`
+    ///
+    /// Of a job that is stopped while it runs no whole file went out but of pages that were turned, each of which is
+    /// that of its start.
+    /// Carried by: `programs_keep_among_strangers`: `StoppedIsKeptAmong`
+    ensures { ProgramsKeepAmongStrangers }
+{
+    all_is_kept_among_strangers();
+}
+
+#[tactic(none)]
+pub fn strangers_complete_no_loop()
+    /// The smallest lie against it is refuted: that strangers made the file whole of a job that is not done.
+    ensures { StrangersCompleteNoLoop }
+{}
+
+#[tactic(none)]
+pub fn a_stranger_may_come()
+    /// There is such a run, which without strangers is none: one comes and says a byte, with which the daemon runs out
+    /// of memory, and a job finds its connection lost.
+    ensures { StrangerComesIsARun }
+{}
+
+#[tactic(none)]
+pub fn a_run_among_strangers_is_kept()
+    /// Of that run all of that is kept, over any devices of which a world is made.
+    ensures { StrangerComesIsKept }
+{
+    programs_keep_among_strangers();
+}

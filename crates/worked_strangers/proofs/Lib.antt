@@ -1,0 +1,9 @@
+pub mod Bytes
+pub mod Slots
+pub mod Visiting
+pub mod Joined
+pub mod Scanned
+pub mod Ending
+pub mod Lie
+pub mod Composed
+pub mod Told

@@ -1,0 +1,4 @@
+pub mod Visits
+pub mod Histories
+pub mod Lies
+pub mod Inside
