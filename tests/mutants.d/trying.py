@@ -128,6 +128,10 @@ def try_together(bench, waiting):
 
 def try_crate(crate, edits, lanes, jobs, until):
     """Tries these edits of a crate, begun until then; why it could not, where it is not proved without any."""
+    if time.time() > until:
+        for edit in edits:
+            edit.fate, edit.note = LEFT, ""
+        return ""
     with tempfile.TemporaryDirectory(prefix="mutants-") as at, ThreadPoolExecutor(max(1, len(edits))) as pool:
         bench = Bench(crate, at, lanes, jobs, until)
         if not bench.said.is_proved:
