@@ -12,20 +12,20 @@ use Rattle.interleaving.specs.Interleavings.Traffic.{Dials, NoTraffic, Reads, Ta
 use Rattle.interleaving.specs.AmongStrangers.{AllMayComeSoonerAmong}
 use Rattle.interleaving.specs.HandingOn.{HandsOnAmong, IsHandedOnAmong, MayMove, MayServe, Owner}
 use Rattle.interleaving.specs.Orders.{AllGiveNothing, HaveSameJournals, IsFreeOf, ServerGivesNothing, is_move_of, moves_among, others_among}
-use Rattle.interleaving.proofs.Sooner.{Joint, comes_sooner}
+use Rattle.interleaving.proofs.Sooner.{Joint, comes_sooner, free_unheld, held_off, is_other}
 
 -- ---- the same journals
 
-same_trans : {M : Type 0} (a b c : Joint M) → HaveSameJournals a b → HaveSameJournals b c → HaveSameJournals a c
+pub same_trans : {M : Type 0} (a b c : Joint M) → HaveSameJournals a b → HaveSameJournals b c → HaveSameJournals a c
 same_trans a b c x y = record { server = x.server ∙ y.server; jobs = λ j. x.jobs j ∙ y.jobs j }
 
-same_sym : {M : Type 0} (a b : Joint M) → HaveSameJournals a b → HaveSameJournals b a
+pub same_sym : {M : Type 0} (a b : Joint M) → HaveSameJournals a b → HaveSameJournals b a
 same_sym a b x = record { server = sym x.server; jobs = λ j. sym (x.jobs j) }
 
-same_refl : {M : Type 0} (a : Joint M) → HaveSameJournals a a
+pub same_refl : {M : Type 0} (a : Joint M) → HaveSameJournals a a
 same_refl a = record { server = refl; jobs = λ j. refl }
 
-same_behind : {M : Type 0} (action : JointAction M) (a b : Joint M) → HaveSameJournals a b → HaveSameJournals (action ∷ a) (action ∷ b)
+pub same_behind : {M : Type 0} (action : JointAction M) (a b : Joint M) → HaveSameJournals a b → HaveSameJournals (action ∷ a) (action ∷ b)
 unfolding server_journal job_journal
 same_behind (OfServer action) a b x = record { server = ap (λ (past : List LoopAction). action ∷ past) x.server; jobs = x.jobs }
 same_behind {M} (OfJob i move) a b x = record { server = x.server; jobs = λ j. ap (λ (moves : List M). cond (eqb i j) (move ∷ moves) moves) (x.jobs j) }
@@ -36,11 +36,14 @@ cond_swap true false m n ms h = refl
 cond_swap false true m n ms h = refl
 cond_swap false false m n ms h = refl
 
-pub same_swap : {M : Type 0} (owner : Owner) (i : ℕ) (move : M) (action : JointAction M) (past : Joint M) → IsFreeOf owner i action → HaveSameJournals (action ∷ OfJob i move ∷ past) (OfJob i move ∷ action ∷ past)
+pub swap_same : {M : Type 0} (i : ℕ) (move : M) (action : JointAction M) (past : Joint M) → is_move_of i action ≡ false → HaveSameJournals (action ∷ OfJob i move ∷ past) (OfJob i move ∷ action ∷ past)
 unfolding server_journal job_journal
-same_swap owner i move (OfServer action) past n = record { server = refl; jobs = λ j. refl }
-same_swap owner i move (OfJob j other) past n =
-    record { server = refl; jobs = λ k. cond_swap (eqb j k) (eqb i k) other move (job_journal k past) (λ e f. absurd (n (eqb-true j k e ∙ sym (eqb-true i k f)))) }
+swap_same i move (OfServer action) past off = record { server = refl; jobs = λ j. refl }
+swap_same i move (OfJob j other) past off =
+    record { server = refl; jobs = λ k. cond_swap (eqb j k) (eqb i k) other move (job_journal k past) (λ e f. absurd (is_other j i off (eqb-true j k e ∙ sym (eqb-true i k f)))) }
+
+pub same_swap : {M : Type 0} (owner : Owner) (i : ℕ) (move : M) (action : JointAction M) (past : Joint M) → IsFreeOf owner i action → HaveSameJournals (action ∷ OfJob i move ∷ past) (OfJob i move ∷ action ∷ past)
+same_swap owner i move action past n = swap_same i move action past (held_off owner i NoTraffic action (free_unheld owner i NoTraffic action n))
 
 -- what an act asks of all that was done before it, it asks of the journals
 serve_same : {M : Type 0} (seen : M → Traffic) (owner : Owner) (k : ℕ) (act : SessionAction) (a b : Joint M) → HaveSameJournals a b → MayServe seen owner k act a → MayServe seen owner k act b
@@ -66,7 +69,7 @@ move_same seen owner i Dials a b x m = tt
 move_same seen owner i (Takes bytes) a b x m = (m.0, m.1, rw (← x.server, ← (x.jobs i)) m.2, rw (← x.server, ← (x.jobs i)) m.3)
 move_same seen owner i NoTraffic a b x m = tt
 
-come_same : {M : Type 0} (seen : M → Traffic) (owner : Owner) (action : JointAction M) (a b : Joint M) → HaveSameJournals a b → IsHandedOnAmong seen owner action a → IsHandedOnAmong seen owner action b
+pub come_same : {M : Type 0} (seen : M → Traffic) (owner : Owner) (action : JointAction M) (a b : Joint M) → HaveSameJournals a b → IsHandedOnAmong seen owner action a → IsHandedOnAmong seen owner action b
 come_same seen owner (OfServer (Of k act)) a b x (inl none) = inl none
 come_same seen owner (OfServer (Of k act)) a b x (inr m) = inr (serve_same seen owner k act a b x m)
 come_same seen owner (OfServer Full) a b x m = tt
@@ -89,15 +92,15 @@ same_sunk owner i move (x ∷ xs) ys n =
     (same_behind x (xs ++ (OfJob i move ∷ ys)) (OfJob i move ∷ (xs ++ ys)) (same_sunk owner i move xs ys n.1))
     (same_swap owner i move x (xs ++ ys) n.0)
 
-hands_then : {M : Type 0} (seen : M → Traffic) (owner : Owner) (action : JointAction M) (past : Joint M) → HandsOnAmong seen owner past → IsHandedOnAmong seen owner action past → HandsOnAmong seen owner (action ∷ past)
+pub hands_then : {M : Type 0} (seen : M → Traffic) (owner : Owner) (action : JointAction M) (past : Joint M) → HandsOnAmong seen owner past → IsHandedOnAmong seen owner action past → HandsOnAmong seen owner (action ∷ past)
 unfolding HandsOnAmong
 hands_then seen owner action past h m = (h, m)
 
-hands_before : {M : Type 0} (seen : M → Traffic) (owner : Owner) (action : JointAction M) (past : Joint M) → HandsOnAmong seen owner (action ∷ past) → HandsOnAmong seen owner past
+pub hands_before : {M : Type 0} (seen : M → Traffic) (owner : Owner) (action : JointAction M) (past : Joint M) → HandsOnAmong seen owner (action ∷ past) → HandsOnAmong seen owner past
 unfolding HandsOnAmong
 hands_before seen owner action past h = h.0
 
-hands_at : {M : Type 0} (seen : M → Traffic) (owner : Owner) (action : JointAction M) (past : Joint M) → HandsOnAmong seen owner (action ∷ past) → IsHandedOnAmong seen owner action past
+pub hands_at : {M : Type 0} (seen : M → Traffic) (owner : Owner) (action : JointAction M) (past : Joint M) → HandsOnAmong seen owner (action ∷ past) → IsHandedOnAmong seen owner action past
 unfolding HandsOnAmong
 hands_at seen owner action past h = h.1
 

@@ -16,20 +16,26 @@ use Rattle.interleaving.proofs.Sooner.{Joint, comes_sooner}
 
 -- ---- one act
 
+is_owned_so : (owner : Owner) (k i : ℕ) → owner k ≡ Some i → (j : ℕ) × (owner k ≡ Some j)
+is_owned_so owner k i own = (i, own)
+
 for_owner : {M : Type 0} (seen : M → Traffic) (owner : Owner) (k : ℕ) (act : SessionAction) (past : Joint M) → MayServe seen owner k act past → IsForAnOwner owner k act
 for_owner seen owner k (Opens port) past m = m
-for_owner seen owner k (Feed piece fed begins) past m = (m.0, m.1)
-for_owner seen owner k (Connect port) past m = (m.0, m.1)
+for_owner seen owner k (Feed piece fed begins) past m = is_owned_so owner k m.0 m.1
+for_owner seen owner k (Connect port) past m = is_owned_so owner k m.0 m.1
 for_owner seen owner k act past m = tt
 
 nobodys : (owner : Owner) (k i : ℕ) → owner k ≡ None → owner k ≡ Some i → ⊥
 nobodys owner k i none own = let clash : None ≡ Some i = sym none ∙ own in cc
 
+nobodys_own : (owner : Owner) (k : ℕ) → owner k ≡ None → (i : ℕ) × (owner k ≡ Some i) → ⊥
+nobodys_own owner k none own = nobodys owner k own.0 none own.1
+
 owned : {M : Type 0} (seen : M → Traffic) (owner : Owner) (k : ℕ) (act : SessionAction) (past : Joint M) → (owner k ≡ None) ⊎ MayServe seen owner k act past → IsForAnOwner owner k act → MayServe seen owner k act past
 owned seen owner k act past (inr m) own = m
 owned seen owner k (Opens port) past (inl none) own = own
-owned seen owner k (Feed piece fed begins) past (inl none) own = absurd (nobodys owner k own.0 none own.1)
-owned seen owner k (Connect port) past (inl none) own = absurd (nobodys owner k own.0 none own.1)
+owned seen owner k (Feed piece fed begins) past (inl none) own = absurd (nobodys_own owner k none own)
+owned seen owner k (Connect port) past (inl none) own = absurd (nobodys_own owner k none own)
 owned seen owner k act past (inl none) own = tt
 
 -- ---- all acts

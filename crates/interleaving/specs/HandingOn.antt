@@ -26,14 +26,22 @@ MayServe seen owner k (Connect port) past = (i : ℕ) × (owner k ≡ Some i)
     × (connections_accepted k (server_journal past) < connections_made seen (job_journal i past))
 MayServe seen owner k act past = Unit {0}
 
--- what a job reads the daemon gave out before, for its session or on the data connection that this accepted last
-abbrev pub MayMove : {M : Type 0} → (M → Traffic) → Owner → ℕ → Traffic → List (JointAction M) → Type 0
-MayMove seen owner i (Reads bytes) past = (k : ℕ) × (owner k ≡ Some i)
+-- what a job hears the daemon said before, for its session
+abbrev pub WasSaid : {M : Type 0} → (M → Traffic) → Owner → ℕ → List ℕ → List (JointAction M) → Type 0
+WasSaid seen owner i bytes past = (k : ℕ) × (owner k ≡ Some i)
     × IsFront (bytes_heard seen (job_journal i past) ++ bytes) (projection_of k (server_journal past)).said
-MayMove seen owner i (Takes bytes) past =
+
+-- what it takes of the data connection that it made last the daemon gave out, on the one that it accepted last for the
+-- job's session, and it accepted as many as were made: so the other end of that connection is the daemon
+abbrev pub CameFromDaemon : {M : Type 0} → (M → Traffic) → Owner → ℕ → List ℕ → List (JointAction M) → Type 0
+CameFromDaemon seen owner i bytes past =
     (k : ℕ) × (owner k ≡ Some i)
     × (connections_accepted k (server_journal past) ≡ connections_made seen (job_journal i past))
     × IsFront (bytes_taken seen (job_journal i past) ++ bytes) (projection_of k (server_journal past)).shown
+
+abbrev pub MayMove : {M : Type 0} → (M → Traffic) → Owner → ℕ → Traffic → List (JointAction M) → Type 0
+MayMove seen owner i (Reads bytes) past = WasSaid seen owner i bytes past
+MayMove seen owner i (Takes bytes) past = CameFromDaemon seen owner i bytes past
 MayMove seen owner i other past = Unit {0}
 
 abbrev pub IsHandedOn : {M : Type 0} → (M → Traffic) → Owner → JointAction M → List (JointAction M) → Type 0

@@ -3,7 +3,9 @@
 #![tactic(auto)]
 
 ghost use Rattle.interleaving.specs.AmongStrangers.{AllMayComeSoonerAmong, MovesMayComeSoonerAmong, NoneSpeaksForAJob, ReadsWereWrittenAmong, StrangersSpeak, WithoutStrangers};
+ghost use Rattle.interleaving.specs.AtOnce.{EachMovesAtOnce};
 ghost use Rattle.interleaving.specs.Orders.{AllMayComeSooner, MovesMayComeSooner, ReadsWereWritten};
+ghost use Rattle.interleaving.specs.Parts.{AnotherMayListen, HandsOnInParts, HandsOnInPartsAmong};
 
 #[tactic(none)]
 pub fn moves_may_come_sooner<M>()
@@ -17,6 +19,14 @@ pub fn all_may_come_sooner<M>()
     /// From where the server gives a job nothing more on, the job may do at once all that it will yet do: each
     /// journal is the same, and connections hand on as before.
     ensures { AllMayComeSooner M }
+{}
+
+/// Each job may move as soon as connections allow.
+#[tactic(none)]
+pub fn each_moves_at_once<M>()
+    /// Of every such order there is another, of the same journals and over connections that hand on, in which each job
+    /// moves as soon as it may: right behind its own last move, or an act that its move waits for.
+    ensures { EachMovesAtOnce M }
 {}
 
 /// Over connections that hand on, in every order, what was read of a job's connections is a front of what was given to them.
@@ -47,4 +57,17 @@ pub fn strangers_are_apart<M>()
     ensures speak { StrangersSpeak M }
     /// The smallest lie is refuted: that the session of a job which wrote nothing is fed a byte.
     ensures refuted { NoneSpeaksForAJob M }
+{}
+
+/// That connections hand on is what is said of the control connections, and that each data connection's other end is the daemon.
+#[tactic(none)]
+pub fn connections_hand_on_in_parts<M>()
+    /// That connections hand on is two things: what the control connections do, and that the other end of each data
+    /// connection is the daemon.
+    ensures parts { HandsOnInParts M }
+    /// So it is among strangers.
+    ensures among { HandsOnInPartsAmong M }
+    /// The second does not follow: where another listens at the port a job takes what the daemon did not give, while
+    /// the control connections hand on.
+    ensures another { AnotherMayListen M }
 {}

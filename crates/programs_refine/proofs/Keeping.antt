@@ -40,6 +40,7 @@ use Rattle.world_refines.proofs.frames.TurnEvents.{Started, started_by}
 use Rattle.scan_world.specs.Calls.{AnswersAre, MovesNext, finished_by, is_starved, moves_answered}
 use Rattle.scan_world.specs.Histories.{History, LedTo}
 use Rattle.scan_world.specs.Laws.{AllIsRight}
+use Rattle.scan_world.proofs.Led.{loads_jointly, runs_jointly}
 use Rattle.scan_world.specs.Promise.{CountIsKept, FileIsKept, JobAnswers, OutcomeIsKept, PageIsKept}
 use Rattle.programs_refine.specs.Keeping.{history_of, AllLoopsAreKept, AreFit, LoopIsKept, ProgramsKeepAll, StoppedIsKept, WorldsHearInTurn, WorldsWantBeforeItFlows}
 use Rattle.programs_refine.specs.Programs.{Acts, ComeToAWorld, EndsAlike, HasFilesOf, IsWorldOf, StopsAlike}
@@ -163,7 +164,7 @@ page_kept h v i job p texts text n bytes files at k =
     (finished_at p n bytes (n + 1 == 0) (nat_lt p.finished (n + 1)) (nat_lt 16 (n + 1)) refl refl refl (grind (arith, nat_tests)) (grind (arith, nat_tests, low, count)) (grind (arith, nat_tests, few)) (files.each n bytes at))
     (subst (λ (m : ℕ). PageIsKept h v i job p.out_of_memory m (n + 1) (finished_page p (n + 1))) (few_finished p texts text files) k)
 
-kept_by : (right : AllIsRight) (h : History) (v : WorldCore) (acts : Acts) (i : ℕ) (job : Job) (last : ClientState) → LedTo h v → slice_get h.jobs i ≡ Some job → is_running last.outcome ≡ false → EndsAlike v i acts last → LoopIsKept h v i job acts last
+pub kept_by : (right : AllIsRight) (h : History) (v : WorldCore) (acts : Acts) (i : ℕ) (job : Job) (last : ClientState) → LedTo h v → slice_get h.jobs i ≡ Some job → is_running last.outcome ≡ false → EndsAlike v i acts last → LoopIsKept h v i job acts last
 kept_by right h v acts i job last led at over x =
     let p = x.endpoint in
     let k = right h v i job (answers_of p) (record { led = led; job_at = at }) (answers_are v i p x.at (ap is_running x.outcome ∙ over)) in
@@ -175,7 +176,7 @@ kept_by right h v acts i job last led at over x =
       count = subst (λ (f : ℕ). CountIsKept h v i job last.outcome f) (few_finished p x.finished x.text x.files) (subst (λ (o : Outcome). CountIsKept h v i job o (min p.finished 16)) x.outcome k.count);
     }
 
-stopped_by : (right : AllIsRight) (h : History) (v : WorldCore) (acts : Acts) (i : ℕ) (job : Job) → LedTo h v → slice_get h.jobs i ≡ Some job → StopsAlike v i acts → StoppedIsKept h v i job acts
+pub stopped_by : (right : AllIsRight) (h : History) (v : WorldCore) (acts : Acts) (i : ℕ) (job : Job) → LedTo h v → slice_get h.jobs i ≡ Some job → StopsAlike v i acts → StoppedIsKept h v i job acts
 stopped_by right h v acts i job led at x =
     let p = x.endpoint in
     let k = right h v i job (answers_of p) (record { led = led; job_at = at }) (answers_are v i p x.at (ap is_running x.lost)) in
@@ -196,8 +197,8 @@ led_by devices jobs d first v events fit is l = record {
   names = fit.names;
   limits = fit.limits;
   fit = fit.fit;
-  loads = no_loads events l.are;
-  runs = l.runs;
+  loads = loads_jointly events (no_loads events l.are);
+  runs = runs_jointly events first v l.runs;
 }
 
 loss_of_connections : (event : Event) → IsLoss event → IsOfConnections event

@@ -1,6 +1,6 @@
 -- What is promised of jobs among strangers, of the programs.
 use Rattle.std.specs.Prelude.{slice_index_or}
-use Rattle.std.proofs.Common.{◌≡◌, ◌∙◌, inl, inr, ℕ, Bool, true, false, Some, List, [], ◌∷◌, ◌++◌, slice_get, refl, sym, ap, subst, arith}
+use Rattle.std.proofs.Common.{◌≡◌, ◌∙◌, inl, inr, ℕ, zero, suc, Bool, true, false, Some, None, List, [], ◌∷◌, ◌++◌, slice_get, refl, sym, ap, subst, arith}
 use Rattle.std.proofs.lemmas.Option.{get_or_from_slice_get, slice_get_within}
 use Rattle.page_picture.specs.SourceView.{source_state}
 use Rattle.device_api.specs.State.{DeviceState}
@@ -17,13 +17,15 @@ use Rattle.event_world.specs.JobEvents.{is_done}
 use Rattle.event_world.specs.Worlds.{Runs, WorldCore}
 use Rattle.world_refines.specs.GhostStates.{Ghost}
 use Rattle.world_refines.specs.MainTheorem.{Promises}
-use Rattle.world_refines.specs.WorldPromises.{IsOutcome}
+use Rattle.world_refines.specs.WorldPromises.{HasScannedPage, IsOutcome}
 use Rattle.world_refines.specs.NewWorlds.{IsNewDaemon, PageSources, initial_ghost}
 use Rattle.strangers.specs.Together.{AllIsKeptAmongStrangers, JointEvent, KeptAmongStrangers, RunsAmong, events_among}
 use Rattle.strangers.specs.Together.JointEvent.{OfJobs, OfStranger}
+use Rattle.scan_world.specs.Histories.{of_jobs}
+use Rattle.scan_world.proofs.Led.{runs_jointly, runs_then}
 use Rattle.programs_refine.specs.AmongStrangers.{AreOfStrangers, LeadsAmong}
 use Rattle.programs_refine.specs.Keeping.{AreFit}
-use Rattle.programs_refine.specs.KeepingAmong.{AreKnown, LoopIsKeptAmong, ProgramsKeepAmongStrangers, StoppedIsKeptAmong, StrangersCompleteNoLoop, WorldsKeepTurnAmongStrangers}
+use Rattle.programs_refine.specs.KeepingAmong.{AreKnown, LoopIsKeptAmong, ProgramsKeepAmongStrangers, StoppedIsKeptAmong, StrangersCompleteNoLoop, TurnedPagesAreScanned, WorldsKeepTurnAmongStrangers}
 use Rattle.programs_refine.specs.Programs.{Acts, EndsAlike, IsWorldOf, StopsAlike, WentOut}
 use Rattle.programs_refine.specs.WorldHistory.{AreOfConnections}
 use Rattle.programs_refine.proofs.InTurn.{in_turn}
@@ -34,33 +36,20 @@ use Rattle.programs_refine.proofs.Programs.{programs_among}
 
 -- ---- events and acts, and then losses
 
-of_jobs : List Event → List JointEvent
-of_jobs [] = []
-of_jobs (e ∷ es) = OfJobs e ∷ of_jobs es
-
-are_then : (events : List JointEvent) (losses : List Event) → AreOfConnections (events_among events) → AreOfConnections losses → AreOfConnections (events_among (events ++ of_jobs losses))
-unfolding of_jobs
+pub are_then : (events : List JointEvent) (losses : List Event) → AreOfConnections (events_among events) → AreOfConnections losses → AreOfConnections (events_among (events ++ of_jobs losses))
 are_then [] [] are lost = tt
 are_then [] (e ∷ losses) are lost = (lost.0, are_then [] losses tt lost.1)
 are_then (OfJobs e ∷ events) losses are lost = (are.0, are_then events losses are.1 lost)
 are_then (OfStranger a ∷ events) losses are lost = are_then events losses are lost
 
-theirs_then : (owner : Owner) (events : List JointEvent) (losses : List Event) → AreOfStrangers owner events → AreOfStrangers owner (events ++ of_jobs losses)
-unfolding of_jobs
+pub theirs_then : (owner : Owner) (events : List JointEvent) (losses : List Event) → AreOfStrangers owner events → AreOfStrangers owner (events ++ of_jobs losses)
 theirs_then owner [] [] all = tt
 theirs_then owner [] (e ∷ losses) all = theirs_then owner [] losses tt
 theirs_then owner (OfJobs e ∷ events) losses all = theirs_then owner events losses all
 theirs_then owner (OfStranger a ∷ events) losses all = (all.0, theirs_then owner events losses all.1)
 
-loses_after : (losses : List Event) (w v : WorldCore) → Runs source_state losses w v → RunsAmong source_state (of_jobs losses) w v
-unfolding of_jobs
-loses_after [] w v r = r
-loses_after (e ∷ losses) w v r = (r.0, r.1, loses_after losses r.0 v r.2)
-
-runs_after : (events : List JointEvent) (losses : List Event) (w u v : WorldCore) → RunsAmong source_state events w u → Runs source_state losses u v → RunsAmong source_state (events ++ of_jobs losses) w v
-runs_after [] losses w u v r more = loses_after losses w v (subst (λ (x : WorldCore). Runs source_state losses x v) r more)
-runs_after (OfJobs e ∷ events) losses w u v r more = (r.0, r.1, runs_after events losses r.0 u v r.2 more)
-runs_after (OfStranger a ∷ events) losses w u v r more = (r.0, r.1, runs_after events losses r.0 u v r.2 more)
+pub runs_after : (events : List JointEvent) (losses : List Event) (w u v : WorldCore) → RunsAmong source_state events w u → Runs source_state losses u v → RunsAmong source_state (events ++ of_jobs losses) w v
+runs_after events losses w u v r more = runs_then events (of_jobs losses) w u v r (runs_jointly losses u v more)
 
 -- ---- what is promised of a world, of a loop
 
@@ -133,15 +122,42 @@ keep_among kept sources other devices jobs owner d acts last fit known r =
 
 -- ---- the lie
 
-undone_went_out : (DoneBatch : Type 0) (turned : List (List ℕ)) (last : List ℕ) (finished : List (List ℕ)) (text : List ℕ) → (DoneBatch → ⊥) → WentOut DoneBatch turned last finished text → text ≡ last
+pub undone_went_out : (DoneBatch : Type 0) (turned : List (List ℕ)) (last : List ℕ) (finished : List (List ℕ)) (text : List ℕ) → (DoneBatch → ⊥) → WentOut DoneBatch turned last finished text → text ≡ last
 undone_went_out DoneBatch turned last finished text undone (inl same) = same.1
 undone_went_out DoneBatch turned last finished text undone (inr all) = absurd (undone all.0)
 
-pub no_lie : StrangersCompleteNoLoop
-no_lie sources other devices jobs owner d acts last k i job at undone whole = by (is_running (last i).outcome) refl
+-- of a job of which that is kept
+pub completes_none : (u : Ghost) (v : WorldCore) (i : ℕ) (job : Job) (acts : Acts) (last : ClientState) → (is_running last.outcome ≡ false → LoopIsKeptAmong u v i job acts last) → (is_running last.outcome ≡ true → StoppedIsKeptAmong u v i job acts) → is_done last.outcome ≡ false → IsWhole (given_by_steps (job_journal i acts)) → ⊥
+completes_none u v i job acts last each stopped undone whole = by (is_running last.outcome) refl
   where
-    by : (b : Bool) → is_running (last i).outcome ≡ b → ⊥
-    by true runs = (k.stopped i job at runs).not_whole whole
+    by : (b : Bool) → is_running last.outcome ≡ b → ⊥
+    by true runs = (stopped runs).not_whole whole
     by false over =
-        let x = k.each i job at over in
-        x.short undone (subst IsWhole (sym (undone_went_out _ _ _ _ _ (λ done. never_both (is_done (last i).outcome) done.1 undone) x.ends.went_out)) whole)
+        let x = each over in
+        x.short undone (subst IsWhole (sym (undone_went_out _ _ _ _ _ (λ done. never_both (is_done last.outcome) done.1 undone) x.ends.went_out)) whole)
+
+pub no_lie : StrangersCompleteNoLoop
+no_lie sources other devices jobs owner d acts last k i job at undone whole = completes_none k.kept.all.ghost_then k.v i job acts (last i) (λ over. k.each i job at over) (λ runs. k.stopped i job at runs) undone whole
+
+-- ---- pages that were turned
+
+front_at : (xs ys : List (List ℕ)) (n : ℕ) (x : List ℕ) → slice_get xs n ≡ Some x → slice_get (xs ++ ys) n ≡ Some x
+front_at [] ys n x e = absurd (let clash : None ≡ Some x = e in cc)
+front_at (a ∷ xs) ys zero x e = e
+front_at (a ∷ xs) ys (suc n) x e = front_at xs ys n x e
+
+turned_finished : (DoneBatch : Type 0) (turned : List (List ℕ)) (last : List ℕ) (finished : List (List ℕ)) (text : List ℕ) → WentOut DoneBatch turned last finished text → (n : ℕ) (bytes : List ℕ) → slice_get turned n ≡ Some bytes → slice_get finished n ≡ Some bytes
+turned_finished DoneBatch turned last finished text (inl same) n bytes at = ap (λ (l : List (List ℕ)). slice_get l n) same.0 ∙ at
+turned_finished DoneBatch turned last finished text (inr all) n bytes at = ap (λ (l : List (List ℕ)). slice_get l n) all.1 ∙ front_at turned (last ∷ []) n bytes at
+
+scanned_pages : (u : Ghost) (v : WorldCore) (i : ℕ) (job : Job) (acts : Acts) (last : ClientState) → (is_running last.outcome ≡ false → LoopIsKeptAmong u v i job acts last) → (is_running last.outcome ≡ true → StoppedIsKeptAmong u v i job acts) → (n : ℕ) (bytes : List ℕ) → slice_get (files_by_steps (job_journal i acts)) n ≡ Some bytes → HasScannedPage u i n bytes
+scanned_pages u v i job acts last each stopped n bytes at = by (is_running last.outcome) refl
+  where
+    by : (b : Bool) → is_running last.outcome ≡ b → HasScannedPage u i n bytes
+    by true runs = (stopped runs).pages n bytes at
+    by false over =
+        let x = each over in
+        x.pages n bytes (turned_finished _ _ _ _ _ x.ends.went_out n bytes at)
+
+pub turned_scanned : TurnedPagesAreScanned
+turned_scanned sources other devices jobs owner d acts last k i job at n bytes there = scanned_pages k.kept.all.ghost_then k.v i job acts (last i) (λ over. k.each i job at over) (λ runs. k.stopped i job at runs) n bytes there

@@ -58,7 +58,7 @@ jobs_lead jobs acts last loops = record {
 }
 
 pub led_among : LoopsLeadIntoRunsAmong
-led_among limits was now end jobs owner acts last x new owns counts hands lost = record {
+led_among limits was now end jobs owner acts last x new owns counts hands from = record {
   new = new;
   owns = owns;
   counts = counts;
@@ -68,11 +68,11 @@ led_among limits was now end jobs owner acts last x new owns counts hands lost =
   after = now.listeners;
   serves = subst (λ (journal : List LoopAction). JournalLeads was.daemon was.listeners journal now.daemon now.listeners) (sym x.server) x.served.leads;
   hands_on = hands;
-  lost = lost;
+  from_daemon = from;
 }
 
 pub led_into : LoopsLeadIntoRuns
-led_into limits was now end jobs owner acts last x new owns counts hands lost = record {
+led_into limits was now end jobs owner acts last x new owns counts hands from = record {
   new = new;
   owns = owns;
   counts = counts;
@@ -82,5 +82,5 @@ led_into limits was now end jobs owner acts last x new owns counts hands lost = 
   after = now.listeners;
   serves = subst (λ (journal : List LoopAction). JournalLeads was.daemon was.listeners journal now.daemon now.listeners) (sym x.server) x.served.leads;
   hands_on = hands;
-  lost = lost;
+  from_daemon = from;
 }

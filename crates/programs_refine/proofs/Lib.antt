@@ -14,6 +14,8 @@ mod Finishing
 mod Simulation
 mod Simulated
 mod Starving
+mod Dropped
+mod Receiving
 mod Timely
 mod Programs
 mod Keeping
@@ -23,4 +25,6 @@ mod KeepingAmong
 mod StoppedLoops
 pub mod WorkedRuns
 mod StrangerComes
+mod ToldAmong
+mod KilledAmong
 mod LedInto

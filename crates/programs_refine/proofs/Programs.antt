@@ -15,7 +15,7 @@ use Rattle.saned_serve.specs.Journal.{DaemonRuns, IsJournal, LoopAction}
 use Rattle.interleaving.specs.Interleavings.{job_journal, server_journal}
 use Rattle.interleaving.specs.AmongStrangers.{ServesOwners}
 use Rattle.interleaving.specs.HandingOn.{Owner}
-use Rattle.interleaving.proofs.Owners.{without}
+use Rattle.interleaving.proofs.Parts.{control_among, in_parts_among}
 use Rattle.event_world.specs.declared.event.Event.{Event}
 use Rattle.event_world.specs.JobEvents.{is_done}
 use Rattle.event_world.specs.Worlds.{Runs, WorldCore}
@@ -71,14 +71,14 @@ come_to source jobs owner among d acts last r owners wants =
     let new = are_new jobs first r.loops.fresh in
     let always = wants w (record { daemon = refl; endpoints = new }) in
     let setting : Setting (course_of source w owner among jobs) = record { one = r.owns.one; within = r.owns.within; wants = always.0; hears = always.1 } in
-    let a = arrange owner (length jobs) acts d r.end (new_limits d r.new) r.new.opened r.owns.one r.owns.within r.serves.is_journal r.serves.run r.hands_on r.lost in
-    let same = a.arranged.same in
+    let a = arrange owner jobs first last acts d r.end (new_limits d r.new) r.owns.one r.owns.within r.loops.fresh r.loops.loops r.serves.is_journal r.serves.run ((in_parts_among traffic_of owner acts).1 r.hands_on r.from_daemon) in
+    let same = a.same in
     let led : ActsLead owner among jobs first d a.new r.end last = record {
       legal = subst IsJournal (sym same.server) r.serves.is_journal;
       runs = subst (λ (l : List LoopAction). DaemonRuns d l r.end) (sym same.server) r.serves.run;
-      hands = a.arranged.hands;
+      hands = a.hands;
       owners = λ none. subst (ServesOwners owner) (sym same.server) (owners none);
-      lost = a.arranged.lost;
+      standing = a.standing;
       timely = a.timely;
       loops = λ i job at. subst (λ (l : List JobStep). StepsLead (first i) l (last i)) (sym (same.jobs i)) (r.loops.loops i job at);
     } in
@@ -149,14 +149,14 @@ run_among jobs owner d acts last r = record {
   before = r.before;
   after = r.after;
   serves = r.serves;
-  hands_on = ((without traffic_of owner acts).0 r.hands_on).0;
-  lost = r.lost;
+  hands_on = (control_among traffic_of owner acts r.hands_on r.from_daemon).0;
+  from_daemon = r.from_daemon;
 }
 
 pub programs_are : ProgramsAreAWorld
 unfolding run_among
 programs_are source jobs owner d acts last r wants =
-    let x = come_to source jobs owner false d acts last (run_among jobs owner d acts last r) (λ none. ((without traffic_of owner acts).0 r.hands_on).1)
+    let x = come_to source jobs owner false d acts last (run_among jobs owner d acts last r) (λ none. (control_among traffic_of owner acts r.hands_on r.from_daemon).1)
     (λ w is.
     let always = wants w is in
     let course = course_of source w owner false jobs in

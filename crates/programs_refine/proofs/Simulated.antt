@@ -23,10 +23,10 @@ use Rattle.event_world.proofs.Events.{stands_run}
 use Rattle.strangers.specs.Together.{JointEvent, RunsAmong}
 use Rattle.strangers.specs.Together.JointEvent.{OfJobs, OfStranger}
 use Rattle.programs_refine.specs.StepTraffic.{traffic_of}
-use Rattle.programs_refine.specs.Programs.{Acts, HasOpenedNone, LostBringNoMore}
+use Rattle.programs_refine.specs.Programs.{Acts, HasOpenedNone}
 use Rattle.programs_refine.proofs.Passed.{Traffics, own_journal, passed_of, passes_full, passes_refuses, passes_stops, passes_turned, passes_waits, traffics_of, traffics_on}
 use Rattle.programs_refine.proofs.Serving.{Setting, acts_on, same_done}
-use Rattle.programs_refine.proofs.Simulation.{AreTimely, begun, endpoints_of, few_open, handed_as, may_step, not_left, not_starved, stands, stands_step}
+use Rattle.programs_refine.proofs.Simulation.{AreTimely, TakeWhatStands, begun, endpoints_of, few_open, handed_as, may_step, not_left, not_starved, stands}
 use Rattle.programs_refine.proofs.Stepping.{OneSteps, steps_on}
 use Rattle.programs_refine.proofs.Tracks.{course_of, JobTracks, Tracks}
 
@@ -38,7 +38,7 @@ pub record ActsLead (owner : Owner) (among : Bool) (jobs : List Job) (first : �
   pub hands : HandsOnAmong traffic_of owner acts
   -- without strangers each session that is served is a job's
   pub owners : among ≡ false → ServesOwners owner (server_journal acts)
-  pub lost : LostBringNoMore owner acts
+  pub standing : TakeWhatStands owner acts
   pub timely : AreTimely owner acts
   pub loops : (i : ℕ) (job : Job) → slice_get jobs i ≡ Some job → StepsLead (first i) (job_journal i acts) (c i)
 
@@ -59,7 +59,7 @@ stands_first source owner among jobs first new d c is fresh l =
 
 server_before : (owner : Owner) (among : Bool) (jobs : List Job) (first : ℕ → ClientState) (new : Core) (action : LoopAction) (past : Acts) (d : Core) (c : ℕ → ClientState) (l : ActsLead owner among jobs first new (OfServer action ∷ past) d c) → (mid : Core) → DaemonRuns new (server_journal past) mid → ActsLead owner among jobs first new past mid c
 unfolding server_journal job_journal HandsOnAmong
-server_before owner among jobs first new action past d c l mid runs = record { legal = l.legal.0; runs = runs; hands = l.hands.0; owners = λ none. (l.owners none).0; lost = l.lost; timely = l.timely; loops = l.loops }
+server_before owner among jobs first new action past d c l mid runs = record { legal = l.legal.0; runs = runs; hands = l.hands.0; owners = λ none. (l.owners none).0; standing = l.standing; timely = l.timely; loops = l.loops }
 
 runs_before : (new : Core) (action : LoopAction) (past : Acts) (d : Core) → DaemonRuns new (server_journal (OfServer action ∷ past)) d → DaemonRuns new (action ∷ server_journal past) d
 unfolding server_journal
@@ -104,7 +104,7 @@ step_is first i step past c l =
 
 job_before : (owner : Owner) (among : Bool) (jobs : List Job) (first : ℕ → ClientState) (new : Core) (i : ℕ) (step : JobStep) (past : Acts) (d : Core) (c : ℕ → ClientState) (mid : ClientState) → ActsLead owner among jobs first new (OfJob i step ∷ past) d c → StepsLead (first i) (job_journal i past) mid → ActsLead owner among jobs first new past d (client_before i mid c)
 unfolding server_journal HandsOnAmong
-job_before owner among jobs first new i step past d c mid l before = record { legal = l.legal; runs = l.runs; hands = l.hands.0; owners = l.owners; lost = l.lost.0; timely = l.timely.0; loops = λ j job at. by j job at (decide j i) }
+job_before owner among jobs first new i step past d c mid l before = record { legal = l.legal; runs = l.runs; hands = l.hands.0; owners = l.owners; standing = l.standing.0; timely = l.timely.0; loops = λ j job at. by j job at (decide j i) }
   where
     by : (j : ℕ) (job : Job) → slice_get jobs j ≡ Some job → (j ≡ i) ⊎ (j ≢ i) → StepsLead (first j) (job_journal j past) (client_before i mid c j)
     by j job at (inl same) = subst (λ (x : ℕ). StepsLead (first x) (job_journal x past) (client_before i mid c x)) (sym same) (subst (λ (z : ClientState). StepsLead (first i) (job_journal i past) z) (sym (before_own i mid c)) before)
@@ -130,7 +130,7 @@ by_job source owner among jobs first new i job step past d c setting files none 
     let was = client_before i s.mid c in
     steps_on (course_of source (start_world jobs new first) owner among jobs) (passed_of (server_journal past)) (λ j. traffics_of (job_journal j past)) (λ j. traffics_of (job_journal j (OfJob i step ∷ past))) d was c t i job step.move step.gives step.turned setting.one setting.hears (λ k own. not_starved owner i k (server_journal past) own l.timely.1)
     (stands_among source t.events (start_world jobs new first) t.w t.leads.runs files) at (one_steps i step past s.mid c)
-    (λ k own low. stands (server_journal past) new d k none l.runs low (not_left owner i k (server_journal past) own l.timely.1)) s.whole (may_step owner i past (traffic_of step) l.hands.1) (stands_step owner i (server_journal past) (traffic_of step) l.lost.1)
+    (λ k own low. stands (server_journal past) new d k none l.runs low (not_left owner i k (server_journal past) own l.timely.1)) s.whole (may_step owner i past (traffic_of step) l.hands.1) l.standing.1
     (subst (λ (z : ClientState). StepLeads z step (c i)) (sym (before_own i s.mid c)) s.leads)
 
 -- who is no job's has no endpoint
@@ -159,7 +159,7 @@ nobody_before owner among jobs first new i step past d c none l = record {
   runs = l.runs;
   hands = l.hands.0;
   owners = l.owners;
-  lost = l.lost.0;
+  standing = l.standing.0;
   timely = l.timely.0;
   loops = λ j job at.
       let off : i ≢ j = λ same. (let wrong : None ≡ Some job = sym none ∙ ap (slice_get jobs) same ∙ at in cc) in

@@ -35,7 +35,7 @@ use Rattle.event_world.specs.FileInvariant.{AllFilesRepresent}
 use Rattle.event_world.specs.Worlds.{AreNew}
 use Rattle.event_world.proofs.Events.{new_posts}
 use Rattle.programs_refine.specs.StepTraffic.{traffic_of}
-use Rattle.programs_refine.specs.Programs.{Acts, BringsNoMore, HasOpenedNone}
+use Rattle.programs_refine.specs.Programs.{Acts, HasOpenedNone}
 use Rattle.programs_refine.proofs.Passed.{Passed, Traffics, has_starved, is_starved, starved_with, no_traffics, only_sent, passed_after, passed_first, passed_of, passes_full, passes_other, passes_own, passes_refuses, passes_stops, passes_turned, passes_waits, traffics_of}
 use Rattle.programs_refine.proofs.Outgoing.{never_both}
 use Rattle.programs_refine.proofs.Serving.{AreFew, Handed}
@@ -230,13 +230,6 @@ may_step owner i acts MakesConnection m = tt
 may_step owner i acts (TakesBytes bytes) m = m
 may_step owner i acts NoTraffic m = tt
 
-pub stands_step : (owner : Owner) (i : ℕ) (journal : List LoopAction) (traffic : Traffic) → BringsNoMore owner i traffic journal → Standing owner (passed_of journal) i traffic
-stands_step owner i journal (WritesBytes bytes) m = tt
-stands_step owner i journal (ReadsBytes bytes) m = tt
-stands_step owner i journal MakesConnection m = tt
-stands_step owner i journal (TakesBytes bytes) m = m
-stands_step owner i journal NoTraffic m = tt
-
 pub few_open : (journal : List LoopAction) (n : ℕ) (act : SessionAction) → IsJournal journal → IsEnabledAfter (Of n act) journal → opens_session act ≡ true → AreFew journal
 few_open journal n act is may opens =
     let counted = open_counted journal is in
@@ -309,3 +302,10 @@ abbrev pub AreTimely : Owner → Acts → Type 0
 AreTimely owner [] = Unit {0}
 AreTimely owner (OfServer action ∷ past) = AreTimely owner past
 AreTimely owner (OfJob i step ∷ past) = AreTimely owner past × IsTimelyFor owner i (server_journal past)
+
+-- ---- and none takes bytes of a data connection behind its loss
+
+abbrev pub TakeWhatStands : Owner → Acts → Type 0
+TakeWhatStands owner [] = Unit {0}
+TakeWhatStands owner (OfServer action ∷ past) = TakeWhatStands owner past
+TakeWhatStands owner (OfJob i step ∷ past) = TakeWhatStands owner past × Standing owner (passed_of (server_journal past)) i (traffic_of step)

@@ -9,6 +9,7 @@ use Rattle.net_client.specs.ClientStates.{ClientState}
 use Rattle.net_jobs.specs.JobJournal.{JobMove}
 use Rattle.net_jobs.specs.JobJournal.JobMove.{Writes, Fails, Hears, Resumes, Prepares, Dials, Takes, Gives, Loses}
 use Rattle.net_jobs.specs.JobSteps.{IsDelivery, JobStep, StepsLead, files_by_steps, given_by_steps}
+use Rattle.saned_core.specs.DaemonStates.{Core}
 use Rattle.saned_serve.specs.SessionActions.{SessionAction}
 use Rattle.saned_serve.specs.SessionActions.SessionAction.{Opens, Hears as HearsOfServer, Feed, Forgets, Take, Says, Looks, Misses, Connect, Turn, Shows, Lose, HangsUp, Leaves}
 use Rattle.saned_serve.specs.Journal.{IsFront, JournalLeads, LoopAction, projection_of}
@@ -17,15 +18,23 @@ use Rattle.in_flight.proofs.Slots.{decide}
 use Rattle.interleaving.specs.Interleavings.{Traffic, bytes_heard, bytes_sent, bytes_taken, connections_accepted, connections_made, job_journal, made_with, sent_with, server_journal}
 use Rattle.interleaving.specs.Interleavings.JointAction.{OfJob, OfServer}
 use Rattle.interleaving.specs.Interleavings.Traffic.{Writes as WritesBytes, Reads as ReadsBytes, Dials as MakesConnection, Takes as TakesBytes, NoTraffic}
-use Rattle.interleaving.specs.HandingOn.{HandsOn, IsHandedOn, MayMove, MayServe, Owner}
+use Rattle.interleaving.specs.AmongStrangers.{ServesOwners}
+use Rattle.interleaving.specs.HandingOn.{HandsOnAmong, IsHandedOnAmong, MayMove, MayServe, Owner}
+use Rattle.interleaving.proofs.Parts.{control_alone, control_among, in_parts_among}
 use Rattle.interleaving.proofs.Sooner.{of_other}
 use Rattle.event_world.specs.Worlds.{WorldCore}
+use Rattle.world_refines.specs.GhostStates.{Ghost}
+use Rattle.world_refines.specs.WorldPromises.{HasScannedPage}
 use Rattle.scan_world.specs.Histories.{History}
 use Rattle.scan_world.specs.Promise.{PageIsKept}
 use Rattle.programs_refine.specs.StepTraffic.{traffic_of}
-use Rattle.programs_refine.specs.Programs.{Acts, BringsNoMore, HasFilesOf, IsDoneBatch, LostBringNoMore, RunOverConnections, WentOut}
+use Rattle.programs_refine.specs.Programs.{Acts, EndsAlike, HasFilesOf, IsDoneBatch, RunOverConnections, StopsAlike, WentOut}
 use Rattle.programs_refine.specs.Keeping.{LoopIsKept, ProgramsKeepAll, StoppedIsKept, history_of}
-use Rattle.programs_refine.specs.StoppedLoops.{ProgramsKeepEach}
+use Rattle.programs_refine.specs.AmongStrangers.{RunAmongStrangers}
+use Rattle.programs_refine.specs.KeepingAmong.{LoopIsKeptAmong, ProgramsKeepAmongStrangers, StoppedIsKeptAmong}
+use Rattle.programs_refine.specs.StoppedLoops.{LoopsLeadOrStop, ProgramsKeepEach, RunOfAnyLoops}
+use Rattle.programs_refine.specs.StoppedAmong.{ProgramsKeepEachAmongStrangers, RunOfAnyLoopsAmong, StoppedLoopsCompleteNone}
+use Rattle.programs_refine.proofs.KeepingAmong.{completes_none}
 use Rattle.programs_refine.proofs.Outgoing.{never_both}
 use Rattle.programs_refine.proofs.Passed.{own_journal}
 
@@ -196,8 +205,9 @@ came_behind_cut whole j step past came i out = by (decide j i)
     by (inl same) = never_both (whole_from j whole i) (ap (whole_from j whole) (sym same) ∙ own_whole j whole) out
     by (inr off) = came_behind_other whole j step past i off came (sym (other_whole j i whole off) ∙ out)
 
-acts_alike : (owner : Owner) (whole : ℕ → Bool) (action : LoopAction) (past : Acts) → AllCame whole past → IsHandedOn traffic_of owner (OfServer action) past → IsHandedOn traffic_of owner (OfServer action) (cut whole past)
-acts_alike owner whole (Of k act) past came h = serves_alike owner whole k act past came h
+acts_alike : (owner : Owner) (whole : ℕ → Bool) (action : LoopAction) (past : Acts) → AllCame whole past → IsHandedOnAmong traffic_of owner (OfServer action) past → IsHandedOnAmong traffic_of owner (OfServer action) (cut whole past)
+acts_alike owner whole (Of k act) past came (inl none) = inl none
+acts_alike owner whole (Of k act) past came (inr h) = inr (serves_alike owner whole k act past came h)
 acts_alike owner whole Full past came h = tt
 acts_alike owner whole Waits past came h = tt
 acts_alike owner whole (Refuses port trace) past came h = tt
@@ -205,49 +215,95 @@ acts_alike owner whole Turned past came h = tt
 acts_alike owner whole Stops past came h = tt
 
 hands_if : (owner : Owner) (j : ℕ) (step : JobStep) (whole : ℕ → Bool) (past : Acts) (b : Bool) → whole j ≡ b → AllCame whole (OfJob j step ∷ past) → MayMove traffic_of owner j (traffic_of step) past
-    → (AllCame whole past → HandsOn traffic_of owner (cut whole past)) → (AllCame (whole_from j whole) past → HandsOn traffic_of owner (cut (whole_from j whole) past)) → HandsOn traffic_of owner (cond b (OfJob j step ∷ cut whole past) (cut (whole_from j whole) past))
-unfolding HandsOn
+    → (AllCame whole past → HandsOnAmong traffic_of owner (cut whole past)) → (AllCame (whole_from j whole) past → HandsOnAmong traffic_of owner (cut (whole_from j whole) past)) → HandsOnAmong traffic_of owner (cond b (OfJob j step ∷ cut whole past) (cut (whole_from j whole) past))
+unfolding HandsOnAmong
 hands_if owner j step whole past true on came may kept left =
     let own : job_journal j (cut whole past) ≡ job_journal j past = cut_job j whole past ∙ ap (λ (b : Bool). left_of b (job_journal j past)) on in
     (kept (came_behind_whole whole j step past on came), moves_alike owner j (traffic_of step) past (cut whole past) (cut_server whole past) own may)
 hands_if owner j step whole past false out came may kept left = left (came_behind_cut whole j step past came)
 
-cut_hands : (owner : Owner) (whole : ℕ → Bool) (acts : Acts) → AllCame whole acts → HandsOn traffic_of owner acts → HandsOn traffic_of owner (cut whole acts)
-unfolding HandsOn
+cut_hands : (owner : Owner) (whole : ℕ → Bool) (acts : Acts) → AllCame whole acts → HandsOnAmong traffic_of owner acts → HandsOnAmong traffic_of owner (cut whole acts)
+unfolding HandsOnAmong
 cut_hands owner whole [] came h = tt
 cut_hands owner whole (OfServer action ∷ past) came h =
     let before = came_behind_server whole action past came in
     (cut_hands owner whole past before h.0, acts_alike owner whole action past before h.1)
 cut_hands owner whole (OfJob j step ∷ past) came h = hands_if owner j step whole past (whole j) refl came h.1 (λ all. cut_hands owner whole past all h.0) (λ all. cut_hands owner (whole_from j whole) past all h.0)
 
-brings_alike : (owner : Owner) (j : ℕ) (t : Traffic) (journal other : List LoopAction) → other ≡ journal → BringsNoMore owner j t journal → BringsNoMore owner j t other
-brings_alike owner j t journal other same b = subst (BringsNoMore owner j t) (sym same) b
+-- ---- the run that is left
 
-lost_if : (owner : Owner) (j : ℕ) (step : JobStep) (b : Bool) (kept left : Acts) → LostBringNoMore owner kept → LostBringNoMore owner left → BringsNoMore owner j (traffic_of step) (server_journal kept) → LostBringNoMore owner (cond b (OfJob j step ∷ kept) left)
-lost_if owner j step true kept left k l brings = (k, brings)
-lost_if owner j step false kept left k l brings = l
+same_steps : (whole : ℕ → Bool) (acts : Acts) (i : ℕ) → whole i ≡ true → job_journal i (cut whole acts) ≡ job_journal i acts
+same_steps whole acts i on = cut_job i whole acts ∙ ap (λ (b : Bool). left_of b (job_journal i acts)) on
 
-cut_lost : (owner : Owner) (whole : ℕ → Bool) (acts : Acts) → LostBringNoMore owner acts → LostBringNoMore owner (cut whole acts)
-cut_lost owner whole [] l = tt
-cut_lost owner whole (OfServer action ∷ past) l = cut_lost owner whole past l
-cut_lost owner whole (OfJob j step ∷ past) l =
-    lost_if owner j step (whole j) (cut whole past) (cut (whole_from j whole) past) (cut_lost owner whole past l.0) (cut_lost owner (whole_from j whole) past l.0) (brings_alike owner j (traffic_of step) (server_journal past) (server_journal (cut whole past)) (cut_server whole past) l.1)
+cut_led : (jobs : List Job) (whole : ℕ → Bool) (acts : Acts) (last : ℕ → ClientState) (l : LoopsLeadOrStop jobs whole acts last) → (i : ℕ) (job : Job) → slice_get jobs i ≡ Some job → (b : Bool) → whole i ≡ b → StepsLead (l.first i) (job_journal i (cut whole acts)) (last i)
+cut_led jobs whole acts last l i job at true on = subst (λ (x : List JobStep). StepsLead (l.first i) x (last i)) (sym (same_steps whole acts i on)) (l.loops i job at on)
+cut_led jobs whole acts last l i job at false out =
+    let s = l.stops i out in
+    let rest : job_journal i (cut whole acts) ≡ s.before = cut_job i whole acts ∙ ap (λ (b : Bool). left_of b (job_journal i acts)) out ∙ ap behind_newest s.steps_are in
+    subst (λ (x : List JobStep). StepsLead (l.first i) x (last i)) (sym rest) s.leads
+
+cut_run : (jobs : List Job) (owner : Owner) (d : Core) (whole : ℕ → Bool) (acts : Acts) (last : ℕ → ClientState) → RunOfAnyLoopsAmong jobs owner d whole acts last → RunAmongStrangers jobs owner d (cut whole acts) last
+cut_run jobs owner d whole acts last r =
+    let came : AllCame whole acts = λ i out. (let s = r.loops.stops i out in subst NewestCame (sym s.steps_are) s.came) in
+    let left = (in_parts_among traffic_of owner (cut whole acts)).0 (cut_hands owner whole acts came ((in_parts_among traffic_of owner acts).1 r.hands_on r.from_daemon)) in
+    record {
+      new = r.new;
+      owns = r.owns;
+      counts = r.counts;
+      loops = record { first = r.loops.first; fresh = r.loops.fresh; loops = λ i job at. cut_led jobs whole acts last r.loops i job at (whole i) refl };
+      end = r.end;
+      before = r.before;
+      after = r.after;
+      serves = subst (λ (l : List LoopAction). JournalLeads d r.before l r.end r.after) (sym (cut_server whole acts)) r.serves;
+      hands_on = left.0;
+      from_daemon = left.1;
+    }
+
+-- without strangers it is one of those
+any_among : (jobs : List Job) (owner : Owner) (d : Core) (whole : ℕ → Bool) (acts : Acts) (last : ℕ → ClientState) → RunOfAnyLoops jobs owner d whole acts last → RunOfAnyLoopsAmong jobs owner d whole acts last
+any_among jobs owner d whole acts last r = record {
+  new = r.new;
+  owns = r.owns;
+  counts = r.counts;
+  loops = r.loops;
+  end = r.end;
+  before = r.before;
+  after = r.after;
+  serves = r.serves;
+  hands_on = (control_among traffic_of owner acts r.hands_on r.from_daemon).0;
+  from_daemon = r.from_daemon;
+}
+
+cut_alone : (jobs : List Job) (owner : Owner) (d : Core) (whole : ℕ → Bool) (acts : Acts) (last : ℕ → ClientState) → RunOfAnyLoops jobs owner d whole acts last → RunOverConnections jobs owner d (cut whole acts) last
+cut_alone jobs owner d whole acts last r =
+    let x = cut_run jobs owner d whole acts last (any_among jobs owner d whole acts last r) in
+    let owners = subst (ServesOwners owner) (sym (cut_server whole acts)) (control_among traffic_of owner acts r.hands_on r.from_daemon).1 in
+    record {
+      new = x.new;
+      owns = x.owns;
+      counts = x.counts;
+      loops = x.loops;
+      end = x.end;
+      before = x.before;
+      after = x.after;
+      serves = x.serves;
+      hands_on = control_alone traffic_of owner (cut whole acts) x.hands_on x.from_daemon owners;
+      from_daemon = x.from_daemon;
+    }
 
 -- ---- what is kept of a whole loop is kept of the same steps
+
+went_same : (v : WorldCore) (i : ℕ) (acts other : Acts) (last : ClientState) (e : EndsAlike v i other last) → job_journal i other ≡ job_journal i acts → WentOut (IsDoneBatch e.endpoint.task last.outcome) (files_by_steps (job_journal i acts)) (given_by_steps (job_journal i acts)) e.finished e.text
+went_same v i acts other last e same = subst (λ (l : List JobStep). WentOut (IsDoneBatch e.endpoint.task last.outcome) (files_by_steps l) (given_by_steps l) e.finished e.text) same e.went_out
+
+files_same : (v : WorldCore) (i : ℕ) (acts other : Acts) (s : StopsAlike v i other) → job_journal i other ≡ job_journal i acts → HasFilesOf (files_by_steps (job_journal i acts)) (given_by_steps (job_journal i acts)) s.endpoint
+files_same v i acts other s same = subst (λ (l : List JobStep). HasFilesOf (files_by_steps l) (given_by_steps l) s.endpoint) same s.files
 
 ends_same : (h : History) (v : WorldCore) (i : ℕ) (job : Job) (acts other : Acts) (last : ClientState) → job_journal i other ≡ job_journal i acts → LoopIsKept h v i job other last → LoopIsKept h v i job acts last
 ends_same h v i job acts other last same k =
     let e = k.ends in
     record {
-      ends = record {
-        endpoint = e.endpoint;
-        at = e.at;
-        outcome = e.outcome;
-        finished = e.finished;
-        text = e.text;
-        files = e.files;
-        went_out = subst (λ (l : List JobStep). WentOut (IsDoneBatch e.endpoint.task last.outcome) (files_by_steps l) (given_by_steps l) e.finished e.text) same e.went_out;
-      };
+      ends = record { endpoint = e.endpoint; at = e.at; outcome = e.outcome; finished = e.finished; text = e.text; files = e.files; went_out = went_same v i acts other last e same };
       outcome = k.outcome;
       file = k.file;
       pages = k.pages;
@@ -258,43 +314,65 @@ stops_same : (h : History) (v : WorldCore) (i : ℕ) (job : Job) (acts other : A
 stops_same h v i job acts other same k =
     let p = k.stops.endpoint in
     record {
-      stops = record { endpoint = p; at = k.stops.at; lost = k.stops.lost; files = subst (λ (l : List JobStep). HasFilesOf (files_by_steps l) (given_by_steps l) p) same k.stops.files };
+      stops = record { endpoint = p; at = k.stops.at; lost = k.stops.lost; files = files_same v i acts other k.stops same };
       not_whole = subst (λ (l : List JobStep). IsWhole (given_by_steps l) → ⊥) same k.not_whole;
       pages = subst (λ (l : List JobStep). (n : ℕ) (bytes : List ℕ) → slice_get (files_by_steps l) n ≡ Some bytes → PageIsKept h v i job p.out_of_memory (length (files_by_steps l)) (n + 1) (Some bytes)) same k.pages;
     }
 
+ends_same_among : (u : Ghost) (v : WorldCore) (i : ℕ) (job : Job) (acts other : Acts) (last : ClientState) → job_journal i other ≡ job_journal i acts → LoopIsKeptAmong u v i job other last → LoopIsKeptAmong u v i job acts last
+ends_same_among u v i job acts other last same k =
+    let e = k.ends in
+    record {
+      ends = record { endpoint = e.endpoint; at = e.at; outcome = e.outcome; finished = e.finished; text = e.text; files = e.files; went_out = went_same v i acts other last e same };
+      is_of = k.is_of;
+      outcome = k.outcome;
+      statuses = k.statuses;
+      short = k.short;
+      scanned = k.scanned;
+      pages = k.pages;
+      count = k.count;
+    }
+
+stops_same_among : (u : Ghost) (v : WorldCore) (i : ℕ) (job : Job) (acts other : Acts) → job_journal i other ≡ job_journal i acts → StoppedIsKeptAmong u v i job other → StoppedIsKeptAmong u v i job acts
+stops_same_among u v i job acts other same k = record {
+  stops = record { endpoint = k.stops.endpoint; at = k.stops.at; lost = k.stops.lost; files = files_same v i acts other k.stops same };
+  is_of = k.is_of;
+  not_whole = subst (λ (l : List JobStep). IsWhole (given_by_steps l) → ⊥) same k.not_whole;
+  pages = subst (λ (l : List JobStep). (n : ℕ) (bytes : List ℕ) → slice_get (files_by_steps l) n ≡ Some bytes → HasScannedPage u i n bytes) same k.pages;
+}
+
+-- ---- so all is kept of each loop that did whole steps
+
 pub keeps_each : ProgramsKeepAll → ProgramsKeepEach
 keeps_each all devices jobs owner d whole acts last fit r =
     let other = cut whole acts in
-    let came : AllCame whole acts = λ i out. (let s = r.loops.stops i out in subst NewestCame (sym s.steps_are) s.came) in
-    let run : RunOverConnections jobs owner d other last = record {
-      new = r.new;
-      owns = r.owns;
-      counts = r.counts;
-      loops = record { first = r.loops.first; fresh = r.loops.fresh; loops = λ i job at. led i job at (whole i) refl };
-      end = r.end;
-      before = r.before;
-      after = r.after;
-      serves = subst (λ (l : List LoopAction). JournalLeads d r.before l r.end r.after) (sym (cut_server whole acts)) r.serves;
-      hands_on = cut_hands owner whole acts came r.hands_on;
-      lost = cut_lost owner whole acts r.lost;
-    } in
-    let k = all devices jobs owner d other last fit run in
+    let k = all devices jobs owner d other last fit (cut_alone jobs owner d whole acts last r) in
+    let h = history_of devices jobs d k.events in
     record {
       events = k.events;
       are = k.are;
       v = k.v;
       led = k.led;
-      each = λ i job at on over. ends_same (history_of devices jobs d k.events) k.v i job acts other (last i) (same i on) (k.each i job at over);
-      stopped = λ i job at on runs. stops_same (history_of devices jobs d k.events) k.v i job acts other (same i on) (k.stopped i job at runs);
+      each = λ i job at on over. ends_same h k.v i job acts other (last i) (same_steps whole acts i on) (k.each i job at over);
+      stopped = λ i job at on runs. stops_same h k.v i job acts other (same_steps whole acts i on) (k.stopped i job at runs);
     }
-  where
-    same : (i : ℕ) → whole i ≡ true → job_journal i (cut whole acts) ≡ job_journal i acts
-    same i on = cut_job i whole acts ∙ ap (λ (b : Bool). left_of b (job_journal i acts)) on
 
-    led : (i : ℕ) (job : Job) → slice_get jobs i ≡ Some job → (b : Bool) → whole i ≡ b → StepsLead (r.loops.first i) (job_journal i (cut whole acts)) (last i)
-    led i job at true on = subst (λ (l : List JobStep). StepsLead (r.loops.first i) l (last i)) (sym (same i on)) (r.loops.loops i job at on)
-    led i job at false out =
-        let s = r.loops.stops i out in
-        let rest : job_journal i (cut whole acts) ≡ s.before = cut_job i whole acts ∙ ap (λ (b : Bool). left_of b (job_journal i acts)) out ∙ ap behind_newest s.steps_are in
-        subst (λ (l : List JobStep). StepsLead (r.loops.first i) l (last i)) (sym rest) s.leads
+pub keeps_each_among : ProgramsKeepAmongStrangers → ProgramsKeepEachAmongStrangers
+keeps_each_among all sources other devices jobs owner d whole acts last fit known r =
+    let left = cut whole acts in
+    let k = all sources other devices jobs owner d left last fit known (cut_run jobs owner d whole acts last r) in
+    record {
+      w = k.w;
+      is_of = k.is_of;
+      events = k.events;
+      v = k.v;
+      leads = k.leads;
+      strangers = k.strangers;
+      kept = k.kept;
+      each = λ i job at on over. ends_same_among k.kept.all.ghost_then k.v i job acts left (last i) (same_steps whole acts i on) (k.each i job at over);
+      stopped = λ i job at on runs. stops_same_among k.kept.all.ghost_then k.v i job acts left (same_steps whole acts i on) (k.stopped i job at runs);
+    }
+
+pub stopped_complete_none : StoppedLoopsCompleteNone
+stopped_complete_none sources other devices jobs owner d whole acts last k i job at on undone whole_file =
+    completes_none k.kept.all.ghost_then k.v i job acts (last i) (λ over. k.each i job at on over) (λ runs. k.stopped i job at on runs) undone whole_file

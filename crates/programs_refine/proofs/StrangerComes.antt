@@ -9,13 +9,14 @@ use Rattle.net_jobs.specs.JobSteps.{StepsLead}
 use Rattle.saned_core.specs.DaemonStates.{on_session_slot, session_slot_of, with_session_slot}
 use Rattle.saned_serve.specs.Journal.{projection_of}
 use Rattle.interleaving.specs.Interleavings.{bytes_heard, bytes_sent, connections_accepted, connections_made, job_journal, server_journal}
-use Rattle.interleaving.specs.HandingOn.{HandsOn, HandsOnAmong}
+use Rattle.interleaving.specs.HandingOn.{HandsOn}
+use Rattle.interleaving.specs.Parts.{ControlHandsOnAmong, DataIsFromDaemon}
 use Rattle.programs_refine.specs.KeepingAmong.{ProgramsKeepAmongStrangers, StrangerComesIsARun, StrangerComesIsKept, stranger_acts}
 use Rattle.programs_refine.specs.WorkedRuns.{lost_client, new_core}
 use Rattle.programs_refine.proofs.WorkedRuns.{core_1, core_2, core_3, loses_leads, new_is_fit, none_owned, one_job, starves, unused_behind}
 
 pub stranger_comes : StrangerComesIsARun
-unfolding server_journal job_journal HandsOn HandsOnAmong projection_of session_slot_of on_session_slot with_session_slot bytes_sent bytes_heard connections_accepted connections_made
+unfolding server_journal job_journal HandsOn ControlHandsOnAmong DataIsFromDaemon projection_of session_slot_of on_session_slot with_session_slot bytes_sent bytes_heard connections_accepted connections_made
 stranger_comes job c registry users strings stream port byte new count = (
   record {
     new = record { slots = refl; opened = refl };
@@ -36,7 +37,7 @@ stranger_comes job c registry users strings stream port byte new count = (
       unused = λ id low. unused_behind id port byte low;
     };
     hands_on = (((((tt, inl refl), inl refl), inl refl), inl refl), tt);
-    lost = (tt, tt);
+    from_daemon = (tt, tt);
   },
   λ h. let own = h.0.0.0.0.1 in let clash : None ≡ Some own.0 = own.1 in cc,
 )

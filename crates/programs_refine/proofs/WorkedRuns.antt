@@ -26,12 +26,13 @@ use Rattle.saned_serve.specs.SessionActions.{SessionAction}
 use Rattle.saned_serve.specs.SessionActions.SessionAction.{Feed, Hears, Opens, Take}
 use Rattle.saned_serve.specs.Journal.{LoopAction, empty_projection, projection_of}
 use Rattle.saned_serve.specs.Journal.LoopAction.{Of}
-use Rattle.interleaving.specs.Interleavings.{bytes_heard, bytes_sent, connections_accepted, connections_made, job_journal, server_journal}
+use Rattle.interleaving.specs.Interleavings.{bytes_heard, bytes_sent, bytes_taken, connections_accepted, connections_made, job_journal, server_journal}
 use Rattle.interleaving.specs.Interleavings.JointAction.{OfJob}
 use Rattle.interleaving.specs.AmongStrangers.{owned_by_none}
 use Rattle.interleaving.specs.HandingOn.{HandsOn, HaveOneSession}
+use Rattle.interleaving.specs.Parts.{ControlHandsOn, DataIsFromDaemon}
 use Rattle.programs_refine.specs.Programs.{OwnersAreJobs}
-use Rattle.programs_refine.specs.WorkedRuns.{LostAtOnceIsARun, NewIsFit, StarvedIsARun, StarvedIsKept, loses, lost_client, new_core, owned_by_first, starved_acts, writes}
+use Rattle.programs_refine.specs.WorkedRuns.{LostAtOnceIsARun, LostMayBringMore, NewIsFit, StarvedIsARun, StarvedIsKept, loses, lost_client, new_core, owned_by_first, starved_acts, writes}
 
 -- of one job
 pub one_job : (job other : Job) (i : ℕ) (P : ℕ → Job → Type 0) → slice_get (job ∷ []) i ≡ Some other → P 0 job → P i other
@@ -50,7 +51,7 @@ pub none_owned : (jobs : List Job) → OwnersAreJobs owned_by_none jobs
 none_owned jobs = record { within = λ k i e. absurd (let clash : None ≡ Some i = e in cc); one = λ j k i e f. absurd (let clash : None ≡ Some i = e in cc) }
 
 pub lost_at_once : LostAtOnceIsARun
-unfolding server_journal job_journal HandsOn projection_of
+unfolding server_journal job_journal ControlHandsOn DataIsFromDaemon projection_of
 lost_at_once job c registry users strings stream new count = record {
   new = record { slots = refl; opened = refl };
   owns = none_owned (job ∷ []);
@@ -65,7 +66,7 @@ lost_at_once job c registry users strings stream new count = record {
   after = None;
   serves = record { is_journal = tt; run = refl; net = refl; unused = λ id low. refl };
   hands_on = (tt, tt);
-  lost = (tt, tt);
+  from_daemon = (tt, tt);
 }
 
 -- ---- 2
@@ -139,7 +140,7 @@ unused_behind id port byte low =
     other_projection id _ _ off ∙ (other_projection id _ _ off ∙ (other_projection id _ _ off ∙ (other_projection id _ _ off ∙ first_projection id)))
 
 pub starved_at_once : StarvedIsARun
-unfolding server_journal job_journal HandsOn projection_of session_slot_of on_session_slot with_session_slot bytes_sent bytes_heard connections_accepted connections_made
+unfolding server_journal job_journal ControlHandsOn DataIsFromDaemon projection_of session_slot_of on_session_slot with_session_slot bytes_sent bytes_heard connections_accepted connections_made
 starved_at_once job c registry users strings stream port byte rest new count is = record {
   new = record { slots = refl; opened = refl };
   owns = first_owned job;
@@ -159,7 +160,7 @@ starved_at_once job c registry users strings stream port byte rest new count is 
     unused = λ id low. unused_behind id port byte low;
   };
   hands_on = ((((((tt, tt), (0, refl)), tt), tt), (0, refl, (rest, is))), tt);
-  lost = ((tt, tt), tt);
+  from_daemon = ((tt, tt), tt);
 }
 
 -- ---- the theorem, of that run
@@ -171,3 +172,9 @@ pub kept : ProgramsKeepAll → StarvedIsKept
 kept all devices job c users strings stream port byte rest names limits fit new is =
     all devices (job ∷ []) owned_by_first (new_core (fresh_table devices) users strings stream) (starved_acts port c byte) _ (new_is_fit devices job users strings stream names limits fit)
     (starved_at_once job c (fresh_table devices) users strings stream port byte rest new fit.1 is)
+
+-- ---- behind a loss
+
+pub lost_brings : LostMayBringMore
+unfolding HandsOn server_journal job_journal projection_of connections_accepted connections_made bytes_taken
+lost_brings port room byte = ((((((tt, (0, refl)), tt), (0, refl, omega arith)), tt), tt), (0, refl, refl, ([], refl)))

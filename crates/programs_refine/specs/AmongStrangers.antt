@@ -13,14 +13,15 @@ use Rattle.saned_serve.specs.Journal.{JournalLeads}
 use Rattle.saned_serve.specs.Serving.{DaemonAndListeners, ServeLimits}
 use Rattle.saned_serve.specs.declared.serving.ServeEnd.{ServeEnd}
 use Rattle.interleaving.specs.Interleavings.{server_journal}
-use Rattle.interleaving.specs.HandingOn.{HandsOnAmong, Owner}
+use Rattle.interleaving.specs.HandingOn.{Owner}
+use Rattle.interleaving.specs.Parts.{ControlHandsOnAmong, DataIsFromDaemon}
 use Rattle.event_world.specs.declared.event.Event.{Event}
 use Rattle.event_world.specs.Worlds.{Runs, WorldCore}
 use Rattle.strangers.specs.Together.{JointEvent, RunsAmong, events_among}
 use Rattle.strangers.specs.Together.JointEvent.{OfJobs, OfStranger}
 use Rattle.programs_refine.specs.LedInto.{Interleaves}
 use Rattle.programs_refine.specs.StepTraffic.{traffic_of}
-use Rattle.programs_refine.specs.Programs.{Acts, EndsAlike, HasOpenedNone, IsWorldOf, JobsLead, LostBringNoMore}
+use Rattle.programs_refine.specs.Programs.{Acts, EndsAlike, HasOpenedNone, IsWorldOf, JobsLead}
 use Rattle.programs_refine.specs.Programs.{OwnersAreJobs, RunOverConnections, StopsAlike}
 use Rattle.programs_refine.specs.WorldHistory.{AreLosses, AreOfConnections, HearsInTurn, WantsBeforeItFlows}
 
@@ -39,8 +40,8 @@ pub record RunAmongStrangers (jobs : List Job) (owner : Owner) (d : Core) (acts 
   pub before : Option ListenerTrace
   pub after : Option ListenerTrace
   pub serves : JournalLeads d before (server_journal acts) end after
-  pub hands_on : HandsOnAmong traffic_of owner acts
-  pub lost : LostBringNoMore owner acts
+  pub hands_on : ControlHandsOnAmong traffic_of owner acts
+  pub from_daemon : DataIsFromDaemon traffic_of owner acts
 
 -- a run over connections is one, in which no stranger speaks
 abbrev pub RunsAreAmongStrangers : Type 0
@@ -55,8 +56,9 @@ LoopsLeadIntoRunsAmong =
     (limits : ServeLimits) (was now : DaemonAndListeners) (end : ServeEnd) (jobs : List Job) (owner : Owner)
     (acts : Acts)
     (last : ℕ → ClientState) → Interleaves limits was now end jobs acts last → HasOpenedNone was.daemon
-    → OwnersAreJobs owner jobs → All (λ (job : Job). HasCount job.task) jobs → HandsOnAmong traffic_of owner acts
-    → LostBringNoMore owner acts → RunAmongStrangers jobs owner was.daemon acts last
+    → OwnersAreJobs owner jobs → All (λ (job : Job). HasCount job.task) jobs
+    → ControlHandsOnAmong traffic_of owner acts → DataIsFromDaemon traffic_of owner acts
+    → RunAmongStrangers jobs owner was.daemon acts last
 
 -- ---- what they come to
 

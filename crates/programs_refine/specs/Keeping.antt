@@ -15,7 +15,7 @@ use Rattle.interleaving.specs.HandingOn.{Owner}
 use Rattle.event_world.specs.declared.event.Event.{Event}
 use Rattle.event_world.specs.Worlds.{IsFitJob, WorldCore}
 use Rattle.world_refines.specs.NewWorlds.{IsNewDaemon}
-use Rattle.scan_world.specs.Histories.{History, LedTo}
+use Rattle.scan_world.specs.Histories.{History, LedTo, of_jobs}
 use Rattle.scan_world.specs.Promise.{CountIsKept, FileIsKept, OutcomeIsKept, PageIsKept}
 use Rattle.programs_refine.specs.Programs.{Acts, EndsAlike, IsWorldOf, RunOverConnections, StopsAlike}
 use Rattle.programs_refine.specs.WorldHistory.{AlwaysHearsInTurn, AlwaysWantsBeforeItFlows, AreOfConnections}
@@ -41,7 +41,7 @@ WorldsHearInTurn = (devices : List DeviceState) (jobs : List Job) (other : Job) 
 
 -- these devices, users and jobs, and these events
 abbrev pub history_of : List DeviceState → List Job → Core → List Event → History
-history_of devices jobs d events = record { devices = devices; users = d.users; jobs = jobs; events = events }
+history_of devices jobs d events = record { devices = devices; users = d.users; jobs = jobs; events = of_jobs events }
 
 -- **is kept (`LoopIsKept`, `StoppedIsKept`, `AllLoopsAreKept`)**: what a world promises of the outcome, the files and
 -- the count of pages of a job, of what its loop came to, by a history of such events that led to a world where it is

@@ -118,6 +118,14 @@ StrangersCompleteNoLoop =
     → (i : ℕ) (job : Job) → slice_get jobs i ≡ Some job → is_done (last i).outcome ≡ false
     → IsWhole (given_by_steps (job_journal i acts)) → ⊥
 
+-- each page that a job turned is that of the start of its number, whatever its loop came to
+abbrev pub TurnedPagesAreScanned : Type 0
+TurnedPagesAreScanned =
+    (sources : ℕ → PageSources) (other : Job) (devices : List DeviceState) (jobs : List Job) (owner : Owner) (d : Core)
+    (acts : Acts) (last : ℕ → ClientState) → (k : AllLoopsAreKeptAmong sources other devices jobs owner d acts last)
+    → (i : ℕ) (job : Job) → slice_get jobs i ≡ Some job → (n : ℕ) (bytes : List ℕ)
+    → slice_get (files_by_steps (job_journal i acts)) n ≡ Some bytes → HasScannedPage k.kept.all.ghost_then i n bytes
+
 -- ---- such a run
 
 -- a stranger comes and says a byte, with which the daemon runs out of memory; then the job finds its connection lost

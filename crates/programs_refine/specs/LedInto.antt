@@ -15,9 +15,10 @@ use Rattle.net_jobs.specs.RunPromises.{RanDone, RanEnded, SeenStreams}
 use Rattle.saned_serve.specs.Serving.{DaemonAndListeners, HasServed, ServeLimits}
 use Rattle.saned_serve.specs.declared.serving.ServeEnd.{ServeEnd}
 use Rattle.interleaving.specs.Interleavings.{job_journal, server_journal}
-use Rattle.interleaving.specs.HandingOn.{HandsOn, Owner}
+use Rattle.interleaving.specs.HandingOn.{Owner}
+use Rattle.interleaving.specs.Parts.{ControlHandsOn, DataIsFromDaemon}
 use Rattle.programs_refine.specs.StepTraffic.{traffic_of}
-use Rattle.programs_refine.specs.Programs.{Acts, HasOpenedNone, LostBringNoMore, OwnersAreJobs, RunOverConnections}
+use Rattle.programs_refine.specs.Programs.{Acts, HasOpenedNone, OwnersAreJobs, RunOverConnections}
 
 -- **led into (`LoopLeads`, `Interleaves`)**: a job's loop came from a new client by these steps to this one; acts in
 -- which the journal of a server that has served is one, and such steps of each job are the others.
@@ -89,5 +90,6 @@ LoopsLeadIntoRuns =
     (limits : ServeLimits) (was now : DaemonAndListeners) (end : ServeEnd) (jobs : List Job) (owner : Owner)
     (acts : Acts)
     (last : ℕ → ClientState) → Interleaves limits was now end jobs acts last → HasOpenedNone was.daemon
-    → OwnersAreJobs owner jobs → All (λ (job : Job). HasCount job.task) jobs → HandsOn traffic_of owner acts
-    → LostBringNoMore owner acts → RunOverConnections jobs owner was.daemon acts last
+    → OwnersAreJobs owner jobs → All (λ (job : Job). HasCount job.task) jobs
+    → ControlHandsOn traffic_of owner acts → DataIsFromDaemon traffic_of owner acts
+    → RunOverConnections jobs owner was.daemon acts last

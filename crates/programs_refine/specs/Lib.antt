@@ -7,3 +7,5 @@ pub mod WorkedRuns
 pub mod LedInto
 pub mod AmongStrangers
 pub mod KeepingAmong
+pub mod StoppedAmong
+pub mod ToldAmong

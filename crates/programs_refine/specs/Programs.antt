@@ -17,11 +17,10 @@ use Rattle.saned_core.specs.DaemonStates.{Core}
 use Rattle.net_jobs.specs.JobSteps.{JobStep, StepsLead, files_by_steps, given_by_steps}
 use Rattle.in_flight.specs.InFlight.{DiffersInFlight}
 use Rattle.saned_serve.specs.ListenerTraces.{ListenerTrace}
-use Rattle.saned_serve.specs.Journal.{JournalLeads, LoopAction, projection_of}
-use Rattle.interleaving.specs.Interleavings.{JointAction, Traffic, job_journal, server_journal}
-use Rattle.interleaving.specs.Interleavings.JointAction.{OfJob, OfServer}
-use Rattle.interleaving.specs.Interleavings.Traffic.{Takes}
-use Rattle.interleaving.specs.HandingOn.{HandsOn, HaveOneSession, Owner}
+use Rattle.saned_serve.specs.Journal.{JournalLeads}
+use Rattle.interleaving.specs.Interleavings.{JointAction, job_journal, server_journal}
+use Rattle.interleaving.specs.HandingOn.{HaveOneSession, Owner}
+use Rattle.interleaving.specs.Parts.{ControlHandsOn, DataIsFromDaemon}
 use Rattle.event_world.specs.declared.event.Event.{Event}
 use Rattle.event_world.specs.declared.endpoint.Endpoint.{Endpoint}
 use Rattle.event_world.specs.Worlds.{AreNew, Runs, WorldCore}
@@ -49,17 +48,6 @@ pub record JobsLead (jobs : List Job) (acts : Acts) (last : ℕ → ClientState)
 pub record OwnersAreJobs (owner : Owner) (jobs : List Job) : Type 0 where
   pub within : (k i : ℕ) → owner k ≡ Some i → i < length jobs
   pub one : HaveOneSession owner
-
--- a data connection of which the daemon was told that it is lost brings no more
-abbrev pub BringsNoMore : Owner → ℕ → Traffic → List LoopAction → Type 0
-BringsNoMore owner i (Takes bytes) journal = (k : ℕ) → owner k ≡ Some i → (projection_of k journal).dropped ≡ false
-BringsNoMore owner i other journal = Unit {0}
-
-abbrev pub LostBringNoMore : Owner → Acts → Type 0
-LostBringNoMore owner [] = Unit {0}
-LostBringNoMore owner (OfServer action ∷ past) = LostBringNoMore owner past
-LostBringNoMore owner (OfJob i step ∷ past) = LostBringNoMore owner past
-    × BringsNoMore owner i (traffic_of step) (server_journal past)
 
 -- ---- what they come to
 
@@ -125,8 +113,8 @@ pub record AreAWorld (source : Source → SourceState) (jobs : List Job) (w : Wo
 
 -- **run over connections (`RunOverConnections`)**: a daemon that has opened no session yet, jobs of which a batch has 1
 -- to 16 pages, the loop of each from a new client on, the journal of the server, and connections that hand on what they
--- are given; a data connection of which the daemon was told that it is lost brings no more (`LostBringNoMore`), and
--- each control connection is a job's (`OwnersAreJobs`).
+-- are given: each control connection is a job's (`OwnersAreJobs`, `ControlHandsOn`), and the other end of each data
+-- connection is the daemon (`DataIsFromDaemon`).
 pub record RunOverConnections (jobs : List Job) (owner : Owner) (d : Core) (acts : Acts)
     (last : ℕ → ClientState) : Type 0 where
   pub new : HasOpenedNone d
@@ -138,8 +126,8 @@ pub record RunOverConnections (jobs : List Job) (owner : Owner) (d : Core) (acts
   pub before : Option ListenerTrace
   pub after : Option ListenerTrace
   pub serves : JournalLeads d before (server_journal acts) end after
-  pub hands_on : HandsOn traffic_of owner acts
-  pub lost : LostBringNoMore owner acts
+  pub hands_on : ControlHandsOn traffic_of owner acts
+  pub from_daemon : DataIsFromDaemon traffic_of owner acts
 
 -- the world of a daemon and of jobs that were just begun
 pub record IsWorldOf (d : Core) (jobs : List Job) (w : WorldCore) : Type 0 where

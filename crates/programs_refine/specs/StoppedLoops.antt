@@ -10,12 +10,13 @@ use Rattle.saned_core.specs.DaemonStates.{Core}
 use Rattle.saned_serve.specs.ListenerTraces.{ListenerTrace}
 use Rattle.saned_serve.specs.Journal.{JournalLeads}
 use Rattle.interleaving.specs.Interleavings.{job_journal, server_journal}
-use Rattle.interleaving.specs.HandingOn.{HandsOn, Owner}
+use Rattle.interleaving.specs.HandingOn.{Owner}
+use Rattle.interleaving.specs.Parts.{ControlHandsOn, DataIsFromDaemon}
 use Rattle.event_world.specs.declared.event.Event.{Event}
 use Rattle.event_world.specs.Worlds.{WorldCore}
 use Rattle.scan_world.specs.Histories.{LedTo}
 use Rattle.programs_refine.specs.StepTraffic.{traffic_of}
-use Rattle.programs_refine.specs.Programs.{Acts, HasOpenedNone, LostBringNoMore, OwnersAreJobs}
+use Rattle.programs_refine.specs.Programs.{Acts, HasOpenedNone, OwnersAreJobs}
 use Rattle.programs_refine.specs.WorldHistory.{AreOfConnections}
 use Rattle.programs_refine.specs.Keeping.{AreFit, LoopIsKept, StoppedIsKept, history_of}
 
@@ -49,8 +50,8 @@ pub record RunOfAnyLoops (jobs : List Job) (owner : Owner) (d : Core) (whole : �
   pub before : Option ListenerTrace
   pub after : Option ListenerTrace
   pub serves : JournalLeads d before (server_journal acts) end after
-  pub hands_on : HandsOn traffic_of owner acts
-  pub lost : LostBringNoMore owner acts
+  pub hands_on : ControlHandsOn traffic_of owner acts
+  pub from_daemon : DataIsFromDaemon traffic_of owner acts
 
 -- all that is promised of a loop, of each that did whole steps
 pub record WholeLoopsAreKept (devices : List DeviceState) (jobs : List Job) (d : Core) (whole : ℕ → Bool) (acts : Acts)

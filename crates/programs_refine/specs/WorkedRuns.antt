@@ -1,5 +1,5 @@
 -- Small runs over connections that meet every premise.
-use Rattle.std.specs.Prelude.{ℕ, zero, suc, ◌≡◌, Some, None, false, List, [], ◌∷◌, All}
+use Rattle.std.specs.Prelude.{ℕ, zero, suc, ◌≡◌, Some, None, true, false, List, [], ◌∷◌, All}
 use Rattle.rand_chacha.specs.ChaCha.{ChaCha}
 use Rattle.md5_auth.specs.declared.users.Entry.{Entry}
 use Rattle.sane_fixed.specs.declared.status.Status.TheVariants as statuses
@@ -13,19 +13,21 @@ use Rattle.scan_job.specs.JobSize.{HasCount}
 use Rattle.client_replies.specs.declared.progress.Link.TheVariants as links
 use Rattle.net_client.specs.ClientStates.{ClientState, IsNewClient, after_client_end}
 use Rattle.net_jobs.specs.declared.calls.Loss.TheVariants.{ReadFailed}
-use Rattle.net_jobs.specs.JobJournal.JobMove.{Loses, Writes}
+use Rattle.net_jobs.specs.JobJournal.JobMove.{Dials, Loses, Takes, Writes}
 use Rattle.net_jobs.specs.JobSteps.{JobStep}
 use Rattle.saned_requests.specs.declared.session.StringSize.{StringSize}
+use Rattle.saned_core.specs.declared.session_slot.DataStep.TheVariants.{Bytes}
 use Rattle.saned_core.specs.declared.session_slot.Fed.TheVariants.{Starved}
 use Rattle.saned_core.specs.DaemonStates.{Core}
 use Rattle.saned_serve.specs.declared.sockets.Got.TheVariants.{Moved}
-use Rattle.saned_serve.specs.SessionActions.SessionAction.{Feed, Hears, Opens, Take}
+use Rattle.saned_serve.specs.SessionActions.SessionAction.{Connect, Feed, Hears, Lose, Opens, Take, Turn}
 use Rattle.saned_serve.specs.Journal.LoopAction.{Of}
 use Rattle.interleaving.specs.Interleavings.JointAction.{OfJob, OfServer}
 use Rattle.interleaving.specs.AmongStrangers.{owned_by_none}
-use Rattle.interleaving.specs.HandingOn.{Owner}
+use Rattle.interleaving.specs.HandingOn.{HandsOn, Owner}
 use Rattle.event_world.specs.Worlds.{IsFitJob}
 use Rattle.programs_refine.specs.Keeping.{AllLoopsAreKept, AreFit}
+use Rattle.programs_refine.specs.StepTraffic.{traffic_of}
 use Rattle.programs_refine.specs.Programs.{Acts, RunOverConnections}
 
 -- ---- what they begin with
@@ -47,6 +49,13 @@ owned_by_first zero = Some 0
 owned_by_first (suc k) = None
 
 -- ---- what a job does in them
+
+-- it makes a data connection, and takes a byte of it
+abbrev pub makes_connection : ℕ → JobStep
+makes_connection port = record { move = Dials port true; gives = []; turned = false }
+
+abbrev pub takes_byte : ℕ → JobStep
+takes_byte byte = record { move = Takes (byte ∷ []); gives = []; turned = false }
 
 -- it finds its control connection lost
 abbrev pub loses : JobStep
@@ -100,3 +109,10 @@ StarvedIsKept =
     → AllLoopsAreKept devices (job
     ∷ []) (new_core (fresh_table devices) users strings stream) (starved_acts port c byte)
     (λ i. lost_client (record c { out = [] }))
+
+-- a data connection may bring its job what it was given, behind the act by which the daemon is told that it is lost
+abbrev pub LostMayBringMore : Type 0
+LostMayBringMore =
+    (port room byte : ℕ) → HandsOn traffic_of owned_by_first (OfJob 0 (takes_byte byte) ∷ OfServer (Of 0 Lose)
+    ∷ OfServer (Of 0 (Turn room (Bytes 1) (byte ∷ []))) ∷ OfServer (Of 0 (Connect port))
+    ∷ OfJob 0 (makes_connection port) ∷ OfServer (Of 0 (Opens port)) ∷ [])

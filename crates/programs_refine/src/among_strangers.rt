@@ -1,6 +1,6 @@
 //! What becomes of jobs while strangers speak to the server.
 
-ghost use Rattle.programs_refine.specs.KeepingAmong.{ProgramsKeepAmongStrangers, StrangerComesIsARun, StrangerComesIsKept, StrangersCompleteNoLoop, WorldsKeepTurnAmongStrangers};
+ghost use Rattle.programs_refine.specs.KeepingAmong.{ProgramsKeepAmongStrangers, StrangerComesIsARun, StrangerComesIsKept, StrangersCompleteNoLoop, TurnedPagesAreScanned, WorldsKeepTurnAmongStrangers};
 ghost use Rattle.programs_refine.specs.AmongStrangers.{LoopsLeadIntoRunsAmong, ProgramsAreAWorldAmongStrangers, RunsAreAmongStrangers};
 
 use strangers::all_is_kept_among_strangers;
@@ -19,7 +19,8 @@ pub fn runs_are_among_strangers()
     /// A run over connections is one among strangers, in which none speaks.
     ensures over_connections { RunsAreAmongStrangers }
     /// Acts in which the journal of a server that has served and loops of jobs are interleaved are one, with what is
-    /// assumed of connections: that they hand on among strangers, and that a lost one brings no more.
+    /// assumed of connections: that the control connections hand on among strangers, and that the other end of each
+    /// data connection is the daemon.
     ensures led { LoopsLeadIntoRunsAmong }
 {}
 
@@ -52,6 +53,12 @@ pub fn programs_keep_among_strangers()
 pub fn strangers_complete_no_loop()
     /// The smallest lie against it is refuted: that strangers made the file whole of a job that is not done.
     ensures { StrangersCompleteNoLoop }
+{}
+
+#[tactic(none)]
+pub fn turned_pages_are_scanned()
+    /// Each page that a loop turned is that of the start of its number, whatever became of its job.
+    ensures { TurnedPagesAreScanned }
 {}
 
 #[tactic(none)]

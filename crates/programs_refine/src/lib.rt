@@ -8,17 +8,25 @@ ghost use Rattle.programs_refine.specs.Programs.{ProgramsAreAWorld};
 mod among_strangers;
 mod led_into;
 mod stopped_loops;
+mod told_among;
 mod worked_runs;
 
 pub use among_strangers::{
     a_run_among_strangers_is_kept, a_stranger_may_come, programs_are_a_world_among_strangers,
     programs_keep_among_strangers, runs_are_among_strangers, strangers_complete_no_loop,
-    worlds_keep_turn_among_strangers,
+    turned_pages_are_scanned, worlds_keep_turn_among_strangers,
 };
 pub use led_into::{loops_lead, loops_lead_into_runs};
 use scan_world::all_is_right;
-pub use stopped_loops::programs_keep_each;
-pub use worked_runs::{a_run_is_kept, there_are_runs};
+pub use stopped_loops::{
+    one_may_be_killed_among_strangers, programs_keep_each, programs_keep_each_among_strangers,
+    stopped_loops_complete_none, the_other_is_kept_among_strangers,
+};
+pub use told_among::{
+    a_run_among_strangers_is_told, devices_are_known, none_is_told_whole,
+    programs_keep_all_among_strangers,
+};
+pub use worked_runs::{a_lost_connection_may_bring_more, a_run_is_kept, there_are_runs};
 use world_refines::{a_new_world_refines, a_run_refines};
 
 /// Whatever a server and any number of jobs' loops did over connections, in one order, some events of connections lead the new world

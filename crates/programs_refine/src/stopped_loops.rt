@@ -1,8 +1,9 @@
 //! That a loop which stops within a step takes nothing from the others.
 
+ghost use Rattle.programs_refine.specs.StoppedAmong.{KilledAmongIsARun, KilledAmongIsKept, ProgramsKeepEachAmongStrangers, StoppedLoopsCompleteNone};
 ghost use Rattle.programs_refine.specs.StoppedLoops.{ProgramsKeepEach};
 
-use crate::programs_keep_all;
+use crate::{programs_keep_all, programs_keep_among_strangers};
 
 #[tactic(none)]
 pub fn programs_keep_each()
@@ -12,4 +13,36 @@ pub fn programs_keep_each()
     ensures { ProgramsKeepEach }
 {
     programs_keep_all();
+}
+
+#[tactic(none)]
+pub fn programs_keep_each_among_strangers()
+    /// Where strangers speak to the server, and the loops of some jobs stop within a step, all that is kept of loops
+    /// among strangers is kept of each other job.
+    /// Carried by: `programs_keep_each_among_strangers`: `StopsWithin`, `WholeLoopsAreKeptAmong`
+    ensures { ProgramsKeepEachAmongStrangers }
+{
+    programs_keep_among_strangers();
+}
+
+#[tactic(none)]
+pub fn stopped_loops_complete_none()
+    /// The smallest lie against it is refuted: that strangers and loops that stopped made the file whole of another
+    /// job, which is not done.
+    ensures { StoppedLoopsCompleteNone }
+{}
+
+#[tactic(none)]
+pub fn one_may_be_killed_among_strangers()
+    /// There is such a run, which with whole loops is none: a stranger says a byte, with which the daemon runs out of
+    /// memory, a job finds its connection lost, and the loop of a second one is killed within its first step.
+    ensures { KilledAmongIsARun }
+{}
+
+#[tactic(none)]
+pub fn the_other_is_kept_among_strangers()
+    /// Of that run all of that is kept of the first job, over any devices of which a world is made.
+    ensures { KilledAmongIsKept }
+{
+    programs_keep_each_among_strangers();
 }

@@ -1,6 +1,6 @@
 //! That runs meet the premises of the laws: one premise more that nothing meets is refused here.
 
-ghost use Rattle.programs_refine.specs.WorkedRuns.{LostAtOnceIsARun, NewIsFit, StarvedIsARun, StarvedIsKept};
+ghost use Rattle.programs_refine.specs.WorkedRuns.{LostAtOnceIsARun, LostMayBringMore, NewIsFit, StarvedIsARun, StarvedIsKept};
 
 use crate::programs_keep_all;
 
@@ -12,6 +12,13 @@ pub fn there_are_runs()
     ensures starved { StarvedIsARun }
     /// Such a daemon over any devices of which a world is made, and such a job, are fit.
     ensures fit { NewIsFit }
+{}
+
+#[tactic(none)]
+pub fn a_lost_connection_may_bring_more()
+    /// Connections that hand on so may still bring a job what its data connection was given, behind the act by which
+    /// the daemon is told that it is lost.
+    ensures { LostMayBringMore }
 {}
 
 #[tactic(none)]

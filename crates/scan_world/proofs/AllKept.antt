@@ -1,5 +1,4 @@
 -- All that is promised of a job, call by call.
-use Rattle.page_picture.specs.SourceView.{source_state}
 use Rattle.std.specs.Prelude.{option_and_then, option_map, slice_get, slice_index_or, ◌<◌, ◌≤◌, ◌-◌, ◌==◌, ◌||◌, nat_lt, if◌then◌else◌, cond, map}
 use Rattle.std.specs.Prelude.{min}
 use Rattle.std.proofs.Math.Nat.{le-min, min-eq_left, min-le_left, min-le_right}
@@ -27,7 +26,8 @@ use Rattle.scan_world.specs.Promise.{CountIsKept, FileIsKept, MoveIsKept, MovesA
 use Rattle.scan_world.specs.Laws.{Below}
 use Rattle.scan_world.proofs.Sources.{sources_of}
 use Rattle.scan_world.proofs.Jobs.{IsJob}
-use Rattle.scan_world.proofs.Scanned.{at_first, infos_of, job_there, kept_by, make_there, name_of}
+use Rattle.scan_world.proofs.Joint.{all_fixed_by}
+use Rattle.scan_world.proofs.Scanned.{KeptAll, at_first, infos_of, job_there, kept_by, make_there, name_of}
 use Rattle.scan_world.proofs.moments.Filed.{counted_there, job_of, page_right, scan_right}
 use Rattle.scan_world.proofs.moments.Opened.{IsOpened, was_opened}
 use Rattle.std.specs.Prelude.{Ok, Err}
@@ -44,7 +44,7 @@ use Rattle.client_replies.specs.declared.progress.JobTarget.{JobTarget}
 use Rattle.event_world.specs.FileDraining.{HasFiles, KeepsFile}
 use Rattle.system_model.specs.Client.{AbstractJob as RuledJob}
 use Rattle.world_refines.specs.WorldRefinement.{KeepsFiles, is_laid}
-use Rattle.world_refines.proofs.job_events.Constant.{Fixed, all_fixed}
+use Rattle.world_refines.proofs.job_events.Constant.{Fixed}
 use Rattle.scan_world.proofs.InTime.{end_file, end_job, end_outcome, end_there, explained_in_time, scan_on, steady_on}
 use Rattle.scan_world.proofs.Ended.{comes_there, first_here, laws_of, steps_of_one}
 use Rattle.scan_world.proofs.moments.Listed.{list_kept}
@@ -61,7 +61,6 @@ use Rattle.scan_frames.specs.declared.setup.Setup.{Setup}
 use Rattle.device_api.specs.InForce.{Placement}
 use Rattle.world_refines.specs.NewWorlds.{make_of}
 use Rattle.world_refines.specs.GhostStates.{Ghost, job_state, place_named, abstract_job}
-use Rattle.world_refines.specs.MainTheorem.{PromisesAreKept}
 use Rattle.world_refines.specs.WorldPromises.{IsOutcome, KeepsPromise}
 use Rattle.scan_world.specs.Reports.{AreOptionsShown, AreSettingsReported}
 use Rattle.scan_world.specs.Settings.{AreSettingsPut}
@@ -187,10 +186,10 @@ settings_kept below h w i job endpoint reports j done list on =
     (settled_on h job on r.0.0 r.0.1 r.1, r.2)
 
 -- the job of its session by the model
-ruled_there : Below → (h : History) (w : WorldCore) (i : ℕ) (job : Job) (endpoint : Endpoint) (j : IsJob h w i job endpoint) → (k : PromisesAreKept source_state h.events (at_first h w job j.led) j.led.first w) → (job_state k.run.ghost_then i).session.job ≡ abstract_job h.users (infos_of h) job
+ruled_there : Below → (h : History) (w : WorldCore) (i : ℕ) (job : Job) (endpoint : Endpoint) (j : IsJob h w i job endpoint) → (k : KeptAll h.events (at_first h w job j.led) w) → (job_state k.run.ghost_then i).session.job ≡ abstract_job h.users (infos_of h) job
 ruled_there below h w i job endpoint j k =
     let u = k.run.ghost_then in
-    let fixed = all_fixed source_state h.events (at_first h w job j.led) k.run.steps u k.run.comes in
+    let fixed = all_fixed_by h.events (at_first h w job j.led) k.run.steps u k.run.comes in
     let users : u.users ≡ h.users = ap (λ (f : Fixed). f.0) fixed ∙ j.led.users_are in
     let infos : u.infos ≡ infos_of h = ap (λ (f : Fixed). f.1) fixed in
     (k.run.stands.endpoints i endpoint j.endpoint_at).job_is

@@ -31,6 +31,7 @@ use Rattle.scan_world.proofs.Marked.{Slotted, slotted_then}
 use Rattle.scan_world.proofs.Asked.{AsksGuarded}
 use Rattle.scan_world.proofs.Begun.{wants_same}
 use Rattle.scan_world.proofs.Pages.{HasDevice, IsOfDevice, IsOfOne, loads_if, name_there}
+use Rattle.scan_world.proofs.Elsewhere.{elsewhere}
 use Rattle.scan_world.proofs.Options.{IsForced}
 use Rattle.scan_world.proofs.Nearest.{nearest_for}
 use Rattle.scan_world.proofs.Scanned.{infos_of, name_of}
@@ -38,9 +39,9 @@ use Rattle.scan_world.proofs.Sources.{CanFail}
 
 -- ---- devices
 
--- the place that job j names; one job stands for those that there are not
+-- the place that job j names; one that names nothing stands for those that there are not
 abbrev pub place_of : History → Job → ℕ → ℕ
-place_of h job j = place_named (infos_of h) (slice_index_or h.jobs j job).device
+place_of h job j = place_named (infos_of h) (slice_index_or h.jobs j (elsewhere h.devices job)).device
 
 -- its sources, and that a page which can fail came for it where they may
 pub record Made (h : History) (d : ℕ) (make : Make) : Type 0 where
@@ -101,7 +102,7 @@ pub record Own (h : History) (i : ℕ) (job : Job) : Type 0 where
   pub same : SettingsMeanTheSame
 
 pub own_place : (h : History) (i : ℕ) (job : Job) → slice_get h.jobs i ≡ Some job → place_of h job i ≡ place_named (infos_of h) job.device
-own_place h i job at = ap (λ (j : Job). place_named (infos_of h) j.device) (get_or_from_slice_get h.jobs i job job at)
+own_place h i job at = ap (λ (j : Job). place_named (infos_of h) j.device) (get_or_from_slice_get h.jobs i job (elsewhere h.devices job) at)
 
 pub get_at : {X : Type 0} (xs : List X) (k : ℕ) (d : X) → k < length xs → slice_get xs k ≡ Some (slice_index_or xs k d)
 get_at [] k d low = absurd (omega (arith, low))

@@ -19,7 +19,9 @@ use Rattle.saned_core.specs.Loading.{core_after_load, held_with, holds, is_lease
 use Rattle.saned_requests.specs.declared.session.Session.{Session}
 use Rattle.event_world.specs.declared.event.Event.{Event}
 use Rattle.event_world.specs.declared.event.Event.TheVariants.{Connect, ToDaemon, ToClient, DataConnect, DataTurn, DataToClient, LoseControl, LoseImage, Cancel, Load, Unplug}
-use Rattle.event_world.specs.Worlds.{Leads, Runs, WorldCore}
+use Rattle.event_world.specs.Worlds.{Leads, WorldCore}
+use Rattle.strangers.specs.Together.{JointEvent, RunsAmong}
+use Rattle.strangers.specs.Together.JointEvent.{OfJobs, OfStranger}
 use Rattle.scan_world.specs.Histories.{History, LedTo, history_up_to}
 use Rattle.scan_world.specs.Page.{CameFor}
 use Rattle.scan_world.specs.Page.CameFor.{AtFirst, WithEvent}
@@ -203,32 +205,35 @@ changes_or_same (Unplug name) u v leads = inl tt
 -- ---- events of a run
 
 -- it and those behind it, or these alone where it changed nothing
-abbrev pub with_changing : {A B : Type 0} → A ⊎ B → Event → List Event → List Event
+abbrev pub with_changing : {A B : Type 0} → A ⊎ B → JointEvent → List JointEvent → List JointEvent
 with_changing (inl changes) e more = e ∷ more
 with_changing (inr same) e more = more
 
 -- all but the pages that changed nothing
-abbrev pub changing_of : (es : List Event) (u w : WorldCore) → Runs source_state es u w → List Event
+abbrev pub changing_of : (es : List JointEvent) (u w : WorldCore) → RunsAmong source_state es u w → List JointEvent
 changing_of [] u w run = []
-changing_of (e ∷ es) u w (v, leads, rest) = with_changing (changes_or_same e u v leads) e (changing_of es v w rest)
+changing_of (OfJobs e ∷ es) u w (v, leads, rest) = with_changing (changes_or_same e u v leads) (OfJobs e) (changing_of es v w rest)
+changing_of (OfStranger a ∷ es) u w (v, acts, rest) = OfStranger a ∷ changing_of es v w rest
 
-one_within : {A B : Type 0} (c : A ⊎ B) (e x : Event) (more es : List Event) → (In x more → In x es) → In x (with_changing c e more) → In x (e ∷ es)
+one_within : {A B : Type 0} (c : A ⊎ B) (e x : JointEvent) (more es : List JointEvent) → (In x more → In x es) → In x (with_changing c e more) → In x (e ∷ es)
 one_within (inl changes) e x more es within (inl same) = inl same
 one_within (inl changes) e x more es within (inr later) = inr (within later)
 one_within (inr same) e x more es within later = inr (within later)
 
-pub changing_within : (es : List Event) (u w : WorldCore) (run : Runs source_state es u w) (x : Event) → In x (changing_of es u w run) → In x es
+pub changing_within : (es : List JointEvent) (u w : WorldCore) (run : RunsAmong source_state es u w) (x : JointEvent) → In x (changing_of es u w run) → In x es
 changing_within [] u w run x among = among
-changing_within (e ∷ es) u w (v, leads, rest) x among = one_within (changes_or_same e u v leads) e x (changing_of es v w rest) es (λ later. changing_within es v w rest x later) among
+changing_within (OfJobs e ∷ es) u w (v, leads, rest) x among = one_within (changes_or_same e u v leads) (OfJobs e) x (changing_of es v w rest) es (λ later. changing_within es v w rest x later) among
+changing_within (OfStranger a ∷ es) u w (v, acts, rest) x (inl same) = inl same
+changing_within (OfStranger a ∷ es) u w (v, acts, rest) x (inr later) = inr (changing_within es v w rest x later)
 
 -- those of a history
-abbrev pub changing_in : (h : History) (w : WorldCore) → LedTo h w → List Event
+abbrev pub changing_in : (h : History) (w : WorldCore) → LedTo h w → List JointEvent
 changing_in h w l = changing_of h.events l.first w l.runs
 
-pub changing_among : (h : History) (w : WorldCore) (l : LedTo h w) (x : Event) → In x (changing_in h w l) → In x h.events
+pub changing_among : (h : History) (w : WorldCore) (l : LedTo h w) (x : JointEvent) → In x (changing_in h w l) → In x h.events
 changing_among h w l x among = changing_within h.events l.first w l.runs x among
 
 -- what came with one of some of its events came
-pub came_among : (h : History) (es : List Event) → ((x : Event) → In x es → In x h.events) → (name : List ℕ) (held : HeldPage) → CameFor (history_up_to h es) name held → CameFor h name held
+pub came_among : (h : History) (es : List JointEvent) → ((x : JointEvent) → In x es → In x h.events) → (name : List ℕ) (held : HeldPage) → CameFor (history_up_to h es) name held → CameFor h name held
 came_among h es within name held (AtFirst device there named among) = AtFirst device there named among
-came_among h es within name held (WithEvent source among is) = WithEvent source (contains_in h.events (Load name source) (within (Load name source) (in_list es (Load name source) among))) is
+came_among h es within name held (WithEvent source among is) = WithEvent source (contains_in h.events (OfJobs (Load name source)) (within (OfJobs (Load name source)) (in_list es (OfJobs (Load name source)) among))) is

@@ -16,17 +16,19 @@ use Rattle.scan_job.specs.declared.outcome.Why.TheVariants as whys
 use Rattle.event_world.specs.declared.endpoint.Endpoint.{Endpoint}
 use Rattle.event_world.specs.declared.event.Event.{Event}
 use Rattle.event_world.specs.declared.event.Event.TheVariants as events
-use Rattle.event_world.specs.declared.event.Event.TheVariants.{Cancel, Load, LoseControl, LoseImage, Unplug}
+use Rattle.event_world.specs.declared.event.Event.TheVariants.{Cancel, Load, LoseControl, LoseImage, ToDaemon, Unplug}
 use Rattle.event_world.specs.declared.event.JobEvent.{JobEvent}
 use Rattle.event_world.specs.declared.event.JobEvent.TheVariants as moves
 use Rattle.event_world.specs.JobEvents.{job_event_of}
 use Rattle.event_world.specs.JobMoves.{IsFirstMove, IsNext, IsNextMove, in_order}
 use Rattle.event_world.specs.Rounds.{RoundsRunOut}
 use Rattle.event_world.specs.Worlds.{Leads, Runs, WorldCore}
+use Rattle.strangers.specs.Together.{JointEvent}
+use Rattle.strangers.specs.Together.JointEvent.{OfJobs}
 use Rattle.scan_world.specs.Calls.{AreNextMoves, IsJobAt, IsMoveAt, MovesNext, is_starved, starved_at}
 use Rattle.scan_world.specs.Clear.{BrokeOff, ClearsBy, ClearsUp, ComesTo, IsClear, IsEither, IsSupplied, SharesClear}
 use Rattle.scan_world.specs.Endings.{AnswerIsExplained, IsEndingExplained, NamesStatus}
-use Rattle.scan_world.specs.Histories.{History, LedTo, Moment, and_then, history_up_to}
+use Rattle.scan_world.specs.Histories.{HasEvent, History, LedTo, Moment, and_then, history_up_to, of_jobs}
 use Rattle.scan_world.specs.Laws.{Below}
 use Rattle.scan_world.specs.Page.{CameFor, CameInTime, Settled}
 use Rattle.scan_world.specs.Page.CameFor.{AtFirst, WithEvent}
@@ -36,10 +38,12 @@ use Rattle.scan_world.specs.Sessions.{Asked, AtJob, Has, IsAtStart}
 use Rattle.scan_world.specs.Trays.{OwnTray}
 use Rattle.scan_world.proofs.Calls.{outcome_call, ran_out}
 use Rattle.scan_world.proofs.Ended.{loss_kept}
-use Rattle.scan_world.proofs.Led.{led_then}
-use Rattle.scan_world.proofs.Lists.{In, all_front, contains_in, in_list, in_split}
+use Rattle.scan_world.proofs.Joint.{in_jobs, of_jobs_then}
+use Rattle.scan_world.proofs.Led.{led_then, runs_jointly}
+use Rattle.scan_world.proofs.Lists.{In, all_front, contains_in, in_either, in_front, in_list, in_split}
 use Rattle.scan_world.proofs.NextMoves.{LoadsNothing, quiet_loads, quiet_moves}
 use Rattle.scan_world.proofs.Refused.{cancel_next}
+use Rattle.scan_world.proofs.Quiet.{no_acts_front, no_acts_then, none_shared}
 use Rattle.scan_world.proofs.There.{endpoint_there, outcome_there}
 use Rattle.scan_world.proofs.moments.Beside.{Pair, not_both}
 use Rattle.scan_world.proofs.moments.Entries.{unsome}
@@ -48,86 +52,87 @@ use Rattle.scan_world.proofs.TrayPages.{trays_are_taken}
 
 -- ---- events
 
-in_either : (xs ys : List Event) (e : Event) → In e (xs ++ ys) → In e xs ⊎ In e ys
-in_either [] ys e among = inr among
-in_either (x ∷ xs) ys e (inl same) = inl (inl same)
-in_either (x ∷ xs) ys e (inr among) = elim (in_either xs ys e among) [
-  | inl here ↦ inl (inr here)
-  | inr there ↦ inr there
-]
-
-in_front : (xs ys : List Event) (e : Event) → In e xs → In e (xs ++ ys)
-in_front [] ys e among = absurd among
-in_front (x ∷ xs) ys e (inl same) = inl same
-in_front (x ∷ xs) ys e (inr among) = inr (in_front xs ys e among)
-
 quiet_in : (ms : List Event) (e : Event) → AllByRecursion LoadsNothing ms → In e ms → LoadsNothing e
 quiet_in [] e all among = absurd among
 quiet_in (m ∷ ms) e all (inl same) = subst LoadsNothing (sym same) all.0
 quiet_in (m ∷ ms) e all (inr among) = quiet_in ms e all.1 among
 
-joined : (xs ys zs : List Event) → xs ++ (ys ++ zs) ≡ (xs ++ ys) ++ zs
+joined : (xs ys zs : List JointEvent) → xs ++ (ys ++ zs) ≡ (xs ++ ys) ++ zs
 joined [] ys zs = refl
-joined (x ∷ xs) ys zs = ap (λ (l : List Event). x ∷ l) (joined xs ys zs)
+joined (x ∷ xs) ys zs = ap (λ (l : List JointEvent). x ∷ l) (joined xs ys zs)
 
--- an event of two lists is one of the first, or stands in the second
-split_at : (es ms front back : List Event) (e : Event) → es ++ ms ≡ front ++ e ∷ back → In e es ⊎ ((more : List Event) × (ms ≡ more ++ e ∷ back))
-split_at [] ms front back e s = inr (front, s)
-split_at (x ∷ es) ms [] back e s = inl (inl (let both : x ∷ (es ++ ms) ≡ e ∷ back = s in cc))
+-- the parts of moves are moves
+jobs_split : (ms : List Event) (front back : List JointEvent) (e : Event) → of_jobs ms ≡ front ++ OfJobs e ∷ back → (more : List Event) × (after : List Event) × (ms ≡ more ++ e ∷ after) × (back ≡ of_jobs after)
+jobs_split [] [] back e s = absurd (let clash : [] ≡ OfJobs e ∷ back = s in cc)
+jobs_split [] (y ∷ front) back e s = absurd (let clash : [] ≡ y ∷ (front ++ OfJobs e ∷ back) = s in cc)
+jobs_split (m ∷ ms) [] back e s =
+    let both : OfJobs m ∷ of_jobs ms ≡ OfJobs e ∷ back = s in
+    let first : m ≡ e = cc in
+    let rest : of_jobs ms ≡ back = cc in
+    ([], ms, ap (λ (x : Event). x ∷ ms) first, sym rest)
+jobs_split (m ∷ ms) (y ∷ front) back e s =
+    let both : OfJobs m ∷ of_jobs ms ≡ y ∷ (front ++ OfJobs e ∷ back) = s in
+    let rest : of_jobs ms ≡ front ++ OfJobs e ∷ back = cc in
+    let r = jobs_split ms front back e rest in
+    (m ∷ r.0, r.1, ap (λ (xs : List Event). m ∷ xs) r.2, r.3)
+
+-- an event of a history and moves is one of the first, or stands in the second
+split_at : (es : List JointEvent) (ms : List Event) (front back : List JointEvent) (e : Event) → es ++ of_jobs ms ≡ front ++ OfJobs e ∷ back → In (OfJobs e) es ⊎ ((more : List Event) × (after : List Event) × (ms ≡ more ++ e ∷ after))
+split_at [] ms front back e s = let r = jobs_split ms front back e s in inr (r.0, r.1, r.2)
+split_at (x ∷ es) ms [] back e s = inl (inl (let both : x ∷ (es ++ of_jobs ms) ≡ OfJobs e ∷ back = s in cc))
 split_at (x ∷ es) ms (y ∷ front) back e s =
-    let both : x ∷ (es ++ ms) ≡ y ∷ (front ++ e ∷ back) = s in
-    let rest : es ++ ms ≡ front ++ e ∷ back = cc in
+    let both : x ∷ (es ++ of_jobs ms) ≡ y ∷ (front ++ OfJobs e ∷ back) = s in
+    let rest : es ++ of_jobs ms ≡ front ++ OfJobs e ∷ back = cc in
     elim (split_at es ms front back e rest) [
       | inl among ↦ inl (inr among)
       | inr behind ↦ inr behind
     ]
 
 -- of the events of a moment each is one in front of the moves, or is none that lays a page in or takes a device out
-abbrev AreOld : History → List Event → Type 0
-AreOld h es = (e : Event) → In e es → LoadsNothing e ⊎ In e h.events
+abbrev AreOld : History → List JointEvent → Type 0
+AreOld h es = (e : Event) → In (OfJobs e) es → LoadsNothing e ⊎ In (OfJobs e) h.events
 
-old_events : (h : History) (ms front back : List Event) (e : Event) → AllByRecursion LoadsNothing ms → h.events ++ ms ≡ front ++ e ∷ back → AreOld h front
-old_events h ms front back e quiet split x among = elim (in_either h.events ms x (subst (λ (es : List Event). In x es) (sym split) (in_front front (e ∷ back) x among))) [
-  | inl here ↦ inr here
-  | inr there ↦ inl (quiet_in ms x quiet there)
-]
+of_either : (h : History) (ms : List Event) (x : Event) → AllByRecursion LoadsNothing ms → In (OfJobs x) h.events ⊎ In (OfJobs x) (of_jobs ms) → LoadsNothing x ⊎ In (OfJobs x) h.events
+of_either h ms x quiet (inl here) = inr here
+of_either h ms x quiet (inr there) = inl (quiet_in ms x quiet (in_jobs ms x there))
 
-all_old : (h : History) (ms : List Event) → AllByRecursion LoadsNothing ms → AreOld h (h.events ++ ms)
-all_old h ms quiet e among = elim (in_either h.events ms e among) [
-  | inl here ↦ inr here
-  | inr there ↦ inl (quiet_in ms e quiet there)
-]
+old_events : (h : History) (ms : List Event) (front back : List JointEvent) (e : Event) → AllByRecursion LoadsNothing ms → h.events ++ of_jobs ms ≡ front ++ OfJobs e ∷ back → AreOld h front
+old_events h ms front back e quiet split x among =
+    of_either h ms x quiet (in_either h.events (of_jobs ms) (OfJobs x) (subst (λ (es : List JointEvent). In (OfJobs x) es) (sym split) (in_front front (OfJobs e ∷ back) (OfJobs x) among)))
+
+all_old : (h : History) (ms : List Event) → AllByRecursion LoadsNothing ms → AreOld h (h.events ++ of_jobs ms)
+all_old h ms quiet e among = of_either h ms e quiet (in_either h.events (of_jobs ms) (OfJobs e) among)
 
 -- ---- what histories of one world have
 
-settled_back : (h : History) (es : List Event) (job : Job) → Settled (history_up_to h es) job → Settled h job
+settled_back : (h : History) (es : List JointEvent) (job : Job) → Settled (history_up_to h es) job → Settled h job
 settled_back h es job s = record { device = s.device; is_there = s.is_there; named = s.named; setup = s.setup; placed = s.placed; in_force = s.in_force }
 
-settled_more : (h : History) (es : List Event) (job : Job) → Settled h job → Settled (history_up_to h es) job
+settled_more : (h : History) (es : List JointEvent) (job : Job) → Settled h job → Settled (history_up_to h es) job
 settled_more h es job s = record { device = s.device; is_there = s.is_there; named = s.named; setup = s.setup; placed = s.placed; in_force = s.in_force }
 
 -- a page that came as a job ran came
-came_ever : (h : History) (w : WorldCore) (i : ℕ) (name : List ℕ) (held : HeldPage) → CameInTime h w i name held → CameFor h name held
+pub came_ever : (h : History) (w : WorldCore) (i : ℕ) (name : List ℕ) (held : HeldPage) → CameInTime h w i name held → CameFor h name held
 came_ever h w i name held (FromFirst device there named among) = AtFirst device there named among
-came_ever h w i name held (AsItRan source happened is) = WithEvent source (in_split h.events happened.0.front happened.0.back (Load name source) happened.0.split) is
+came_ever h w i name held (AsItRan source happened is) = WithEvent source (in_split h.events happened.0.front happened.0.back (OfJobs (Load name source)) happened.0.split) is
 
-came_back : (h : History) (es : List Event) → AreOld h es → (name : List ℕ) (held : HeldPage) → CameFor (history_up_to h es) name held → CameFor h name held
+came_back : (h : History) (es : List JointEvent) → AreOld h es → (name : List ℕ) (held : HeldPage) → CameFor (history_up_to h es) name held → CameFor h name held
 came_back h es old name held (AtFirst device there named among) = AtFirst device there named among
-came_back h es old name held (WithEvent source among is) = by_case (old (Load name source) (in_list es (Load name source) among))
+came_back h es old name held (WithEvent source among is) = by_case (old (Load name source) (in_list es (OfJobs (Load name source)) among))
   where
-    by_case : LoadsNothing (Load name source) ⊎ In (Load name source) h.events → CameFor h name held
+    by_case : LoadsNothing (Load name source) ⊎ In (OfJobs (Load name source)) h.events → CameFor h name held
     by_case (inl nothing) = absurd nothing
-    by_case (inr here) = WithEvent source (contains_in h.events (Load name source) here) is
+    by_case (inr here) = WithEvent source (contains_in h.events (OfJobs (Load name source)) here) is
 
 -- ---- what stands in front of an event
 
-unlisted_not : {Q : ℕ → Type 0} → Below → (h : History) (es : List Event) (v : WorldCore) (i : ℕ) (job : Job) → LedTo (history_up_to h es) v → AreOld h es → IsClear h i job Q → In (Unplug job.device) es → ⊥
+unlisted_not : {Q : ℕ → Type 0} → Below → (h : History) (es : List JointEvent) (v : WorldCore) (i : ℕ) (job : Job) → LedTo (history_up_to h es) v → AreOld h es → IsClear h i job Q → In (OfJobs (Unplug job.device)) es → ⊥
 unlisted_not below h es v i job led old clear among = elim (old (Unplug job.device) among) [
   | inl nothing ↦ nothing
-  | inr here ↦ clear.left (Unplug job.device) (contains_in h.events (Unplug job.device) here) refl
+  | inr here ↦ clear.left (Unplug job.device) (contains_in h.events (OfJobs (Unplug job.device)) here) refl
 ]
 
-clear_of : {Q : ℕ → Type 0} → (below : Below) (h : History) (es : List Event) (v : WorldCore) (i : ℕ) (job : Job) (led : LedTo (history_up_to h es) v) (clear : IsClear h i job Q) (d : DeviceState) → Has v i job.device d → IsOf (history_up_to h es) clear.device d
+clear_of : {Q : ℕ → Type 0} → (below : Below) (h : History) (es : List JointEvent) (v : WorldCore) (i : ℕ) (job : Job) (led : LedTo (history_up_to h es) v) (clear : IsClear h i job Q) (d : DeviceState) → Has v i job.device d → IsOf (history_up_to h es) clear.device d
 clear_of below h es v i job led clear d has = is_of below (history_up_to h es) v job led clear.device clear.is_there i d (subst (λ (n : List ℕ). Has v i n d) (sym clear.named) has)
 
 -- a feeder in the way of which nothing stands is its job's own
@@ -138,10 +143,11 @@ own_tray h ms i job quiet clear feeder supplied = record {
   named = clear.named;
   feeder = feeder;
   alone = λ j other at named. supplied.only j (clear.alone j other at named);
-  unladen = λ source among. elim (in_either h.events ms (Load job.device source) (in_list (h.events ++ ms) (Load job.device source) among)) [
-    | inl here ↦ supplied.unladen source (contains_in h.events (Load job.device source) here)
-    | inr there ↦ quiet_in ms (Load job.device source) quiet there
+  unladen = λ source among. elim (all_old h ms quiet (Load job.device source) (in_list (h.events ++ of_jobs ms) (OfJobs (Load job.device source)) among)) [
+    | inl nothing ↦ nothing
+    | inr here ↦ supplied.unladen source (contains_in h.events (OfJobs (Load job.device source)) here)
   ];
+  undisturbed = no_acts_then h ms clear.undisturbed;
 }
 
 paged : {Q : ℕ → Type 0} → Below → (h : History) (ms : List Event) (v : WorldCore) (i : ℕ) (job : Job) → AllByRecursion LoadsNothing ms → IsJobAt (and_then h ms) v i job → (clear : IsClear h i job Q) → scans job.task ≡ true → (asked : Asked (and_then h ms) v i IsAtStart) → AtJob asked.at.before i (λ p. p.finished ≡ 0) → (d : DeviceState) → Has asked.at.before i job.device d → is_at_rest d.phase ≡ true → d.pages ≡ [] → (b : Bool) → feeds clear.device ≡ b → ⊥
@@ -164,29 +170,32 @@ unfolding settled_back
 answered below h ms v i job quiet at clear statuses.Good x = absurd x
 answered below h ms v i job quiet at clear statuses.Unsupported x = absurd x
 answered below h ms v i job quiet at clear statuses.Cancelled x = absurd x
-answered below h ms v i job quiet at clear statuses.DeviceBusy (asked, j, d, other, has) =
+answered below h ms v i job quiet at clear statuses.DeviceBusy (asked, inl (j, d, other, has)) =
     let own = has_own below (history_up_to h asked.at.front) asked.at.before job asked.at.led_before j job.device d has in
     (refl, (j, other, clear.alone j own.0 own.1 own.2))
-answered below h ms v i job quiet at clear statuses.Inval (inl unforced) = absurd (clear.forced (λ s. unforced (settled_more h (h.events ++ ms) job s)))
+answered below h ms v i job quiet at clear statuses.DeviceBusy (asked, inr shared) =
+    let front = no_acts_front (and_then h ms) asked.at.front (OfJobs (ToDaemon i asked.n) ∷ asked.at.back) asked.at.split (no_acts_then h ms clear.undisturbed) in
+    absurd (none_shared below (history_up_to h asked.at.front) asked.at.before job front asked.at.led_before job.device shared)
+answered below h ms v i job quiet at clear statuses.Inval (inl unforced) = absurd (clear.forced (λ s. unforced (settled_more h (h.events ++ of_jobs ms) job s)))
 answered below h ms v i job quiet at clear statuses.Inval (inr (inr (asked, none))) =
     let old = old_events h ms asked.at.front asked.at.back _ quiet asked.at.split in
     absurd (listed_here below (history_up_to h asked.at.front) asked.at.before job asked.at.led_before clear.device clear.is_there clear.named
     (λ among. unlisted_not below h asked.at.front asked.at.before i job asked.at.led_before old clear among) none)
 answered below h ms v i job quiet at clear statuses.Inval (inr (inl none)) =
-    absurd (clear.meant none.scanning (settled_back h (h.events ++ ms) job none.settled) none.held (came_back h (h.events ++ ms) (all_old h ms quiet) job.device none.held (came_ever (and_then h ms) v i job.device none.held none.came)) none.none)
+    absurd (clear.meant none.scanning (settled_back h (h.events ++ of_jobs ms) job none.settled) none.held (came_back h (h.events ++ of_jobs ms) (all_old h ms quiet) job.device none.held (came_ever (and_then h ms) v i job.device none.held none.came)) none.none)
 answered below h ms v i job quiet at clear statuses.Eof x = absurd x
 answered below h ms v i job quiet at clear statuses.Jammed x = absurd x
 answered below h ms v i job quiet at clear statuses.NoDocs (scanning, asked, finished, (d, has, rests, none)) = absurd (paged below h ms v i job quiet at clear scanning asked finished d has rests none (feeds clear.device) refl)
 answered below h ms v i job quiet at clear statuses.CoverOpen x = absurd x
 answered below h ms v i job quiet at clear statuses.IoError (scanning, (held, came, able), failed) =
-    let firm = clear.firm scanning held (came_back h (h.events ++ ms) (all_old h ms quiet) job.device held (came_ever (and_then h ms) v i job.device held came)) in
+    let firm = clear.firm scanning held (came_back h (h.events ++ of_jobs ms) (all_old h ms quiet) job.device held (came_ever (and_then h ms) v i job.device held came)) in
     absurd (let clash : true ≡ false = sym firm ∙ able in cc)
 answered below h ms v i job quiet at clear statuses.NoMem x = absurd x
 answered below h ms v i job quiet at clear statuses.AccessDenied (asked, judged) = absurd (let clash : true ≡ false = sym (clear.allowed judged.sent.resource judged.guarded) ∙ judged.is in cc)
 
 unnamed : {Q : ℕ → Type 0} → (h : History) (ms : List Event) (v : WorldCore) (i : ℕ) (job : Job) (status : Status) → IsClear h i job Q → NamesStatus (and_then h ms) v i job status → ⊥
 unfolding settled_back
-unnamed h ms v i job status clear (turn, scanning, (settled, told)) = let clash : None ≡ Some status = sym (clear.unnamed (settled_back h (h.events ++ ms) job settled)) ∙ told in cc
+unnamed h ms v i job status clear (turn, scanning, (settled, told)) = let clash : None ≡ Some status = sym (clear.unnamed (settled_back h (h.events ++ of_jobs ms) job settled)) ∙ told in cc
 
 -- ---- its next moves
 
@@ -296,14 +305,14 @@ broke_off below h ms more back old new i job led job_at quiet split n =
     let next : IsNextMove n.between.daemon i p.0 (Some (LoseControl i)) =
     subst (λ (o : Option Endpoint). MovesNext n.between.daemon i o (Some (LoseControl i))) p.1.endpoint_at (subst (λ (k : ℕ). IsMoveAt n.between k (Some (LoseControl i))) own n.next) in
     let at : Moment (and_then h ms) new (LoseControl i) = record {
-      front = h.events ++ more;
-      back = back;
-      split = ap (λ (es : List Event). h.events ++ es) split ∙ joined h.events more (LoseControl i ∷ back);
+      front = h.events ++ of_jobs more;
+      back = of_jobs back;
+      split = ap (λ (es : List Event). h.events ++ of_jobs es) split ∙ (ap (λ (es : List JointEvent). h.events ++ es) (of_jobs_then more (LoseControl i ∷ back)) ∙ joined h.events (of_jobs more) (OfJobs (LoseControl i) ∷ of_jobs back));
       before = n.between;
       led_before = before;
       behind = n.behind;
       leads = (n.behind, n.leads, refl);
-      rest = n.rest;
+      rest = runs_jointly back n.behind new n.rest;
     } in (
       at,
       elim (loss_kept below (and_then h more) n.between i job p.0 p.1 next) [
@@ -331,20 +340,20 @@ next_in h ms more back e old new split next = next_at more back e old new (subst
 
 lost : {Q : ℕ → Type 0} → (h : History) (ms : List Event) (old new : WorldCore) (i : ℕ) (job : Job) → Way h ms old new i job Q → Moment (and_then h ms) new (LoseControl i) → BrokeOff (and_then h ms) new i job
 lost h ms old new i job way at = elim (split_at h.events ms at.front at.back (LoseControl i) at.split) [
-  | inl here ↦ absurd (way.clear.left (LoseControl i) (contains_in h.events (LoseControl i) here) refl)
-  | inr there ↦ broke_off way.below h ms there.0 at.back old new i job way.led way.job_at (quiet_front ms there.0 (LoseControl i ∷ at.back) there.1 way.quiet) there.1 (next_in h ms there.0 at.back (LoseControl i) old new there.1 way.next)
+  | inl here ↦ absurd (way.clear.left (LoseControl i) (contains_in h.events (OfJobs (LoseControl i)) here) refl)
+  | inr there ↦ broke_off way.below h ms there.0 there.1 old new i job way.led way.job_at (quiet_front ms there.0 (LoseControl i ∷ there.1) there.2 way.quiet) there.2 (next_in h ms there.0 there.1 (LoseControl i) old new there.2 way.next)
 ]
 
 no_image_lost : {Q : ℕ → Type 0} → (h : History) (ms : List Event) (old new : WorldCore) (i : ℕ) (job : Job) → Way h ms old new i job Q → Moment (and_then h ms) new (LoseImage i) → ⊥
 no_image_lost h ms old new i job way at = elim (split_at h.events ms at.front at.back (LoseImage i) at.split) [
-  | inl here ↦ way.clear.left (LoseImage i) (contains_in h.events (LoseImage i) here) refl
-  | inr there ↦ (let n = next_in h ms there.0 at.back (LoseImage i) old new there.1 way.next in not_image n.between.daemon n.j i (slice_get n.between.endpoints n.j) n.next)
+  | inl here ↦ way.clear.left (LoseImage i) (contains_in h.events (OfJobs (LoseImage i)) here) refl
+  | inr there ↦ (let n = next_in h ms there.0 there.1 (LoseImage i) old new there.2 way.next in not_image n.between.daemon n.j i (slice_get n.between.endpoints n.j) n.next)
 ]
 
-not_cancelled : {Q : ℕ → Type 0} → (h : History) (ms : List Event) (old new : WorldCore) (i : ℕ) (job : Job) → Way h ms old new i job Q → Contains (h.events ++ ms) (Cancel i) → ⊥
-not_cancelled h ms old new i job way among = elim (in_either h.events ms (Cancel i) (in_list (h.events ++ ms) (Cancel i) among)) [
-  | inl here ↦ way.clear.left (Cancel i) (contains_in h.events (Cancel i) here) refl
-  | inr there ↦ (let s = split_in ms (Cancel i) there in let n = next_in h ms s.0 s.1 (Cancel i) old new s.2 way.next in cancel_next n.between.daemon n.j i (slice_get n.between.endpoints n.j) n.next)
+not_cancelled : {Q : ℕ → Type 0} → (h : History) (ms : List Event) (old new : WorldCore) (i : ℕ) (job : Job) → Way h ms old new i job Q → HasEvent (and_then h ms) (Cancel i) → ⊥
+not_cancelled h ms old new i job way among = elim (in_either h.events (of_jobs ms) (OfJobs (Cancel i)) (in_list (h.events ++ of_jobs ms) (OfJobs (Cancel i)) among)) [
+  | inl here ↦ way.clear.left (Cancel i) (contains_in h.events (OfJobs (Cancel i)) here) refl
+  | inr there ↦ (let s = split_in ms (Cancel i) (in_jobs ms (Cancel i) there) in let n = next_in h ms s.0 s.1 (Cancel i) old new s.2 way.next in cancel_next n.between.daemon n.j i (slice_get n.between.endpoints n.j) n.next)
 ]
 
 job_then : {Q : ℕ → Type 0} → (h : History) (ms : List Event) (old new : WorldCore) (i : ℕ) (job : Job) → Way h ms old new i job Q → IsJobAt (and_then h ms) new i job
@@ -360,7 +369,7 @@ ended h ms old new i job way status whys.Lost (same, inr starved) = inl (inr (in
 ended h ms old new i job way status whys.Malformed x = absurd x
 ended h ms old new i job way status whys.Short (same, named) = absurd (unnamed h ms new i job statuses.Eof way.clear named)
 ended h ms old new i job way status whys.Long x = absurd x
-ended h ms old new i job way status whys.Setting (same, unforced) = absurd (way.clear.forced (λ s. unforced (settled_more h (h.events ++ ms) job s)))
+ended h ms old new i job way status whys.Setting (same, unforced) = absurd (way.clear.forced (λ s. unforced (settled_more h (h.events ++ of_jobs ms) job s)))
 ended h ms old new i job way status whys.Plain x = absurd x
 ended h ms old new i job way status whys.Memory (same, starved) = inl (inr (inl (inr (ap (λ (s : Status). Ended s whys.Memory) same))))
 ended h ms old new i job way status whys.Sink x = absurd x
@@ -423,8 +432,9 @@ shares_clear below w v rounds h led i j a b apart at there named clear clear_too
       b_named = named;
       apart = apart;
       only = clear.alone;
-      a_nothing = λ s. clear.unnamed (settled_back h (h.events ++ out.moves) a s);
-      b_nothing = λ s. clear_too.unnamed (settled_back h (h.events ++ out.moves) b s);
+      a_nothing = λ s. clear.unnamed (settled_back h (h.events ++ of_jobs out.moves) a s);
+      b_nothing = λ s. clear_too.unnamed (settled_back h (h.events ++ of_jobs out.moves) b s);
+      undisturbed = no_acts_then h out.moves clear.undisturbed;
     } in
     record {
       out = out;

@@ -40,6 +40,8 @@ use Rattle.world_refines.specs.GhostStates.{Ghost, job_state, place_of_info, abs
 use Rattle.world_refines.specs.MainTheorem.{AreFittingLoads}
 use Rattle.world_refines.specs.NewWorlds.{HaveSourcesAt, PageSources, make_of}
 use Rattle.world_refines.specs.WorldRefinement.{client_at_greeting}
+use Rattle.strangers.specs.Together.{JointEvent, events_among}
+use Rattle.strangers.specs.Together.JointEvent.{OfJobs}
 use Rattle.scan_world.specs.Calls.{HadUnsaidReply}
 use Rattle.scan_world.specs.Endings.{IsUnforced, NamesStatus}
 use Rattle.scan_world.specs.Histories.{History, LedTo, history_up_to}
@@ -51,10 +53,11 @@ use Rattle.scan_world.proofs.Nearest.{none_nearest}
 use Rattle.scan_world.proofs.OfJobs.{all_of_jobs}
 use Rattle.scan_world.proofs.Rows.{AnswerEver, EndingEver}
 use Rattle.scan_world.proofs.Pages.{IsOfOne, all_of_one, first_slot}
-use Rattle.scan_world.proofs.Scanned.{at_first, ghost_by, infos_of, untouched_by}
+use Rattle.scan_world.proofs.Scanned.{at_first, ghost_by, infos_of, may_first, untouched_by}
 use Rattle.scan_world.proofs.Changing.{came_among, changing_among, changing_in}
 use Rattle.scan_world.proofs.Sources.{CanFail, all_fit, can_fail_at, have_sources, loads_fit, sources_of}
-use Rattle.scan_world.proofs.Traced.{each_of, traced}
+use Rattle.scan_world.proofs.Elsewhere.{elsewhere}
+use Rattle.scan_world.proofs.Joint.{among_events, each_of_any, events_in}
 use Rattle.scan_world.proofs.moments.Judged.{EndedBy, Evid, Judged, JudgedAt, all_judged, among_met}
 use Rattle.scan_world.proofs.moments.Moments.{AnsweredSo, Comes, HappenedSo, come}
 
@@ -74,13 +77,13 @@ unforced h i job o none s =
 
 -- ---- the table
 
-explained_as : (h : History) (w : WorldCore) (changing : List Event) (i : ℕ) (job : Job) (starved : Bool) (status : Status) (why as_why : Why) → why ≡ as_why → EndingEver h w changing i job starved status as_why → EndingEver h w changing i job starved status why
+explained_as : (h : History) (w : WorldCore) (changing : List JointEvent) (i : ℕ) (job : Job) (starved : Bool) (status : Status) (why as_why : Why) → why ≡ as_why → EndingEver h w changing i job starved status as_why → EndingEver h w changing i job starved status why
 explained_as h w changing i job starved status why as_why e x = subst (EndingEver h w changing i job starved status) (sym e) x
 
-answered_as : (h : History) (w : WorldCore) (changing : List Event) (i : ℕ) (job : Job) (starved : Bool) (status as_status : Status) (why : Why) → (status ≡ as_status) × (why ≡ whys.Answer) → AnswerEver h w changing i job as_status → EndingEver h w changing i job starved status why
+answered_as : (h : History) (w : WorldCore) (changing : List JointEvent) (i : ℕ) (job : Job) (starved : Bool) (status as_status : Status) (why : Why) → (status ≡ as_status) × (why ≡ whys.Answer) → AnswerEver h w changing i job as_status → EndingEver h w changing i job starved status why
 answered_as h w changing i job starved status as_status why e x = explained_as h w changing i job starved status why whys.Answer e.1 (inr (subst (AnswerEver h w changing i job) (sym e.0) x))
 
-row : (h : History) (w : WorldCore) (changing : List Event) (i : ℕ) (job : Job) (starved : Bool) (status : Status) (why : Why) (c : Cause) → (c ≡ LinkOutOfMemory → starved ≡ true) → Evid h w changing i job c → Explains c status why → EndingEver h w changing i job starved status why
+row : (h : History) (w : WorldCore) (changing : List JointEvent) (i : ℕ) (job : Job) (starved : Bool) (status : Status) (why : Why) (c : Cause) → (c ≡ LinkOutOfMemory → starved ≡ true) → Evid h w changing i job c → Explains c status why → EndingEver h w changing i job starved status why
 row h w changing i job starved status why GaveUp z e x = explained_as h w changing i job starved status why whys.Cancelled x.1 (x.0, e)
 row h w changing i job starved status why LinkLost z e x = explained_as h w changing i job starved status why whys.Lost x.1 (x.0, inl e)
 row h w changing i job starved status why WasUnsaid z e x = absurd x
@@ -102,11 +105,11 @@ row h w changing i job starved status why TrayRanOut z e x = absurd x
 row h w changing i job starved status why ClientOutOfMemory z e x = explained_as h w changing i job starved status why whys.Memory x.1 (x.0, e)
 
 -- settings that cannot be in force
-unforced_row : (h : History) (w : WorldCore) (changing : List Event) (i : ℕ) (job : Job) (starved : Bool) (status : Status) (why : Why) → status ≡ codes.Inval → (why ≡ whys.Setting) ⊎ (why ≡ whys.Answer) → IsUnforced h job → EndingEver h w changing i job starved status why
+unforced_row : (h : History) (w : WorldCore) (changing : List JointEvent) (i : ℕ) (job : Job) (starved : Bool) (status : Status) (why : Why) → status ≡ codes.Inval → (why ≡ whys.Setting) ⊎ (why ≡ whys.Answer) → IsUnforced h job → EndingEver h w changing i job starved status why
 unforced_row h w changing i job starved status why inval (inl e) none = explained_as h w changing i job starved status why whys.Setting e (inval, none)
 unforced_row h w changing i job starved status why inval (inr e) none = answered_as h w changing i job starved status codes.Inval why (inval, e) (inl none)
 
-table : (h : History) (w : WorldCore) (changing : List Event) (i : ℕ) (job : Job) (starved : Bool) (met : List Cause) (status : Status) (why : Why) → Own h i job → (IsCauseAmong LinkOutOfMemory met → starved ≡ true) → EndedBy h w changing i job met status why → EndingEver h w changing i job starved status why
+table : (h : History) (w : WorldCore) (changing : List JointEvent) (i : ℕ) (job : Job) (starved : Bool) (met : List Cause) (status : Status) (why : Why) → Own h i job → (IsCauseAmong LinkOutOfMemory met → starved ≡ true) → EndedBy h w changing i job met status why → EndingEver h w changing i job starved status why
 table h w changing i job starved met status why o z (inl (c, e, m, x)) = row h w changing i job starved status why c (λ same. z (subst (λ (y : Cause). IsCauseAmong y met) same m)) e x
 table h w changing i job starved met status why o z (inr n) = unforced_row h w changing i job starved status why n.1.0 n.1.1 (unforced h i job o n.0)
 
@@ -130,15 +133,15 @@ abbrev pub make_by : History → (ℕ → PageSources) → ℕ → Make
 make_by h sources d = make_of (sources d) (slice_get h.devices d)
 
 -- the steps of the events that change the world, where so much is known of the pages that come with these
-pub comes_by : (below : Below) (h : History) (w : WorldCore) (job : Job) (l : LedTo h w) (sources : ℕ → PageSources) → HaveSourcesAt sources h.devices → AreFittingLoads source_state (infos_of h) (make_by h sources) (changing_in h w l) → Comes h w job (changing_in h w l) (ghost_by h w job l sources)
+pub comes_by : (below : Below) (h : History) (w : WorldCore) (job : Job) (l : LedTo h w) (sources : ℕ → PageSources) → HaveSourcesAt sources h.devices → AreFittingLoads source_state (infos_of h) (make_by h sources) (events_among (changing_in h w l)) → Comes h w job (changing_in h w l) (ghost_by h w job l sources)
 comes_by below h w job l sources haves fits =
     let t = ghost_by h w job l sources in
-    let new = below.new sources h.jobs job h.devices l.first l.endpoints l.daemon l.names l.limits haves l.fit in
+    let may = may_first below.kept h w job l sources haves in
     let first : LedTo (history_up_to h []) l.first = record { first = l.first; endpoints = l.endpoints; daemon = l.daemon; users_are = l.users_are; names = l.names; limits = l.limits; fit = l.fit; loads = tt; runs = refl } in
-    come below.follows below.histories below.last below.kept h w job (make_by h sources) h.events [] t l.first refl first l.loads l.runs fits new (ap (λ (users : List Entry). (users, infos_of h, length h.jobs, λ (k : ℕ). slice_index_or h.jobs k job)) l.users_are) refl
+    come (record { follow = below.follows; goes = below.goes; acts = below.acts; keeps = below.histories; last = below.last; all = below.kept }) h w job (make_by h sources) h.events [] t l.first refl first l.loads l.runs fits may (ap (λ (users : List Entry). (users, infos_of h, length h.jobs, λ (k : ℕ). slice_index_or h.jobs k (elsewhere h.devices job))) l.users_are) refl
 
 pub comes_there : (below : Below) (h : History) (w : WorldCore) (job : Job) (l : LedTo h w) → Comes h w job (changing_in h w l) (at_first h w job l)
-comes_there below h w job l = comes_by below h w job l (sources_of h) (have_sources h) (all_fit h (changing_in h w l) (changing_among h w l))
+comes_there below h w job l = comes_by below h w job l (sources_of h) (have_sources h) (all_fit h (events_among (changing_in h w l)) (λ e among. among_events h.events e (changing_among h w l (OfJobs e) (events_in (changing_in h w l) e among))))
 
 -- of devices of which no more is known than what came with these
 abbrev pub of_changing : (h : History) (w : WorldCore) → LedTo h w → History
@@ -166,7 +169,7 @@ pub failures_changing : (h : History) (w : WorldCore) (l : LedTo h w) → Failur
 failures_changing h w l d able device at = can_fail_at (of_changing h w l) d device at able
 
 -- what the first step of it needs
-pub fine_first : (h : History) (w : WorldCore) (job : Job) (l : LedTo h w) (sources : ℕ → PageSources) (changing : List Event) → FailuresCame h (history_up_to h changing) sources → Fine (history_up_to h changing) job (ghost_by h w job l sources).system
+pub fine_first : (h : History) (w : WorldCore) (job : Job) (l : LedTo h w) (sources : ℕ → PageSources) (changing : List JointEvent) → FailuresCame h (history_up_to h changing) sources → Fine (history_up_to h changing) job (ghost_by h w job l sources).system
 fine_first h w job l sources changing fails = record {
   makes = λ d. record { sources = sources d; is = refl; fails = fails d };
   places = λ n. refl;
@@ -176,11 +179,11 @@ fine_first h w job l sources changing fails = record {
 pub first_by : (below : Below) (h : History) (w : WorldCore) (i : ℕ) (job : Job) (l : LedTo h w) (sources : ℕ → PageSources) → HaveSourcesAt sources h.devices → FailuresCame h h sources → slice_get h.jobs i ≡ Some job → Here h i job (ghost_by h w job l sources).system
 first_by below h w i job l sources haves fails job_at =
     let t = ghost_by h w job l sources in
-    let new = below.new sources h.jobs job h.devices l.first l.endpoints l.daemon l.names l.limits haves l.fit in
+    let new = (may_first below.kept h w job l sources haves).refines in
     record {
       own_job = record { at = job_at; apart = new.is_of.apart; same = below.same };
       fine = record { makes = λ d. record { sources = sources d; is = refl; fails = fails d }; places = λ n. refl; slots = λ d. first_slot h (t.system.make d) d };
-      is = ap (λ (users : List Entry). abstract_job users (infos_of h) (slice_index_or h.jobs i job)) l.users_are ∙ ap (λ (x : Job). abstract_job h.users (infos_of h) x) (get_or_from_slice_get h.jobs i job job job_at);
+      is = ap (λ (users : List Entry). abstract_job users (infos_of h) (slice_index_or h.jobs i (elsewhere h.devices job))) l.users_are ∙ ap (λ (x : Job). abstract_job h.users (infos_of h) x) (get_or_from_slice_get h.jobs i job (elsewhere h.devices job) job_at);
       asks = λ c is. absurd (let clash : None ≡ Some c = is in cc);
       sound = new.sound;
     }
@@ -192,7 +195,7 @@ pub steps_of_changing : (h : History) (w : WorldCore) (job : Job) (l : LedTo h w
 steps_of_changing h w job l sources k =
     let t = ghost_by h w job l sources in
     all_of_one (of_changing h w l) k.steps
-    (each_of (infos_of h) (changing_in h w l) k.steps (traced (changing_in h w l) t k.steps k.ghost_then k.comes))
+    (each_of_any (changing_in h w l) t k.steps k.ghost_then k.comes)
     (all_of_jobs (changing_in h w l) t k.steps k.ghost_then (untouched_by h w job l sources) k.comes)
 
 pub steps_by : (h : History) (w : WorldCore) (job : Job) (l : LedTo h w) (sources : ℕ → PageSources) (k : Comes h w job (changing_in h w l) (ghost_by h w job l sources)) → AllByRecursion (IsOfOne h) k.steps
@@ -227,7 +230,7 @@ at_end below h w i job endpoint status why j is =
 
 -- ---- a reply that could not be said
 
-unsaid_judged : (h : History) (w : WorldCore) (changing : List Event) (i : ℕ) (job : Job) (met : List Cause) (pages : List (List Frame)) (stage : JobStage) → IsUnderWay stage → Judged h w changing i job met pages stage → IsCauseAmong WasUnsaid met → HadUnsaidReply h w i job
+unsaid_judged : (h : History) (w : WorldCore) (changing : List JointEvent) (i : ℕ) (job : Job) (met : List Cause) (pages : List (List Frame)) (stage : JobStage) → IsUnderWay stage → Judged h w changing i job met pages stage → IsCauseAmong WasUnsaid met → HadUnsaidReply h w i job
 unsaid_judged h w changing i job met pages Idle on a m = among_met h w changing i job WasUnsaid met a m
 unsaid_judged h w changing i job met pages (Running g) on a m = among_met h w changing i job WasUnsaid met a m
 unsaid_judged h w changing i job met pages Done on a m = absurd on

@@ -26,7 +26,9 @@ use Rattle.event_world.specs.declared.event.Event.{Event}
 use Rattle.event_world.specs.declared.event.Event.TheVariants.{Load}
 use Rattle.event_world.specs.JobEvents.{is_done}
 use Rattle.event_world.specs.Worlds.{WorldCore}
-use Rattle.scan_world.specs.Histories.{History, LedTo, and_then, begun}
+use Rattle.strangers.specs.Together.{JointEvent}
+use Rattle.strangers.specs.Together.JointEvent.{OfJobs, OfStranger}
+use Rattle.scan_world.specs.Histories.{History, LedTo, and_then, begun, of_jobs}
 use Rattle.scan_world.specs.Settings.{AreSettingsPut}
 use Rattle.scan_world.specs.Page.{CameInTime, IsScan, IsSteady}
 use Rattle.scan_world.specs.Page.CameInTime.{FromFirst, AsItRan}
@@ -79,20 +81,29 @@ only_of_two devices name asked source other are asks own device there named =
     one (inl is) = is
     one (inr is) = absurd (differ (sym asks ∙ sym named ∙ ap (λ (d : DeviceState). d.info.name) (sym is)))
 
-no_load : (events : List Event) (name : List ℕ) (source : Source) → AllByRecursion LoadsNothing events → Contains events (Load name source) → ⊥
-no_load events name source quiet there = at_all LoadsNothing events there.0 (Load name source) quiet (get_at events there.0 (Load name source) there.1 ∙ ap (λ (e : Event). Some e) there.2)
+-- no event lays a page in or takes a device out, and no stranger's act does
+abbrev BringsNothing : JointEvent → Type 0
+BringsNothing (OfJobs e) = LoadsNothing e
+BringsNothing (OfStranger a) = Unit {0}
 
-page_is : (h : History) (w : WorldCore) (i : ℕ) (name other : List ℕ) (source : SourceState) (held : HeldPage) → IsOnly h.devices name source other → AllByRecursion LoadsNothing h.events → CameInTime h w i other held → held_from source ≡ held
+quiet_jobs : (es : List Event) → AllByRecursion LoadsNothing es → AllByRecursion BringsNothing (of_jobs es)
+quiet_jobs [] quiet = tt
+quiet_jobs (e ∷ es) quiet = (quiet.0, quiet_jobs es quiet.1)
+
+no_load : (events : List JointEvent) (name : List ℕ) (source : Source) → AllByRecursion BringsNothing events → Contains events (OfJobs (Load name source)) → ⊥
+no_load events name source quiet there = at_all BringsNothing events there.0 (OfJobs (Load name source)) quiet (get_at events there.0 (OfJobs (Load name source)) there.1 ∙ ap (λ (e : JointEvent). Some e) there.2)
+
+page_is : (h : History) (w : WorldCore) (i : ℕ) (name other : List ℕ) (source : SourceState) (held : HeldPage) → IsOnly h.devices name source other → AllByRecursion BringsNothing h.events → CameInTime h w i other held → held_from source ≡ held
 page_is h w i name other source held only quiet (FromFirst device there named among) =
     let same : new_scanner Flatbed name source Little ≡ device = only device there named in
     contains_one (held_from source) held (subst (λ (d : DeviceState). Contains d.pages held) (sym same) among)
-page_is h w i name other source held only quiet (AsItRan laid happened is) = absurd (no_load h.events other laid quiet (in_split h.events happened.0.front happened.0.back (Load other laid) happened.0.split))
+page_is h w i name other source held only quiet (AsItRan laid happened is) = absurd (no_load h.events other laid quiet (in_split h.events happened.0.front happened.0.back (OfJobs (Load other laid)) happened.0.split))
 
 on_flatbed : (name : List ℕ) (source : SourceState) (placed : List Placement) (setup : Setup) (job : Job) → AreSettingsPut (defaults (new_scanner Flatbed name source Little).setup.scene.kind (new_scanner Flatbed name source Little).setup.order) job.settings.items placed setup → AreSettingsPut (defaults Flatbed Little) job.settings.items placed setup
 unfolding defaults
 on_flatbed name source placed setup job h = h
 
-scan_of_one : (h : History) (w : WorldCore) (i count : ℕ) (job : Job) (bytes : List ℕ) (name : List ℕ) (source : SourceState) → IsOnly h.devices name source job.device → AllByRecursion LoadsNothing h.events → IsScan h w i job count bytes → IsScanOf source.page job bytes
+scan_of_one : (h : History) (w : WorldCore) (i count : ℕ) (job : Job) (bytes : List ℕ) (name : List ℕ) (source : SourceState) → IsOnly h.devices name source job.device → AllByRecursion BringsNothing h.events → IsScan h w i job count bytes → IsScanOf source.page job bytes
 scan_of_one h w i count job bytes name source only quiet scan =
     let s = scan.settled in
     let same : new_scanner Flatbed name source Little ≡ s.device = only s.device s.is_there s.named in
@@ -112,7 +123,7 @@ done_reports (Done reports) e = (reports, refl)
 done_reports (Ended status why) e = absurd (let clash : false ≡ true = e in cc)
 
 -- the pages of the flatbed, where events bring none, are that of its source
-steady_for_all : (h : History) (w : WorldCore) (i : ℕ) (name other : List ℕ) (source : SourceState) → IsOnly h.devices name source other → source.steady ≡ true → AllByRecursion LoadsNothing h.events → IsSteady h w i other
+steady_for_all : (h : History) (w : WorldCore) (i : ℕ) (name other : List ℕ) (source : SourceState) → IsOnly h.devices name source other → source.steady ≡ true → AllByRecursion BringsNothing h.events → IsSteady h w i other
 steady_for_all h w i name other source only steady quiet held came = ap (λ (x : HeldPage). x.steady) (sym (page_is h w i name other source held only quiet came)) ∙ steady
 
 both_quiet : (events : List Event) → events ≡ until_busy → AllByRecursion LoadsNothing events
@@ -132,7 +143,7 @@ once old new name source states users job jobs outcome bytes only own steady led
     let reports = done_reports outcome done in
     let kept : FileIsKept h new 0 job (starved_at new 0) outcome (Some bytes) = file h job at outcome there in
     let this : IsOnly states name source job.device = only out.led.names in
-    let quiet = quiet_moves out.moves old new out.next in
+    let quiet = quiet_jobs out.moves (quiet_moves out.moves old new out.next) in
     scan_of_one h new 0 0 job bytes name source this quiet (kept.scanned reports.0 bytes (steady_for_all h new 0 name job.device source this steady quiet) scan reports.1 refl)
 
 pub beside : (old mid new : WorldCore) (name : List ℕ) (source : SourceState) (states : List DeviceState) (users : List Entry) (first second : Job) (jobs : List Job) (outcome : Outcome) (bytes : List ℕ) (events : List Event) →
@@ -145,7 +156,7 @@ beside old mid new name source states users first second jobs outcome bytes even
     let at : IsJobAt h new 0 first = record { led = out.led; job_at = ap (λ (js : List Job). slice_get js 0) own } in
     let reports = done_reports outcome done in
     let kept : FileIsKept h new 0 first (starved_at new 0) outcome (Some bytes) = file h first at outcome there in
-    let quiet = all_then LoadsNothing events out.moves (both_quiet events are) (quiet_moves out.moves mid new out.next) in
+    let quiet = all_then BringsNothing (of_jobs events) (of_jobs out.moves) (quiet_jobs events (both_quiet events are)) (quiet_jobs out.moves (quiet_moves out.moves mid new out.next)) in
     let this : IsOnly states name source first.device = only_device states name first.device source devices in
     scan_of_one h new 0 0 first bytes name source this quiet (kept.scanned reports.0 bytes (steady_for_all h new 0 name first.device source this steady quiet) scan reports.1 refl)
 

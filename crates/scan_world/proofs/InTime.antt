@@ -29,11 +29,14 @@ use Rattle.event_world.specs.declared.event.JobEvent.TheVariants as moves
 use Rattle.event_world.specs.Endpoints.{after_move, image_out_of_memory}
 use Rattle.event_world.specs.JobEvents.{SendsRecord, SendsStep}
 use Rattle.event_world.specs.Worlds.{Runs, WorldCore}
+use Rattle.strangers.specs.Among.{StrangerAct}
 use Rattle.event_world.proofs.Deciding.{can_or_not}
 use Rattle.event_world.proofs.Events.{linked_by}
 use Rattle.world_refines.specs.FailedSources.{FailedIn}
-use Rattle.world_refines.specs.MainTheorem.{AllIsKept, AreTrueLoads}
+use Rattle.world_refines.specs.MainTheorem.{AreTrueLoads}
 use Rattle.world_refines.specs.WorldPromises.{IsOutcome}
+use Rattle.strangers.specs.Together.{AllIsKeptAmongStrangers, JointEvent, RunsAmong, events_among}
+use Rattle.strangers.specs.Together.JointEvent.{OfJobs, OfStranger}
 use Rattle.scan_world.specs.Calls.{IsJobAt, JobStays, outcome_at}
 use Rattle.scan_world.specs.Endings.{AnswerIsExplained, DeviceFailed, HadFailed, HadNoPicture, HasPassed, IsEndingExplained, NamesStatus, SendsFailure}
 use Rattle.scan_world.specs.Histories.{History, LedTo, Moment, history_up_to}
@@ -44,9 +47,9 @@ use Rattle.scan_world.specs.Page.CameInTime.{FromFirst, AsItRan}
 use Rattle.scan_world.specs.Sessions.{Asked, AtJob, Happened}
 use Rattle.scan_world.proofs.Ended.{at_end}
 use Rattle.scan_world.proofs.Jobs.{IsJob}
-use Rattle.scan_world.proofs.Led.{first_runs, led_then, runs_then}
+use Rattle.scan_world.proofs.Led.{first_runs, led_on, led_then, runs_then}
 use Rattle.scan_world.proofs.Lists.{In, in_list}
-use Rattle.scan_world.proofs.Over.{at_own, lost_runs, over_stays}
+use Rattle.scan_world.proofs.Over.{at_own, lost_runs, over_among}
 use Rattle.scan_world.proofs.Rows.{AnswerEver, EndingEver, HadNoPictureEver, IsScanEver, MayHaveFailed, RunsAt, SendsOrLoses, image_at}
 use Rattle.scan_world.proofs.Scanned.{kept_by}
 use Rattle.scan_world.proofs.Sources.{CanFail}
@@ -59,16 +62,16 @@ use Rattle.scan_world.proofs.moments.ImageLost.{counts_there}
 -- ---- up to the event behind which the job is over
 
 -- each page that is laid in by these came as the job ran and changed the world
-abbrev pub CameSo : History → WorldCore → ℕ → List Event → Type 0
-CameSo h w i es = (name : List ℕ) (source : Source) → In (Load name source) es → Happened h w i (Load name source)
+abbrev pub CameSo : History → WorldCore → ℕ → List JointEvent → Type 0
+CameSo h w i es = (name : List ℕ) (source : Source) → In (OfJobs (Load name source)) es → Happened h w i (Load name source)
 
 pub record Until (h : History) (w : WorldCore) (i : ℕ) : Type 0 where
-  pub front : List Event
-  pub back : List Event
+  pub front : List JointEvent
+  pub back : List JointEvent
   pub split : h.events ≡ front ++ back
   pub at : WorldCore
   pub led : LedTo (history_up_to h front) at
-  pub rest : Runs source_state back at w
+  pub rest : RunsAmong source_state back at w
   pub stays : JobStays at w i
   pub came : CameSo h w i (changing_in (history_up_to h front) at led)
 
@@ -76,41 +79,64 @@ stays_same : (w : WorldCore) (i : ℕ) → JobStays w w i
 stays_same w i = record { outcome = refl; file = refl; finished = refl; pages = λ k. refl }
 
 -- from a world on: events in front of which the job runs, and then those behind which it is over
-record From (h : History) (w : WorldCore) (i : ℕ) (es : List Event) (u : WorldCore) : Type 0 where
-  front : List Event
-  back : List Event
+record From (h : History) (w : WorldCore) (i : ℕ) (es : List JointEvent) (u : WorldCore) : Type 0 where
+  front : List JointEvent
+  back : List JointEvent
   split : es ≡ front ++ back
   at : WorldCore
-  loads : AreTrueLoads source_state front
-  run : Runs source_state front u at
-  rest : Runs source_state back at w
+  loads : AreTrueLoads source_state (events_among front)
+  run : RunsAmong source_state front u at
+  rest : RunsAmong source_state back at w
   stays : JobStays at w i
   came : CameSo h w i (changing_of front u at run)
 
-came_more : (h : History) (w : WorldCore) (i : ℕ) (e : Event) (m : Moment h w e) → RunsAt m.before i → (c : LoadChanges e m.before m.behind ⊎ (m.behind ≡ m.before)) (es : List Event) → CameSo h w i es → CameSo h w i (with_changing c e es)
-came_more h w i e m ran (inl changes) es came name source (inl is) = subst (λ (x : Event). (at : Moment h w x) × (RunsAt at.before i × LoadChanges x at.before at.behind)) (sym is) (m, (ran, changes))
+came_more : (h : History) (w : WorldCore) (i : ℕ) (e : Event) (m : Moment h w e) → RunsAt m.before i → (c : LoadChanges e m.before m.behind ⊎ (m.behind ≡ m.before)) (es : List JointEvent) → CameSo h w i es → CameSo h w i (with_changing c (OfJobs e) es)
+came_more h w i e m ran (inl changes) es came name source (inl is) =
+    let same : Load name source ≡ e = (let both : OfJobs (Load name source) ≡ OfJobs e = is in cc) in
+    subst (λ (x : Event). (at : Moment h w x) × (RunsAt at.before i × LoadChanges x at.before at.behind)) (sym same) (m, (ran, changes))
 came_more h w i e m ran (inl changes) es came name source (inr there) = came name source there
 came_more h w i e m ran (inr same) es came name source there = came name source there
+
+came_behind : (h : History) (w : WorldCore) (i : ℕ) (a : StrangerAct) (es : List JointEvent) → CameSo h w i es → CameSo h w i (OfStranger a ∷ es)
+came_behind h w i a es came name source (inl is) = absurd (let clash : OfJobs (Load name source) ≡ OfStranger a = is in cc)
+came_behind h w i a es came name source (inr there) = came name source there
 
 outcome_is : (w : WorldCore) (i : ℕ) (p : Endpoint) (o : Outcome) → slice_get w.endpoints i ≡ Some p → p.client.outcome ≡ o → outcome_at w i ≡ Some o
 outcome_is w i p o at is = ap (option_map (λ (q : Endpoint). q.client.outcome)) at ∙ ap (λ (x : Outcome). Some x) is
 
-here_over : (h : History) (w u : WorldCore) (i : ℕ) (es : List Event) (o : Outcome) → Runs source_state es u w → outcome_at u i ≡ Some o → o ≢ Running → From h w i es u
-here_over h w u i es o run is over = record { front = []; back = es; split = refl; at = u; loads = tt; run = refl; rest = run; stays = over_stays es u w run i o is over; came = λ name source none. absurd none }
+here_over : (h : History) (w u : WorldCore) (i : ℕ) (es : List JointEvent) (o : Outcome) → RunsAmong source_state es u w → outcome_at u i ≡ Some o → o ≢ Running → From h w i es u
+here_over h w u i es o run is over = record { front = []; back = es; split = refl; at = u; loads = tt; run = refl; rest = run; stays = over_among es u w run i o is over; came = λ name source none. absurd none }
 
-from_here : Below → (h : History) (w : WorldCore) (i : ℕ) (job : Job) → slice_get h.jobs i ≡ Some job → (es seen : List Event) (u : WorldCore) → h.events ≡ seen ++ es → LedTo (history_up_to h seen) u → AreTrueLoads source_state es → Runs source_state es u w → (p : Endpoint) → slice_get u.endpoints i ≡ Some p → (o : Outcome) → p.client.outcome ≡ o → From h w i es u
+from_here : Below → (h : History) (w : WorldCore) (i : ℕ) (job : Job) → slice_get h.jobs i ≡ Some job → (es seen : List JointEvent) (u : WorldCore) → h.events ≡ seen ++ es → LedTo (history_up_to h seen) u → AreTrueLoads source_state (events_among es) → RunsAmong source_state es u w → (p : Endpoint) → slice_get u.endpoints i ≡ Some p → (o : Outcome) → p.client.outcome ≡ o → From h w i es u
 from_here below h w i job at [] seen u split led loads run p there o is = record { front = []; back = []; split = refl; at = u; loads = tt; run = refl; rest = run; stays = subst (λ (x : WorldCore). JobStays u x i) (sym run) (stays_same u i); came = λ name source none. absurd none }
-from_here below h w i job at (e ∷ es) seen u split led loads run p there (Done reports) is = here_over h w u i (e ∷ es) (Done reports) run (outcome_is u i p (Done reports) there is) (λ r. cc)
-from_here below h w i job at (e ∷ es) seen u split led loads run p there (Ended status why) is = here_over h w u i (e ∷ es) (Ended status why) run (outcome_is u i p (Ended status why) there is) (λ r. cc)
-from_here below h w i job at (e ∷ es) seen u split led loads (v, leads, rest) p there Running is =
-    let on : LedTo (history_up_to h (seen ++ e ∷ [])) v = led_then (history_up_to h seen) (e ∷ []) u v led (loads.0, tt) (v, leads, refl) in
-    let m : Moment h w e = record { front = seen; back = es; split = split; before = u; led_before = led; behind = v; leads = (v, leads, refl); rest = rest } in
-    let q = endpoint_there below (history_up_to h (seen ++ e ∷ [])) v i job (record { led = on; job_at = at }) in
-    let r = from_here below h w i job at es (seen ++ e ∷ []) v (split ∙ sym (append_assoc seen (e ∷ []) es)) on loads.1 rest q.0 q.1.endpoint_at q.0.client.outcome refl in
+from_here below h w i job at (OfStranger a ∷ es) seen u split led loads run p there (Done reports) is = here_over h w u i (OfStranger a ∷ es) (Done reports) run (outcome_is u i p (Done reports) there is) (λ r. cc)
+from_here below h w i job at (OfStranger a ∷ es) seen u split led loads run p there (Ended status why) is = here_over h w u i (OfStranger a ∷ es) (Ended status why) run (outcome_is u i p (Ended status why) there is) (λ r. cc)
+from_here below h w i job at (OfJobs e ∷ es) seen u split led loads run p there (Done reports) is = here_over h w u i (OfJobs e ∷ es) (Done reports) run (outcome_is u i p (Done reports) there is) (λ r. cc)
+from_here below h w i job at (OfJobs e ∷ es) seen u split led loads run p there (Ended status why) is = here_over h w u i (OfJobs e ∷ es) (Ended status why) run (outcome_is u i p (Ended status why) there is) (λ r. cc)
+from_here below h w i job at (OfStranger a ∷ es) seen u split led loads (v, acts, rest) p there Running is =
+    let on : LedTo (history_up_to h (seen ++ OfStranger a ∷ [])) v = led_on (history_up_to h seen) (OfStranger a ∷ []) u v led tt (v, acts, refl) in
+    let q = endpoint_there below (history_up_to h (seen ++ OfStranger a ∷ [])) v i job (record { led = on; job_at = at }) in
+    let r = from_here below h w i job at es (seen ++ OfStranger a ∷ []) v (split ∙ sym (append_assoc seen (OfStranger a ∷ []) es)) on loads rest q.0 q.1.endpoint_at q.0.client.outcome refl in
     record {
-      front = e ∷ r.front;
+      front = OfStranger a ∷ r.front;
       back = r.back;
-      split = ap (λ (xs : List Event). e ∷ xs) r.split;
+      split = ap (λ (xs : List JointEvent). OfStranger a ∷ xs) r.split;
+      at = r.at;
+      loads = r.loads;
+      run = (v, acts, r.run);
+      rest = r.rest;
+      stays = r.stays;
+      came = came_behind h w i a (changing_of r.front v r.at r.run) r.came;
+    }
+from_here below h w i job at (OfJobs e ∷ es) seen u split led loads (v, leads, rest) p there Running is =
+    let on : LedTo (history_up_to h (seen ++ OfJobs e ∷ [])) v = led_then (history_up_to h seen) (e ∷ []) u v led (loads.0, tt) (v, leads, refl) in
+    let m : Moment h w e = record { front = seen; back = es; split = split; before = u; led_before = led; behind = v; leads = (v, leads, refl); rest = rest } in
+    let q = endpoint_there below (history_up_to h (seen ++ OfJobs e ∷ [])) v i job (record { led = on; job_at = at }) in
+    let r = from_here below h w i job at es (seen ++ OfJobs e ∷ []) v (split ∙ sym (append_assoc seen (OfJobs e ∷ []) es)) on loads.1 rest q.0 q.1.endpoint_at q.0.client.outcome refl in
+    record {
+      front = OfJobs e ∷ r.front;
+      back = r.back;
+      split = ap (λ (xs : List JointEvent). OfJobs e ∷ xs) r.split;
       at = r.at;
       loads = (loads.0, r.loads);
       run = (v, leads, r.run);
@@ -167,7 +193,7 @@ abbrev moment_on : (h : History) (w : WorldCore) (i : ℕ) (u : Until h w i) (e 
 moment_on h w i u e m = record {
   front = m.front;
   back = m.back ++ u.back;
-  split = u.split ∙ (ap (λ (es : List Event). es ++ u.back) m.split ∙ append_assoc m.front (e ∷ m.back) u.back);
+  split = u.split ∙ (ap (λ (es : List JointEvent). es ++ u.back) m.split ∙ append_assoc m.front (OfJobs e ∷ m.back) u.back);
   before = m.before;
   led_before = m.led_before;
   behind = m.behind;
@@ -181,22 +207,22 @@ asked_on h w i u Waits a = record { n = a.n; at = moment_on h w i u (ToDaemon i 
 abbrev happened_on : (h : History) (w : WorldCore) (i : ℕ) (u : Until h w i) (e : Event) → Happened (history_up_to h u.front) u.at i e → Happened h w i e
 happened_on h w i u e x = (moment_on h w i u e x.0, x.1)
 
-abbrev settled_on : (h : History) (es : List Event) (job : Job) → Settled (history_up_to h es) job → Settled h job
+abbrev settled_on : (h : History) (es : List JointEvent) (job : Job) → Settled (history_up_to h es) job → Settled h job
 settled_on h es job s = record { device = s.device; is_there = s.is_there; named = s.named; setup = s.setup; placed = s.placed; in_force = s.in_force }
 
-settled_to : (h : History) (es : List Event) (job : Job) → Settled h job → Settled (history_up_to h es) job
+settled_to : (h : History) (es : List JointEvent) (job : Job) → Settled h job → Settled (history_up_to h es) job
 settled_to h es job s = record { device = s.device; is_there = s.is_there; named = s.named; setup = s.setup; placed = s.placed; in_force = s.in_force }
 
-passed_on : (h : History) (es : List Event) (before : WorldCore) (i : ℕ) (job : Job) (allowed : Bool) → HasPassed (history_up_to h es) before i job allowed → HasPassed h before i job allowed
+passed_on : (h : History) (es : List JointEvent) (before : WorldCore) (i : ℕ) (job : Job) (allowed : Bool) → HasPassed (history_up_to h es) before i job allowed → HasPassed h before i job allowed
 passed_on h es before i job allowed p = record { session = p.session; stands = p.stands; sent = p.sent; awaited = p.awaited; guarded = p.guarded; is = p.is }
 
 -- of the events up to it those that change the world
-abbrev pub changing_to : (h : History) (w : WorldCore) (i : ℕ) → Until h w i → List Event
+abbrev pub changing_to : (h : History) (w : WorldCore) (i : ℕ) → Until h w i → List JointEvent
 changing_to h w i u = changing_in (history_up_to h u.front) u.at u.led
 
 came_on : (h : History) (w : WorldCore) (i : ℕ) (u : Until h w i) (name : List ℕ) (held : HeldPage) → CameFor (history_up_to h (changing_to h w i u)) name held → CameInTime h w i name held
 came_on h w i u name held (AtFirst device there named among) = FromFirst device there named among
-came_on h w i u name held (WithEvent source among is) = AsItRan source (u.came name source (in_list (changing_to h w i u) (Load name source) among)) is
+came_on h w i u name held (WithEvent source among is) = AsItRan source (u.came name source (in_list (changing_to h w i u) (OfJobs (Load name source)) among)) is
 
 pub steady_on : (h : History) (w : WorldCore) (i : ℕ) (u : Until h w i) (job : Job) → IsSteady h w i job.device → SteadyRun (history_up_to h u.front) u.at job u.led
 steady_on h w i u job steady = record {
@@ -286,7 +312,7 @@ step_lost k steps.Idle buf d p e q image is s gone = absurd (gone image (ap (λ 
 step_lost k (steps.Bytes n) buf d p e q image is s gone = record_lost k _ false d p e q s gone
 step_lost k (steps.Last n) buf d p e q image is s gone = record_lost k _ true d p e q s gone
 
-lost_turn : AllIsKept → (h : History) (other : Job) (u v : WorldCore) (i : ℕ) (sent : List ℕ) → LedTo h u → Runs source_state (DataTurn i ∷ []) u v → RunsAt u i → image_at u i ≡ Some sent → image_at v i ≡ None → outcome_at v i ≡ Some (Ended statuses.IoError whys.Lost)
+lost_turn : AllIsKeptAmongStrangers → (h : History) (other : Job) (u v : WorldCore) (i : ℕ) (sent : List ℕ) → LedTo h u → Runs source_state (DataTurn i ∷ []) u v → RunsAt u i → image_at u i ≡ Some sent → image_at v i ≡ None → outcome_at v i ≡ Some (Ended statuses.IoError whys.Lost)
 lost_turn all h other u v i sent l run ran was none =
     let k = kept_by all h u other l in
     let t = k.run.ghost_then in
@@ -307,20 +333,20 @@ lost_turn all h other u v i sent l run ran was none =
       | inr never ↦ absurd (gone im.image (ap (λ (q : Endpoint). q.image) (n.1.cannot never).1 ∙ im.at.2))
     ]))
 
-sends_by : AllIsKept → (h : History) (other : Job) (w : WorldCore) (i : ℕ) (status : Status) (m : Moment h w (DataTurn i)) → RunsAt m.before i → outcome_at w i ≡ Some (Ended status whys.Answer) → SendsOrLoses m.before m.behind i → SendsFailure m.before m.behind i
+sends_by : AllIsKeptAmongStrangers → (h : History) (other : Job) (w : WorldCore) (i : ℕ) (status : Status) (m : Moment h w (DataTurn i)) → RunsAt m.before i → outcome_at w i ≡ Some (Ended status whys.Answer) → SendsOrLoses m.before m.behind i → SendsFailure m.before m.behind i
 sends_by all h other w i status m ran ended (sent, was, inl now) =
     let old = image_there m.before i sent was in
     let new = image_there m.behind i (sent ++ end_record 9) now in
     (old.image, new.image, old.at, new.at, new.is ∙ ap (λ (bytes : List ℕ). bytes ++ end_record 9) (sym old.is))
 sends_by all h other w i status m ran ended (sent, was, inr none) =
     let lost = lost_turn all (history_up_to h m.front) other m.before m.behind i sent m.led_before m.leads ran was none in
-    let stays = (over_stays m.back m.behind w m.rest i (Ended statuses.IoError whys.Lost) lost (λ r. cc)).outcome in
+    let stays = (over_among m.back m.behind w m.rest i (Ended statuses.IoError whys.Lost) lost (λ r. cc)).outcome in
     absurd (let clash : ◌≡◌ {A = Option Outcome} (Some (Ended status whys.Answer)) (Some (Ended statuses.IoError whys.Lost)) = sym ended ∙ (stays ∙ lost) in cc)
 
 can_on : (h : History) (w : WorldCore) (i : ℕ) (u : Until h w i) (job : Job) → CanFail (history_up_to h (changing_to h w i u)) job.device → (held : HeldPage) × CameInTime h w i job.device held × (held.infallible ≡ false)
 can_on h w i u job (held, came, able) = (held, came_on h w i u job.device held came, able)
 
-failed_on : AllIsKept → (h : History) (w : WorldCore) (i : ℕ) (u : Until h w i) (job : Job) (status : Status) → outcome_at u.at i ≡ Some (Ended status whys.Answer) → MayHaveFailed (history_up_to h u.front) u.at (changing_to h w i u) i job → HadFailed h w i job
+failed_on : AllIsKeptAmongStrangers → (h : History) (w : WorldCore) (i : ℕ) (u : Until h w i) (job : Job) (status : Status) → outcome_at u.at i ≡ Some (Ended status whys.Answer) → MayHaveFailed (history_up_to h u.front) u.at (changing_to h w i u) i job → HadFailed h w i job
 failed_on all h w i u job status ended (scanning, can, inl (asked, failed)) = (scanning, can_on h w i u job can, inl (asked_on h w i u _ asked, device_failed asked.at.before asked.at.behind i job.device failed))
 failed_on all h w i u job status ended (scanning, can, inr (turn, failed, sent)) = (
   scanning,
@@ -330,11 +356,11 @@ failed_on all h w i u job status ended (scanning, can, inr (turn, failed, sent))
 
 -- ---- the table
 
-answer_on : AllIsKept → (h : History) (w : WorldCore) (i : ℕ) (u : Until h w i) (job : Job) (said : Status) → outcome_at u.at i ≡ Some (Ended said whys.Answer) → (status : Status) → AnswerEver (history_up_to h u.front) u.at (changing_to h w i u) i job status → AnswerIsExplained h w i job status
+answer_on : AllIsKeptAmongStrangers → (h : History) (w : WorldCore) (i : ℕ) (u : Until h w i) (job : Job) (said : Status) → outcome_at u.at i ≡ Some (Ended said whys.Answer) → (status : Status) → AnswerEver (history_up_to h u.front) u.at (changing_to h w i u) i job status → AnswerIsExplained h w i job status
 answer_on all h w i u job said ended statuses.Good x = x
 answer_on all h w i u job said ended statuses.Unsupported x = x
 answer_on all h w i u job said ended statuses.Cancelled x = x
-answer_on all h w i u job said ended statuses.DeviceBusy (asked, j, d, other, has) = (asked_on h w i u _ asked, j, d, other, has)
+answer_on all h w i u job said ended statuses.DeviceBusy (asked, by) = (asked_on h w i u _ asked, by)
 answer_on all h w i u job said ended statuses.Inval (inl unforced) = inl (λ s. unforced (settled_to h u.front job s))
 answer_on all h w i u job said ended statuses.Inval (inr (inl (asked, none))) = inr (inr (asked_on h w i u _ asked, none))
 answer_on all h w i u job said ended statuses.Inval (inr (inr n)) = inr (inl (picture_on h w i u job n))
@@ -346,11 +372,11 @@ answer_on all h w i u job said ended statuses.IoError x = failed_on all h w i u 
 answer_on all h w i u job said ended statuses.NoMem x = x
 answer_on all h w i u job said ended statuses.AccessDenied (asked, judged) = (asked_on h w i u _ asked, passed_on h u.front asked.at.before i job false judged)
 
-answered_on : AllIsKept → (h : History) (w : WorldCore) (i : ℕ) (u : Until h w i) (job : Job) (b c : Bool) (status : Status) → outcome_at u.at i ≡ Some (Ended status whys.Answer) → EndingEver (history_up_to h u.front) u.at (changing_to h w i u) i job b status whys.Answer → IsEndingExplained h w i job c status whys.Answer
+answered_on : AllIsKeptAmongStrangers → (h : History) (w : WorldCore) (i : ℕ) (u : Until h w i) (job : Job) (b c : Bool) (status : Status) → outcome_at u.at i ≡ Some (Ended status whys.Answer) → EndingEver (history_up_to h u.front) u.at (changing_to h w i u) i job b status whys.Answer → IsEndingExplained h w i job c status whys.Answer
 answered_on all h w i u job b c status ended (inl (other, named)) = inl (other, named_on h w i u job status named)
 answered_on all h w i u job b c status ended (inr x) = inr (answer_on all h w i u job status ended status x)
 
-by_why : (h : History) (w : WorldCore) (changing : List Event) (i : ℕ) (job : Job) (starved : Bool) (status : Status) (why : Why) → EndingEver h w changing i job starved status why → (why ≡ whys.Answer → IsEndingExplained h w i job starved status whys.Answer) → IsEndingExplained h w i job starved status why
+by_why : (h : History) (w : WorldCore) (changing : List JointEvent) (i : ℕ) (job : Job) (starved : Bool) (status : Status) (why : Why) → EndingEver h w changing i job starved status why → (why ≡ whys.Answer → IsEndingExplained h w i job starved status whys.Answer) → IsEndingExplained h w i job starved status why
 by_why h w changing i job starved status whys.Answer x answered = answered refl
 by_why h w changing i job starved status whys.Cancelled x answered = x
 by_why h w changing i job starved status whys.Lost x answered = x

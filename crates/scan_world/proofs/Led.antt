@@ -1,21 +1,37 @@
--- What events behind a history led to.
-use Rattle.std.proofs.Common.{List, [], ◌∷◌, ◌++◌, refl, subst}
+-- Worlds that what came led to.
+use Rattle.std.proofs.Common.{◌≡◌, List, [], ◌∷◌, ◌++◌, refl, subst}
 use Rattle.page_picture.specs.SourceView.{source_state}
 use Rattle.event_world.specs.declared.event.Event.{Event}
 use Rattle.event_world.specs.Worlds.{Leads, Runs, WorldCore}
 use Rattle.world_refines.specs.MainTheorem.{AreTrueLoads}
-use Rattle.scan_world.specs.Histories.{History, LedTo, and_then}
+use Rattle.strangers.specs.Together.{JointEvent, RunsAmong, events_among}
+use Rattle.strangers.specs.Together.JointEvent.{OfJobs, OfStranger}
+use Rattle.scan_world.specs.Histories.{History, LedTo, and_then, history_up_to, of_jobs}
 
-pub runs_then : (es fs : List Event) (u v w : WorldCore) → Runs source_state es u v → Runs source_state fs v w → Runs source_state (es ++ fs) u w
-runs_then [] fs u v w a b = subst (λ (x : WorldCore). Runs source_state fs x w) a b
-runs_then (e ∷ es) fs u v w (x, first, rest) b = (x, first, runs_then es fs x v w rest b)
+pub runs_then : (es fs : List JointEvent) (u v w : WorldCore) → RunsAmong source_state es u v → RunsAmong source_state fs v w → RunsAmong source_state (es ++ fs) u w
+runs_then [] fs u v w a b = subst (λ (x : WorldCore). RunsAmong source_state fs x w) a b
+runs_then (OfJobs e ∷ es) fs u v w (x, first, rest) b = (x, first, runs_then es fs x v w rest b)
+runs_then (OfStranger a ∷ es) fs u v w (x, first, rest) b = (x, first, runs_then es fs x v w rest b)
 
-pub loads_then : (es fs : List Event) → AreTrueLoads source_state es → AreTrueLoads source_state fs → AreTrueLoads source_state (es ++ fs)
+loads_then : (es fs : List JointEvent) → AreTrueLoads source_state (events_among es) → AreTrueLoads source_state (events_among fs) → AreTrueLoads source_state (events_among (es ++ fs))
 loads_then [] fs a b = b
-loads_then (e ∷ es) fs a b = (a.0, loads_then es fs a.1 b)
+loads_then (OfJobs e ∷ es) fs a b = (a.0, loads_then es fs a.1 b)
+loads_then (OfStranger x ∷ es) fs a b = loads_then es fs a b
+
+-- events of jobs alone
+pub runs_jointly : (es : List Event) (u v : WorldCore) → Runs source_state es u v → RunsAmong source_state (of_jobs es) u v
+runs_jointly [] u v run = run
+runs_jointly (e ∷ es) u v (x, first, rest) = (x, first, runs_jointly es x v rest)
+
+pub loads_jointly : (es : List Event) → AreTrueLoads source_state es → AreTrueLoads source_state (events_among (of_jobs es))
+loads_jointly [] a = a
+loads_jointly (e ∷ es) a = (a.0, loads_jointly es a.1)
+
+pub led_on : (h : History) (xs : List JointEvent) (v w : WorldCore) → LedTo h v → AreTrueLoads source_state (events_among xs) → RunsAmong source_state xs v w → LedTo (history_up_to h (h.events ++ xs)) w
+led_on h xs v w l loads run = record { first = l.first; endpoints = l.endpoints; daemon = l.daemon; users_are = l.users_are; names = l.names; limits = l.limits; fit = l.fit; loads = loads_then h.events xs l.loads loads; runs = runs_then h.events xs l.first v w l.runs run }
 
 pub led_then : (h : History) (es : List Event) (v w : WorldCore) → LedTo h v → AreTrueLoads source_state es → Runs source_state es v w → LedTo (and_then h es) w
-led_then h es v w l loads run = record { first = l.first; endpoints = l.endpoints; daemon = l.daemon; users_are = l.users_are; names = l.names; limits = l.limits; fit = l.fit; loads = loads_then h.events es l.loads loads; runs = runs_then h.events es l.first v w l.runs run }
+led_then h es v w l loads run = led_on h (of_jobs es) v w l (loads_jointly es loads) (runs_jointly es v w run)
 
 pub loads_front : (xs ys : List Event) → AreTrueLoads source_state (xs ++ ys) → AreTrueLoads source_state xs
 loads_front [] ys a = tt

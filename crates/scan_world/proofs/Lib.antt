@@ -6,6 +6,8 @@ pub mod Marked
 pub mod Begun
 pub mod Asked
 pub mod Traced
+pub mod Joint
+pub mod Elsewhere
 pub mod OfJobs
 pub mod Pages
 pub mod Sources
@@ -33,6 +35,7 @@ pub mod Starved
 pub mod Timely
 pub mod Examples
 pub mod moments
+pub mod Quiet
 pub mod Refused
 pub mod Unhindered
 pub mod Listing
@@ -40,3 +43,4 @@ pub mod OwnTrays
 pub mod TrayPages
 pub mod Clear
 pub mod PlainJob
+pub mod Shared

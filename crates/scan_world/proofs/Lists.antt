@@ -34,6 +34,19 @@ in_middle (y ∷ front) back x = inr (in_middle front back x)
 pub in_split : {X : Type 0} (xs front back : List X) (x : X) → xs ≡ front ++ x ∷ back → Contains xs x
 in_split {X = X} xs front back x split = subst (λ (ys : List X). Contains ys x) (sym split) (contains_in (front ++ x ∷ back) x (in_middle front back x))
 
+pub in_either : {X : Type 0} (xs ys : List X) (e : X) → In e (xs ++ ys) → In e xs ⊎ In e ys
+in_either [] ys e among = inr among
+in_either (x ∷ xs) ys e (inl same) = inl (inl same)
+in_either (x ∷ xs) ys e (inr among) = elim (in_either xs ys e among) [
+  | inl here ↦ inl (inr here)
+  | inr there ↦ inr there
+]
+
+pub in_front : {X : Type 0} (xs ys : List X) (e : X) → In e xs → In e (xs ++ ys)
+in_front [] ys e among = absurd among
+in_front (x ∷ xs) ys e (inl same) = inl same
+in_front (x ∷ xs) ys e (inr among) = inr (in_front xs ys e among)
+
 pub all_then : {X : Type 0} (P : X → Type 0) (xs ys : List X) → AllByRecursion P xs → AllByRecursion P ys → AllByRecursion P (xs ++ ys)
 all_then P [] ys a b = b
 all_then P (x ∷ xs) ys a b = (a.0, all_then P xs ys a.1 b)

@@ -1,7 +1,7 @@
--- Each step is of a job that there is.
-use Rattle.std.specs.Prelude.{◌<◌, cond, eqb, IsSome}
+-- Each step is of a job that there is, or of a client behind all jobs.
+use Rattle.std.specs.Prelude.{◌<◌, ◌≤◌, cond, eqb, IsSome}
 use Rattle.std.specs.List.{AllByRecursion}
-use Rattle.std.proofs.Common.{◌≡◌, ◌∙◌, ◌⊎◌, ℕ, zero, suc, List, [], ◌∷◌, Bool, true, false, Option, Some, None, inl, inr, refl, sym, ap, subst, eqb-true, arith}
+use Rattle.std.proofs.Common.{◌≡◌, ◌∙◌, ◌⊎◌, ℕ, zero, suc, ◌+◌, List, [], ◌∷◌, Bool, true, false, Option, Some, None, inl, inr, refl, sym, ap, subst, eqb-true, arith}
 use Rattle.page_picture.specs.SourceView.{source_state}
 use Rattle.frame_join.specs.FrameHistory.{JoinHistory}
 use Rattle.system_model.specs.Actions as model_actions
@@ -19,17 +19,21 @@ use Rattle.world_refines.specs.Answering.{AnswersSome}
 use Rattle.world_refines.specs.Answering.AnswersSome.{GoesOn, IsOver, BreaksOff, WasOver}
 use Rattle.world_refines.specs.ClientDeliveries.{Delivers, GhostHears}
 use Rattle.world_refines.specs.GhostEvents.{GhostCan, CanLoad, CanUnplug, GhostConnects, GhostHappens, GhostSends, GhostTakes, HasSomeBytes}
-use Rattle.world_refines.specs.MainTheorem.{GhostComes, GhostComesAll}
+use Rattle.world_refines.specs.MainTheorem.{GhostComes}
 use Rattle.world_refines.proofs.job_events.Constant.{Fixed, stays_fixed}
+use Rattle.strangers.specs.LeavingJobs.{ghost_behind}
+use Rattle.strangers.specs.Together.{JointEvent}
+use Rattle.strangers.specs.Together.JointEvent.{OfJobs, OfStranger}
 use Rattle.scan_world.proofs.Lists.{all_each, all_then}
 use Rattle.scan_world.proofs.Begun.{party_stays}
+use Rattle.scan_world.proofs.Joint.{ComesAll, IsOwnUse, uses_stay}
 use Rattle.scan_world.proofs.Traced.{ByOf, StepOf, comes_of}
 
 abbrev pub IsOfJob : ℕ → Transition → Type 0
 IsOfJob count (By j x) = j < count
 IsOfJob count (Loads d page) = Unit {0}
 IsOfJob count (Unplugs d) = Unit {0}
-IsOfJob count (Uses u d shown left) = ⊥
+IsOfJob count (Uses u d shown left) = count ≤ u
 
 -- nothing ever happened to it
 pub record Untouched (t : Ghost) (j : ℕ) : Type 0 where
@@ -221,9 +225,31 @@ still_untouched (Unplug name) t steps u a h = keep_by (CanUnplug t name) _ t ste
 
 -- ---- all steps
 
-pub all_of_jobs : (es : List Event) (t : Ghost) (steps : List Transition) (u : Ghost) → AreUntouched t → GhostComesAll source_state es t steps u → AllByRecursion (IsOfJob t.count) steps
+-- uses by a stranger
+uses_beyond : (count n : ℕ) (steps : List Transition) → AllByRecursion (IsOwnUse (count + n)) steps → AllByRecursion (IsOfJob count) steps
+uses_beyond count n [] own = tt
+uses_beyond count n (By j x ∷ steps) own = absurd own.0
+uses_beyond count n (Loads d page ∷ steps) own = absurd own.0
+uses_beyond count n (Unplugs d ∷ steps) own = absurd own.0
+uses_beyond count n (Uses u d shown left ∷ steps) own = (let same : u ≡ count + n = own.0.0 in omega (arith, same), uses_beyond count n steps own.1)
+
+untouched_behind : (t : Ghost) (i : ℕ) (steps : List Transition) → AllByRecursion (IsOwnUse i) steps → AreUntouched t → AreUntouched (ghost_behind steps t)
+untouched_behind t i steps own a j n =
+    let job : (after_all t.system steps).job j ≡ t.system.job j = ap (λ (f : ℕ → JobState). f j) (uses_stay i t.system steps own) in
+    record {
+      linked = ap (λ (p : JobState). p.linked) job ∙ (a j n).linked;
+      quiet = ap (λ (p : JobState). p.session.transfer) job ∙ (a j n).quiet;
+      no_image = (a j n).no_image;
+    }
+
+pub all_of_jobs : (xs : List JointEvent) (t : Ghost) (steps : List Transition) (u : Ghost) → AreUntouched t → ComesAll xs t steps u → AllByRecursion (IsOfJob t.count) steps
 all_of_jobs [] t steps u a h = none_of t.count steps h.0
-all_of_jobs (e ∷ es) t steps v a (first, more, u, is, one, rest) =
+all_of_jobs (OfStranger x ∷ xs) t steps v a (first, more, u, is, (own, then_is), rules, rest) =
+    let same : u.count ≡ t.count = ap (λ (g : Ghost). g.count) then_is in
+    subst (λ (ys : List Transition). AllByRecursion (IsOfJob t.count) ys) (sym is)
+    (all_then (IsOfJob t.count) first more (uses_beyond t.count x.session first own)
+    (subst (λ (n : ℕ). AllByRecursion (IsOfJob n) more) same (all_of_jobs xs u more v (subst AreUntouched (sym then_is) (untouched_behind t (t.count + x.session) first own a)) rest)))
+all_of_jobs (OfJobs e ∷ es) t steps v a (first, more, u, is, one, rules, rest) =
     let same : u.count ≡ t.count = ap (λ (f : Fixed). f.2) (stays_fixed source_state e t first u one) in
     subst (λ (xs : List Transition). AllByRecursion (IsOfJob t.count) xs) (sym is)
     (all_then (IsOfJob t.count) first more (jobs_of e t first u a one)

@@ -30,6 +30,8 @@ use Rattle.event_world.specs.Worlds.{AtEndpoint, Leads, Runs, WorldCore}
 use Rattle.event_world.proofs.Deciding.{can_or_not}
 use Rattle.event_world.proofs.Events.{linked_by, post_or_none}
 use Rattle.event_world.proofs.Falling.{never_more, one_less}
+use Rattle.strangers.specs.Together.{JointEvent, RunsAmong}
+use Rattle.strangers.specs.Together.JointEvent.{OfJobs, OfStranger}
 use Rattle.scan_world.specs.Calls.{CancelEnds, MoveLowers, MovesFall, OthersStay, OverStays, finished_by, left_at, moves_answered, outcome_at}
 use Rattle.scan_world.proofs.Led.{first_runs, runs_split}
 use Rattle.scan_world.proofs.moments.Entries.{set_here}
@@ -171,6 +173,11 @@ alike_run : (es : List Event) (w v : WorldCore) (k : ℕ) → Runs source_state 
 alike_run [] w v k e = subst (λ (y : WorldCore). Alike (slice_get w.endpoints k) (slice_get y.endpoints k)) (sym e) (alike (slice_get w.endpoints k))
 alike_run (e ∷ es) w v k (u, one, rest) = alike_then (slice_get w.endpoints k) (slice_get u.endpoints k) (slice_get v.endpoints k) (alike_led e w u k one) (alike_run es u v k rest)
 
+alike_among : (xs : List JointEvent) (w v : WorldCore) (k : ℕ) → RunsAmong source_state xs w v → Alike (slice_get w.endpoints k) (slice_get v.endpoints k)
+alike_among [] w v k e = subst (λ (y : WorldCore). Alike (slice_get w.endpoints k) (slice_get y.endpoints k)) (sym e) (alike (slice_get w.endpoints k))
+alike_among (OfJobs e ∷ xs) w v k (u, one, rest) = alike_then (slice_get w.endpoints k) (slice_get u.endpoints k) (slice_get v.endpoints k) (alike_led e w u k one) (alike_among xs u v k rest)
+alike_among (OfStranger a ∷ xs) w v k (u, acts, rest) = subst (λ (es : List Endpoint). Alike (slice_get es k) (slice_get v.endpoints k)) acts.rest (alike_among xs u v k rest)
+
 -- ---- as the calls show it
 
 over_by : (o : Outcome) → o ≢ outcomes.Running → is_running o ≡ false
@@ -202,10 +209,17 @@ shown_same (Some p) (Some q) o x e n =
       pages = λ k. page_same p q k s;
     }
 
-pub over_stays : (es : List Event) (w v : WorldCore) → Runs source_state es w v → OverStays w v
-over_stays es w v run i o e n =
-    let s = shown_same (slice_get w.endpoints i) (slice_get v.endpoints i) o (alike_run es w v i run) e n in
+stays_by : (w v : WorldCore) → ((i : ℕ) → Alike (slice_get w.endpoints i) (slice_get v.endpoints i)) → OverStays w v
+stays_by w v same i o e n =
+    let s = shown_same (slice_get w.endpoints i) (slice_get v.endpoints i) o (same i) e n in
     record { outcome = s.outcome; file = s.file; finished = s.finished; pages = s.pages }
+
+pub over_stays : (es : List Event) (w v : WorldCore) → Runs source_state es w v → OverStays w v
+over_stays es w v run = stays_by w v (λ i. alike_run es w v i run)
+
+-- also where strangers act among them
+pub over_among : (xs : List JointEvent) (w v : WorldCore) → RunsAmong source_state xs w v → OverStays w v
+over_among xs w v run = stays_by w v (λ i. alike_among xs w v i run)
 
 -- ---- jobs that no event comes to
 

@@ -11,7 +11,7 @@ use Rattle.device_api.specs.State.{DeviceState}
 use Rattle.scan_job.specs.declared.job.Job.{Job}
 use Rattle.daemon_refines.specs.Cores.{fresh_device}
 use Rattle.daemon_refines.proofs.Moved.{own}
-use Rattle.system_model.specs.AbstractDevices.{Begin, without_first}
+use Rattle.system_model.specs.AbstractDevices.{AbstractDevice, Begin, without_first}
 use Rattle.system_model.specs.Actions.{Action}
 use Rattle.system_model.specs.Marks.{IsMarkOf, DeviceView, Loaded, Mark, MarksLead, Removed, Rested, Returned, Started, Took, device_view, starts_in, view_after_mark}
 use Rattle.system_model.specs.StepMarks.{marks, touched_device}
@@ -24,7 +24,11 @@ use Rattle.event_world.specs.declared.event.Event.TheVariants.{Connect, ToDaemon
 use Rattle.event_world.specs.Worlds.{WorldCore}
 use Rattle.world_refines.specs.GhostStates.{job_state, name_at, place_named}
 use Rattle.scan_world.specs.Calls.{IsJobAt}
-use Rattle.scan_world.specs.Histories.{History, LedTo}
+use Rattle.sane_fixed.specs.declared.device_info.DeviceInfo.{DeviceInfo}
+use Rattle.strangers.specs.Among.{StrangerAct}
+use Rattle.strangers.specs.Together.{JointEvent}
+use Rattle.strangers.specs.Together.JointEvent.{OfJobs, OfStranger}
+use Rattle.scan_world.specs.Histories.{HasNoActs, History, LedTo}
 use Rattle.scan_world.specs.Laws.{Below}
 use Rattle.scan_world.specs.Trays.{OwnTray, first_tray}
 use Rattle.scan_world.proofs.Along.{device_named}
@@ -32,11 +36,13 @@ use Rattle.scan_world.proofs.Begun.{party_stays, wants_same}
 use Rattle.scan_world.proofs.Jobs.{item_there}
 use Rattle.scan_world.proofs.Lists.{In, all_each, all_then, contains_in}
 use Rattle.system_model.proofs.OwnMarks.{action_mine}
-use Rattle.scan_world.proofs.OfJobs.{IsOfJob, all_of_jobs}
-use Rattle.scan_world.proofs.Pages.{IsOfOne, all_of_one, name_there}
+use Rattle.scan_world.proofs.Elsewhere.{elsewhere}
+use Rattle.scan_world.proofs.Joint.{JointStep, each_of_any}
+use Rattle.scan_world.proofs.OfJobs.{all_of_jobs}
+use Rattle.scan_world.proofs.Pages.{IsOfOne, all_of_one, name_there, shows_own}
 use Rattle.scan_world.proofs.Scanned.{at_first, infos_of, kept_by, name_of, untouched_at_first, wants_there}
 use Rattle.scan_world.proofs.Sources.{sources_of}
-use Rattle.scan_world.proofs.Traced.{StepOf, each_of, traced, no_use}
+use Rattle.scan_world.proofs.Traced.{StepOf, no_use}
 use Rattle.scan_world.proofs.Unhindered.{kind_of_make, names_apart}
 
 -- ---- the starts of a device, by its marks, take its pages
@@ -76,9 +82,9 @@ mine_unloaded i d (Removed e) h = tt
 
 -- no event brings one for a device of the name
 abbrev Unladen : History → List ℕ → Type 0
-Unladen h name = (source : Source) → In (Load name source) h.events → ⊥
+Unladen h name = (source : Source) → In (OfJobs (Load name source)) h.events → ⊥
 
-laid_in : (h : History) (d : ℕ) (page : Page) (name : List ℕ) (event : Event) → In event h.events → StepOf (infos_of h) event (Loads d page) → name_at (infos_of h) d ≡ Some name → Unladen h name → ⊥
+laid_in : (h : History) (d : ℕ) (page : Page) (name : List ℕ) (event : Event) → In (OfJobs event) h.events → StepOf (infos_of h) event (Loads d page) → name_at (infos_of h) d ≡ Some name → Unladen h name → ⊥
 laid_in h d page name (Connect i) among of is none = of
 laid_in h d page name (ToDaemon i n) among of is none = of
 laid_in h d page name (ToClient i n) among of is none = of
@@ -91,15 +97,19 @@ laid_in h d page name (Cancel i) among of is none = of
 laid_in h d page name (Load other source) among of is none =
     let both : Some other ≡ Some name = sym of.0 ∙ is in
     let same : other ≡ name = cc in
-    none source (subst (λ (x : List ℕ). In (Load x source) h.events) same among)
+    none source (subst (λ (x : List ℕ). In (OfJobs (Load x source)) h.events) same among)
 laid_in h d page name (Unplug other) among of is none = of
+
+laid_by : (h : History) (d : ℕ) (page : Page) (name : List ℕ) (x : JointEvent) → In x h.events → JointStep (infos_of h) x (Loads d page) → name_at (infos_of h) d ≡ Some name → Unladen h name → ⊥
+laid_by h d page name (OfJobs e) among of is none = laid_in h d page name e among of is none
+laid_by h d page name (OfStranger a) among of is none = of
 
 step_unloaded : (h : History) (d : ℕ) (name : List ℕ) (s : SystemState) (x : Transition) → name_at (infos_of h) d ≡ Some name → Unladen h name → IsOfOne h x → (b : Bool) → eqb d (touched_device s x) ≡ b → AllByRecursion IsNotLoaded (cond b (marks s x) [])
 step_unloaded h d name s x is none of false e = tt
 step_unloaded h d name s (By j this_action) is none of true e = all_each (IsMarkOf j (wanted_place s j)) IsNotLoaded (marks s (By j this_action)) (mine_unloaded j (wanted_place s j)) (action_mine j (wanted_place s j) (make_for s j) (listed_devices s) (s.job j) (device_for s j) this_action)
-step_unloaded h d name s (Loads place page) is none of true e = absurd (laid_in h place page name of.event of.among of.is (subst (λ (n : ℕ). name_at (infos_of h) n ≡ Some name) (eqb-true d place e) is) none)
+step_unloaded h d name s (Loads place page) is none of true e = absurd (laid_by h place page name of.event of.among of.is (subst (λ (n : ℕ). name_at (infos_of h) n ≡ Some name) (eqb-true d place e) is) none)
 step_unloaded h d name s (Unplugs place) is none of true e = (tt, tt)
-step_unloaded h d name s (Uses u place shown left) is none of true e = absurd (no_use (infos_of h) of.event u place shown left of.is)
+step_unloaded h d name s (Uses u place shown left) is none of true e = all_each (IsMarkOf u place) IsNotLoaded shown (mine_unloaded u place) (shows_own (infos_of h) of.event u place shown left of.is)
 
 all_unloaded : (h : History) (d : ℕ) (name : List ℕ) (xs : List Transition) (s : SystemState) → name_at (infos_of h) d ≡ Some name → Unladen h name → AllByRecursion (IsOfOne h) xs → AllByRecursion IsNotLoaded (all_marks d s xs)
 all_unloaded h d name [] s is none of = tt
@@ -148,13 +158,30 @@ removed_none : (b : Bool) (d : ℕ) → starts_in (cond b (Removed d ∷ []) [])
 removed_none true d = refl
 removed_none false d = refl
 
-one_start : NotesAreTrue → (s : SystemState) (n i d : ℕ) (x : Transition) → IsNamedBy s n i d → wanted_place s i ≡ d → IsOfJob n x → ((after_transition s x).job i).session.started ≡ (s.job i).session.started ++ starts_in (marks_at d s x)
+-- of jobs alone
+abbrev IsNoUse : ℕ → Transition → Type 0
+IsNoUse n (By j x) = j < n
+IsNoUse n (Loads d page) = Unit {0}
+IsNoUse n (Unplugs d) = Unit {0}
+IsNoUse n (Uses u d shown left) = ⊥
+
+no_use_by : (infos : List DeviceInfo) (x : JointEvent) (u d : ℕ) (shown : List Mark) (left : AbstractDevice) → ((a : StrangerAct) → x ≡ OfStranger a → ⊥) → JointStep infos x (Uses u d shown left) → ⊥
+no_use_by infos (OfJobs e) u d shown left none of = no_use infos e u d shown left of
+no_use_by infos (OfStranger a) u d shown left none of = none a refl
+
+without_use : (h : History) (x : Transition) → HasNoActs h → IsOfOne h x → IsNoUse (length h.jobs) x
+without_use h (By j x) none of = of.there
+without_use h (Loads d page) none of = tt
+without_use h (Unplugs d) none of = tt
+without_use h (Uses u d shown left) none of = no_use_by (infos_of h) of.event u d shown left (λ a is. none a (contains_in h.events (OfStranger a) (subst (λ (y : JointEvent). In y h.events) is of.among))) of.is
+
+one_start : NotesAreTrue → (s : SystemState) (n i d : ℕ) (x : Transition) → IsNamedBy s n i d → wanted_place s i ≡ d → IsNoUse n x → ((after_transition s x).job i).session.started ≡ (s.job i).session.started ++ starts_in (marks_at d s x)
 one_start notes s n i d (By j x) only wants low = by_start notes s n i d j x only wants low (eqb i j) refl
 one_start notes s n i d (Loads l page) only wants low = none_more (s.job i).session.started (marks_at d s (Loads l page)) (laid_none (eqb d l) l page)
 one_start notes s n i d (Unplugs l) only wants low = none_more (s.job i).session.started (marks_at d s (Unplugs l)) (removed_none (eqb d l) l)
 one_start notes s n i d (Uses u l shown left) only wants low = absurd low
 
-own_starts : NotesAreTrue → (n i d : ℕ) (xs : List Transition) (s : SystemState) → IsNamedBy s n i d → wanted_place s i ≡ d → AllByRecursion (IsOfJob n) xs → ((after_all s xs).job i).session.started ≡ (s.job i).session.started ++ starts_in (all_marks d s xs)
+own_starts : NotesAreTrue → (n i d : ℕ) (xs : List Transition) (s : SystemState) → IsNamedBy s n i d → wanted_place s i ≡ d → AllByRecursion (IsNoUse n) xs → ((after_all s xs).job i).session.started ≡ (s.job i).session.started ++ starts_in (all_marks d s xs)
 own_starts notes n i d [] s only wants of = sym (append-nil (s.job i).session.started)
 own_starts notes n i d (x ∷ xs) s only wants of =
     let t = after_transition s x in
@@ -174,7 +201,7 @@ named_by h w i job l tray at j low is =
     tray.alone j other.0 other.1 (sym name ∙ tray.named)
   where
     wants_other : (h : History) (w : WorldCore) (job : Job) (l : LedTo h w) (j : ℕ) (other : Job) → slice_get h.jobs j ≡ Some other → wanted_place (at_first h w job l).system j ≡ place_named (infos_of h) other.device
-    wants_other h w job l j other at = ap (λ (x : Job). place_named (infos_of h) x.device) (get_or_from_slice_get h.jobs j other job at)
+    wants_other h w job l j other at = ap (λ (x : Job). place_named (infos_of h) x.device) (get_or_from_slice_get h.jobs j other (elsewhere h.devices job) at)
 
 pub takes_there : (below : Below) (h : History) (w : WorldCore) (i : ℕ) (job : Job) (at : IsJobAt h w i job) (tray : OwnTray h i job) → begun_pages (job_state (kept_by below.kept h w job at.led).run.ghost_then i).session.started ++ ((kept_by below.kept h w job at.led).run.ghost_then.system.device (place_named (infos_of h) job.device)).tray ≡ first_tray tray.device
 takes_there below h w i job at tray =
@@ -187,11 +214,11 @@ takes_there below h w i job at tray =
     let there : slice_get h.devices d ≡ Some tray.device = device_named h job.device tray.device (names_apart below h w job l) tray.is_there tray.named in
     let named : name_at (infos_of h) d ≡ Some job.device = name_there h.devices d tray.device there ∙ ap (λ (n : List ℕ). Some n) tray.named in
     let jobs = all_of_jobs h.events t steps u (untouched_at_first h w job l) k.run.comes in
-    let of = all_of_one h steps (each_of t.infos h.events steps (traced h.events t steps u k.run.comes)) jobs in
-    let unladen : Unladen h job.device = λ source among. tray.unladen source (contains_in h.events (Load job.device source) among) in
+    let of = all_of_one h steps (each_of_any h.events t steps u k.run.comes) jobs in
+    let unladen : Unladen h job.device = λ source among. tray.unladen source (contains_in h.events (OfJobs (Load job.device source)) among) in
     let feeder : is_feeder (t.system.make d).model ≡ true = ap is_feeder (kind_of_make h d tray.device there) ∙ tray.feeder in
     let takes = marks_take (all_marks d t.system steps) (device_view (t.system.make d) (t.system.device d)) (device_view (t.system.make d) ((after_all t.system steps).device d)) (k.run.marks d) (all_unloaded h d job.device steps t.system named unladen of) feeder in
-    let begun = own_starts below.notes (length h.jobs) i d steps t.system (named_by h w i job l tray there) (wants_there h w job l (sources_of h) i at.job_at) jobs in
+    let begun = own_starts below.notes (length h.jobs) i d steps t.system (named_by h w i job l tray there) (wants_there h w job l (sources_of h) i at.job_at) (all_each (IsOfOne h) (IsNoUse (length h.jobs)) steps (λ x o. without_use h x tray.undisturbed o) of) in
     let first : (t.system.device d).tray ≡ first_tray tray.device = ap (λ (o : Option DeviceState). (fresh_device o).tray) there in
     ap (λ (s : SystemState). begun_pages (s.job i).session.started ++ (s.device d).tray) k.run.rules_are
     ∙ (ap (λ (bs : List Begin). begun_pages bs ++ ((after_all t.system steps).device d).tray) begun ∙ (takes ∙ first))

@@ -8,13 +8,17 @@ use Rattle.daemon_refines.specs.Cores.{fresh_device, fresh_devices}
 use Rattle.daemon_refines.specs.ContextRefinement.{page_views}
 use Rattle.device_api.specs.Kinds.{Page}
 use Rattle.system_model.specs.Devices.{Make}
-use Rattle.system_model.specs.AbstractDevices.{Begin}
+use Rattle.system_model.specs.AbstractDevices.{AbstractDevice, Begin}
+use Rattle.system_model.specs.Actions.{Action}
 use Rattle.system_model.specs.SystemStates.{SystemState, listed_devices, make_for, device_for, wanted_place}
 use Rattle.system_model.specs.Transitions.{By, Loads, Transition, Unplugs, Uses}
-use Rattle.system_model.specs.Marks.{IsMarkOf, device_view}
+use Rattle.system_model.specs.Marks.{IsMarkOf, Mark, device_view}
 use Rattle.system_model.specs.StepMarks.{marks, touched_device}
 use Rattle.event_world.specs.declared.event.Event.{Event}
 use Rattle.event_world.specs.declared.event.Event.TheVariants.{Connect, ToDaemon, ToClient, DataConnect, DataTurn, DataToClient, LoseControl, LoseImage, Cancel, Load, Unplug}
+use Rattle.sane_fixed.specs.declared.device_info.DeviceInfo.{DeviceInfo}
+use Rattle.strangers.specs.Together.{JointEvent}
+use Rattle.strangers.specs.Together.JointEvent.{OfJobs, OfStranger}
 use Rattle.world_refines.specs.NewWorlds.{info_of_state}
 use Rattle.world_refines.specs.GhostStates.{name_at}
 use Rattle.scan_world.specs.Histories.{History}
@@ -23,7 +27,8 @@ use Rattle.scan_world.specs.Page.CameFor.{AtFirst, WithEvent}
 use Rattle.scan_world.proofs.Lists.{In, all_each, all_in, contains_in, contains_at}
 use Rattle.system_model.proofs.OwnMarks.{action_mine}
 use Rattle.scan_world.proofs.Marked.{LoadsIt, Slotted, mine_loads}
-use Rattle.scan_world.proofs.Traced.{IsOfSome, StepOf, no_use}
+use Rattle.scan_world.proofs.Joint.{IsOfAny, JointStep}
+use Rattle.scan_world.proofs.Traced.{StepOf, no_use}
 use Rattle.scan_world.proofs.OfJobs.{IsOfJob}
 use Rattle.page_picture.specs.SourceView.{source_state}
 
@@ -77,7 +82,7 @@ name_there [] d device e = absurd (let clash : None ≡ Some device = e in cc)
 name_there (s ∷ devices) zero device e = let both : Some s ≡ Some device = e in let same : s ≡ device = cc in ap (λ (x : DeviceState). Some x.info.name) same
 name_there (s ∷ devices) (suc d) device e = name_there devices d device e
 
-laid : (h : History) (d : ℕ) (page : Page) (event : Event) → In event h.events → StepOf (map info_of_state h.devices) event (Loads d page) → IsOfDevice h d page
+laid : (h : History) (d : ℕ) (page : Page) (event : Event) → In (OfJobs event) h.events → StepOf (map info_of_state h.devices) event (Loads d page) → IsOfDevice h d page
 laid h d page (Connect i) among of = absurd of
 laid h d page (ToDaemon i n) among of = absurd of
 laid h d page (ToClient i n) among of = absurd of
@@ -90,23 +95,37 @@ laid h d page (Cancel i) among of = absurd of
 laid h d page (Load name source) among of = λ device there.
     let both : Some name ≡ Some device.info.name = sym of.0 ∙ name_there h.devices d device there in
     let same : name ≡ device.info.name = cc in
-    (held_from (source_state source), WithEvent source (contains_in h.events (Load device.info.name source) (subst (λ (x : List ℕ). In (Load x source) h.events) same among)) refl, of.1)
+    (held_from (source_state source), WithEvent source (contains_in h.events (OfJobs (Load device.info.name source)) (subst (λ (x : List ℕ). In (OfJobs (Load x source)) h.events) same among)) refl, of.1)
 laid h d page (Unplug name) among of = absurd of
 
--- a step of one of the events, of a job that there is
+laid_by : (h : History) (d : ℕ) (page : Page) (x : JointEvent) → In x h.events → JointStep (map info_of_state h.devices) x (Loads d page) → IsOfDevice h d page
+laid_by h d page (OfJobs e) among of = laid h d page e among of
+laid_by h d page (OfStranger a) among of = absurd of
+
+-- a use is a stranger's, and shows his own marks
+pub shows_own : (infos : List DeviceInfo) (x : JointEvent) (u d : ℕ) (shown : List Mark) (left : AbstractDevice) → JointStep infos x (Uses u d shown left) → AllByRecursion (IsMarkOf u d) shown
+shows_own infos (OfJobs e) u d shown left of = absurd (no_use infos e u d shown left of)
+shows_own infos (OfStranger a) u d shown left of = of
+
+-- an action comes by an event
+pub acts_by : (infos : List DeviceInfo) (x : JointEvent) (i : ℕ) (act : Action) → JointStep infos x (By i act) → (e : Event) × (x ≡ OfJobs e) × StepOf infos e (By i act)
+acts_by infos (OfJobs e) i act of = (e, refl, of)
+acts_by infos (OfStranger a) i act of = absurd of
+
+-- a step of one of what came, of a job that there is or of a client behind all
 pub record IsOfOne (h : History) (x : Transition) : Type 0 where
-  pub event : Event
+  pub event : JointEvent
   pub among : In event h.events
-  pub is : StepOf (map info_of_state h.devices) event x
+  pub is : JointStep (map info_of_state h.devices) event x
   pub there : IsOfJob (length h.jobs) x
 
-pub all_of_one : (h : History) (xs : List Transition) → AllByRecursion (IsOfSome (map info_of_state h.devices) h.events) xs → AllByRecursion (IsOfJob (length h.jobs)) xs → AllByRecursion (IsOfOne h) xs
+pub all_of_one : (h : History) (xs : List Transition) → AllByRecursion (IsOfAny (map info_of_state h.devices) h.events) xs → AllByRecursion (IsOfJob (length h.jobs)) xs → AllByRecursion (IsOfOne h) xs
 all_of_one h [] a b = tt
 all_of_one h (x ∷ xs) a b = (record { event = a.0.event; among = a.0.among; is = a.0.is; there = b.0 }, all_of_one h xs a.1 b.1)
 
 pub loads_if : (h : History) (d : ℕ) (s : SystemState) (x : Transition) → IsOfOne h x → (b : Bool) → eqb d (touched_device s x) ≡ b → AllByRecursion (LoadsIt (IsOfDevice h d)) (cond b (marks s x) [])
 loads_if h d s x of false e = tt
 loads_if h d s (By j this_action) of true e = all_each (IsMarkOf j (wanted_place s j)) (LoadsIt (IsOfDevice h d)) (marks s (By j this_action)) (mine_loads (IsOfDevice h d) j (wanted_place s j)) (action_mine j (wanted_place s j) (make_for s j) (listed_devices s) (s.job j) (device_for s j) this_action)
-loads_if h d s (Loads place page) of true e = (subst (λ (n : ℕ). IsOfDevice h n page) (sym (eqb-true d place e)) (laid h place page of.event of.among of.is), tt)
+loads_if h d s (Loads place page) of true e = (subst (λ (n : ℕ). IsOfDevice h n page) (sym (eqb-true d place e)) (laid_by h place page of.event of.among of.is), tt)
 loads_if h d s (Unplugs place) of true e = (tt, tt)
-loads_if h d s (Uses u place shown left) of true e = absurd (no_use (map info_of_state h.devices) of.event u place shown left of.is)
+loads_if h d s (Uses u place shown left) of true e = all_each (IsMarkOf u place) (LoadsIt (IsOfDevice h d)) shown (mine_loads (IsOfDevice h d) u place) (shows_own (map info_of_state h.devices) of.event u place shown left of.is)

@@ -16,6 +16,7 @@ use Rattle.virtual_scanner.specs.New.{new_device}
 use Rattle.client_replies.specs.ProtocolStates.{scans}
 use Rattle.scan_job.specs.declared.job.Job.{Job}
 use Rattle.event_world.specs.declared.event.Event.TheVariants.{Load}
+use Rattle.strangers.specs.Together.JointEvent.{OfJobs, OfStranger}
 use Rattle.scan_world.specs.Clear.{FeederIsClear, IsAllowedAlways, IsClear, IsSupplied, PlainIsClear}
 use Rattle.scan_world.specs.Histories.{History, begun}
 use Rattle.scan_world.specs.Page.{CameFor, Settled}
@@ -47,7 +48,7 @@ page_so : (P : HeldPage → Type 0) (k : DeviceKind) (name : List ℕ) (sources 
 page_so P k name sources users job all held (AtFirst device there named among) =
     let same : plain_device k name sources ≡ device = contains_one (plain_device k name sources) device there in
     each_held P sources all held (in_list (map held_from sources) held (subst (λ (d : DeviceState). Contains d.pages held) (sym same) among))
-page_so P k name sources users job all held (WithEvent laid there is) = absurd (no_member (Load job.device laid) there)
+page_so P k name sources users job all held (WithEvent laid there is) = absurd (no_member (OfJobs (Load job.device laid)) there)
 
 put_none : (s t : Setup) (items : List (List ℕ × List ℕ)) (placed : List Placement) → items ≡ [] → AreSettingsPut s items placed t → t ≡ s
 put_none s t [] [] none put = put
@@ -88,7 +89,8 @@ clear_on k name sources users job named none firm meant allowed supplied =
       meant = λ scanning s held came is. page_so (Means k) k name sources users job meant held came (ap (λ (t : Setup). meaning_of held.page t.scene) (sym (setup_is k name sources users job none s)) ∙ is);
       firm = λ scanning held came. page_so (λ (x : HeldPage). x.infallible ≡ true) k name sources users job firm held came;
       allowed = allowed;
-      left = λ event there. absurd (no_member event there);
+      left = λ event there. absurd (no_member (OfJobs event) there);
+      undisturbed = λ a there. no_member (OfStranger a) there;
     }
 
 no_feeder : (name : List ℕ) (sources : List SourceState) → feeds (plain_device Flatbed name sources) ≡ true → ⊥
@@ -109,4 +111,4 @@ some_pages (s ∷ sources) some none = let clash : s.page ∷ map (λ (held : He
 pub feeder_is_clear : FeederIsClear
 feeder_is_clear name sources users job named none some firm meant allowed =
     clear_on Feeder name sources users job named none (each_is (λ (s : SourceState). s.infallible ≡ true) sources firm) (each_is (λ (s : SourceState). Means Feeder (held_from s)) sources meant) allowed
-    (λ scanning feeder. record { some = some_pages sources some; only = λ j same. same; unladen = λ source among. no_member (Load job.device source) among })
+    (λ scanning feeder. record { some = some_pages sources some; only = λ j same. same; unladen = λ source among. no_member (OfJobs (Load job.device source)) among })

@@ -53,7 +53,11 @@ by_answer h w i job status nothing none (inl (other, named)) = unnamed h w i job
 by_answer h w i job status nothing none (inr answered) = none answered
 
 pub busy : BusyIsNoLie
-busy h w i job starved nothing alone = by_answer h w i job statuses.DeviceBusy nothing (λ (asked, j, d, other, has). other (alone asked.n asked.at j d has))
+busy h w i job starved nothing alone unshared = by_answer h w i job statuses.DeviceBusy nothing by_case
+  where
+    by_case : AnswerIsExplained h w i job statuses.DeviceBusy → ⊥
+    by_case (asked, inl (j, d, other, has)) = other (alone asked.n asked.at j d has)
+    by_case (asked, inr shared) = unshared asked.n asked.at shared
 
 pub inval : InvalIsNoLie
 inval h w i job starved nothing forced listed meant = by_answer h w i job statuses.Inval nothing by_case

@@ -19,16 +19,15 @@ use Rattle.scan_job.specs.declared.outcome.Why.TheVariants as whys
 use Rattle.scan_job.specs.declared.outcome.Outcome.TheVariants.{Running}
 use Rattle.event_world.specs.declared.endpoint.Endpoint.{Endpoint}
 use Rattle.event_world.specs.declared.endpoint.Image.{Image}
-use Rattle.event_world.specs.declared.event.Event.{Event}
 use Rattle.event_world.specs.declared.event.Event.TheVariants.{Cancel, ToClient, DataTurn, DataToClient, LoseControl, LoseImage}
 use Rattle.event_world.specs.Worlds.{WorldCore}
-use Rattle.std.specs.Prelude.{Contains}
 use Rattle.world_refines.specs.FailedSources.{FailedIn}
+use Rattle.strangers.specs.Together.{JointEvent}
 use Rattle.scan_world.specs.Endings.{HadNoPage, HasPassed, IsUnforced, NamesStatus}
-use Rattle.scan_world.specs.Histories.{History, history_up_to}
+use Rattle.scan_world.specs.Histories.{HasEvent, History, history_up_to}
 use Rattle.scan_world.specs.Page.{CameFor, Settled, StartedOn}
 use Rattle.scan_world.proofs.Sources.{CanFail}
-use Rattle.scan_world.specs.Sessions.{Asked, AtJob, Happened, Has, IsAtOpen, IsAtStart}
+use Rattle.scan_world.specs.Sessions.{Asked, AtJob, Happened, Has, IsAtOpen, IsAtStart, StrangerHas}
 
 -- the client of job i waits for this
 abbrev pub WaitsAt : WorldCore → ℕ → (Progress → Type 0) → Type 0
@@ -43,7 +42,7 @@ RunsAt w i = AtJob w i (λ p. p.client.outcome ≡ Running)
 
 -- ---- pages, with these events
 
-pub record IsScanEver (h : History) (w : WorldCore) (changing : List Event) (i : ℕ) (job : Job) (count : ℕ) (file : List ℕ) : Type 0 where
+pub record IsScanEver (h : History) (w : WorldCore) (changing : List JointEvent) (i : ℕ) (job : Job) (count : ℕ) (file : List ℕ) : Type 0 where
   pub settled : Settled h job
   pub held : HeldPage
   pub came : CameFor (history_up_to h changing) job.device held
@@ -64,12 +63,12 @@ abbrev pub WasUnlisted : History → WorldCore → ℕ → Job → Type 0
 WasUnlisted h w i job = (asked : Asked h w i IsAtOpen) × (find_name job.device asked.at.before.daemon.registry ≡ None)
 
 abbrev pub WasHeld : History → WorldCore → ℕ → Job → Type 0
-WasHeld h w i job = (asked : Asked h w i IsAtOpen) × (j : ℕ) × (d : DeviceState) × (j ≢ i) × Has asked.at.before j job.device d
+WasHeld h w i job = (asked : Asked h w i IsAtOpen) × (((j : ℕ) × (d : DeviceState) × (j ≢ i) × Has asked.at.before j job.device d) ⊎ StrangerHas asked.at.before job.device)
 
 abbrev pub WasDisallowed : History → WorldCore → ℕ → Job → Type 0
 WasDisallowed h w i job = (asked : Asked h w i IsAtOpen) × HasPassed h asked.at.before i job false
 
-pub record HadNoPictureEver (h : History) (w : WorldCore) (changing : List Event) (i : ℕ) (job : Job) : Type 0 where
+pub record HadNoPictureEver (h : History) (w : WorldCore) (changing : List JointEvent) (i : ℕ) (job : Job) : Type 0 where
   pub scanning : scans job.task ≡ true
   pub asked : Asked h w i IsAtStart
   pub device : DeviceState
@@ -91,13 +90,13 @@ SendsOrLoses before behind i =
     (sent : List ℕ) × (image_at before i ≡ Some sent)
     × ((image_at behind i ≡ Some (sent ++ end_record (status_code IoError))) ⊎ (image_at behind i ≡ None))
 
-abbrev pub MayHaveFailed : History → WorldCore → List Event → ℕ → Job → Type 0
+abbrev pub MayHaveFailed : History → WorldCore → List JointEvent → ℕ → Job → Type 0
 MayHaveFailed h w changing i job = (scans job.task ≡ true) × CanFail (history_up_to h changing) job.device
     × (((asked : Asked h w i IsAtStart) × FailedIn asked.at.before asked.at.behind.daemon i job.device)
     ⊎ ((turn : Happened h w i (DataTurn i)) × FailedIn turn.0.before turn.0.behind.daemon i job.device
     × SendsOrLoses turn.0.before turn.0.behind i))
 
-abbrev pub AnswerEver : History → WorldCore → List Event → ℕ → Job → Status → Type 0
+abbrev pub AnswerEver : History → WorldCore → List JointEvent → ℕ → Job → Status → Type 0
 AnswerEver h w changing i job Inval = IsUnforced h job ⊎ (WasUnlisted h w i job ⊎ HadNoPictureEver h w changing i job)
 AnswerEver h w changing i job DeviceBusy = WasHeld h w i job
 AnswerEver h w changing i job AccessDenied = WasDisallowed h w i job
@@ -105,8 +104,8 @@ AnswerEver h w changing i job NoDocs = HadNoPage h w i job 0
 AnswerEver h w changing i job IoError = MayHaveFailed h w changing i job
 AnswerEver h w changing i job status = ⊥
 
-abbrev pub EndingEver : History → WorldCore → List Event → ℕ → Job → Bool → Status → Why → Type 0
-EndingEver h w changing i job starved status whys.Cancelled = (status ≡ Cancelled) × Contains h.events (Cancel i)
+abbrev pub EndingEver : History → WorldCore → List JointEvent → ℕ → Job → Bool → Status → Why → Type 0
+EndingEver h w changing i job starved status whys.Cancelled = (status ≡ Cancelled) × HasEvent h (Cancel i)
 EndingEver h w changing i job starved status whys.Lost = (status ≡ IoError) × (WasLost h w i ⊎ (starved ≡ true))
 EndingEver h w changing i job starved status whys.Short = (status ≡ IoError) × NamesStatus h w i job Eof
 EndingEver h w changing i job starved status whys.Setting = (status ≡ Inval) × IsUnforced h job

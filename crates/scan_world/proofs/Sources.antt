@@ -16,7 +16,10 @@ use Rattle.event_world.specs.declared.event.Event.TheVariants.{Connect, ToDaemon
 use Rattle.world_refines.specs.GhostStates.{name_at}
 use Rattle.world_refines.specs.NewWorlds.{HaveSourcesAt, PageSources, info_of_state, make_of}
 use Rattle.world_refines.specs.MainTheorem.{AreFittingLoads, IsFittingLoad}
+use Rattle.strangers.specs.Together.{events_among}
+use Rattle.strangers.specs.Together.JointEvent.{OfJobs}
 use Rattle.scan_world.specs.Histories.{History}
+use Rattle.scan_world.proofs.Joint.{events_in}
 use Rattle.scan_world.proofs.Lists.{In, contains_at, contains_in}
 use Rattle.scan_world.specs.Page.{CameFor}
 use Rattle.scan_world.specs.Page.CameFor.{AtFirst, WithEvent}
@@ -32,7 +35,7 @@ such_among test None events = false
 such_among test (Some s) events = list_any test s.pages || list_any (is_such_load test s.info.name) events
 
 pub one_comes : (HeldPage → Bool) → History → ℕ → Bool
-one_comes test h d = such_among test (slice_get h.devices d) h.events
+one_comes test h d = such_among test (slice_get h.devices d) (events_among h.events)
 
 -- ---- those that can fail, and those that do not give their rows
 
@@ -100,12 +103,12 @@ found f (y ∷ xs) e = found_in f y xs (found f xs) (one_of (f y) (list_any f xs
 
 -- ---- where none comes
 
-among_is : (test : HeldPage → Bool) (h : History) (d : ℕ) (s : DeviceState) → slice_get h.devices d ≡ Some s → one_comes test h d ≡ (list_any test s.pages || list_any (is_such_load test s.info.name) h.events)
+among_is : (test : HeldPage → Bool) (h : History) (d : ℕ) (s : DeviceState) → slice_get h.devices d ≡ Some s → one_comes test h d ≡ (list_any test s.pages || list_any (is_such_load test s.info.name) (events_among h.events))
 unfolding one_comes such_among
-among_is test h d s at = ap (λ (o : Option DeviceState). such_among test o h.events) at
+among_is test h d s at = ap (λ (o : Option DeviceState). such_among test o (events_among h.events)) at
 
 none_held : (test : HeldPage → Bool) (h : History) (d : ℕ) (s : DeviceState) → slice_get h.devices d ≡ Some s → one_comes test h d ≡ false → list_any test s.pages ≡ false
-none_held test h d s at e = (neither (list_any test s.pages) (list_any (is_such_load test s.info.name) h.events) (sym (among_is test h d s at) ∙ e)).0
+none_held test h d s at e = (neither (list_any test s.pages) (list_any (is_such_load test s.info.name) (events_among h.events)) (sym (among_is test h d s at) ∙ e)).0
 
 each_source : (k : Make) (pages : List HeldPage) → (k.fallible ≡ false → list_any is_fallible_page pages ≡ false) → (k.steady ≡ true → list_any is_unsteady_page pages ≡ false) → HaveSources k pages
 each_source k [] firm steady = tt
@@ -130,19 +133,19 @@ named_at (s ∷ devices) (suc k) name e = named_at devices k name e
 same_bytes : (a b : List ℕ) (c : Bool) → a ≡ b → (bytes_eq a b && c) ≡ false → c ≡ false
 same_bytes a b c same e = ap (λ (x : Bool). x && c) (sym ((bytes_eq-Decides a b).1 same)) ∙ e
 
-none_brought : (test : HeldPage → Bool) (h : History) (name : List ℕ) (source : Source) → In (Load name source) h.events → (k : ℕ) → name_at (map info_of_state h.devices) k ≡ Some name → one_comes test h k ≡ false → test (held_from (source_state source)) ≡ false
+none_brought : (test : HeldPage → Bool) (h : History) (name : List ℕ) (source : Source) → In (Load name source) (events_among h.events) → (k : ℕ) → name_at (map info_of_state h.devices) k ≡ Some name → one_comes test h k ≡ false → test (held_from (source_state source)) ≡ false
 none_brought test h name source among k named e =
     let d = named_at h.devices k name named in
-    let parts = neither (list_any test d.0.pages) (list_any (is_such_load test d.0.info.name) h.events) (sym (among_is test h k d.0 d.1) ∙ e) in
-    same_bytes name d.0.info.name (test (held_from (source_state source))) (sym d.2) (none_of (is_such_load test d.0.info.name) h.events (Load name source) parts.1 among)
+    let parts = neither (list_any test d.0.pages) (list_any (is_such_load test d.0.info.name) (events_among h.events)) (sym (among_is test h k d.0 d.1) ∙ e) in
+    same_bytes name d.0.info.name (test (held_from (source_state source))) (sym d.2) (none_of (is_such_load test d.0.info.name) (events_among h.events) (Load name source) parts.1 among)
 
-pub load_fits : (h : History) (name : List ℕ) (source : Source) → In (Load name source) h.events → (k : ℕ) → name_at (map info_of_state h.devices) k ≡ Some name → HasSource (make_at h k) (held_from (source_state source))
+pub load_fits : (h : History) (name : List ℕ) (source : Source) → In (Load name source) (events_among h.events) → (k : ℕ) → name_at (map info_of_state h.devices) k ≡ Some name → HasSource (make_at h k) (held_from (source_state source))
 load_fits h name source among k named = record {
   infallible = λ e. turned (source_state source).infallible (none_brought is_fallible_page h name source among k named (sym (fallible_at h k) ∙ e));
   steady = λ e. turned (source_state source).steady (none_brought is_unsteady_page h name source among k named (turned_off (one_comes is_unsteady_page h k) (sym (steady_of_make (sources_of h k) (slice_get h.devices k)) ∙ e)));
 }
 
-pub event_fits : (h : History) (event : Event) → In event h.events → IsFittingLoad source_state (map info_of_state h.devices) (make_at h) event
+pub event_fits : (h : History) (event : Event) → In event (events_among h.events) → IsFittingLoad source_state (map info_of_state h.devices) (make_at h) event
 event_fits h (Connect i) among = tt
 event_fits h (ToDaemon i n) among = tt
 event_fits h (ToClient i n) among = tt
@@ -159,18 +162,18 @@ pub each_fits : (infos : List DeviceInfo) (make : ℕ → Make) (events : List E
 each_fits infos make [] fits = tt
 each_fits infos make (e ∷ es) fits = (fits e (inl refl), each_fits infos make es (λ x among. fits x (inr among)))
 
-pub all_fit : (h : History) (events : List Event) → ((event : Event) → In event events → In event h.events) → AreFittingLoads source_state (map info_of_state h.devices) (make_at h) events
+pub all_fit : (h : History) (events : List Event) → ((event : Event) → In event events → In event (events_among h.events)) → AreFittingLoads source_state (map info_of_state h.devices) (make_at h) events
 all_fit h events within = each_fits (map info_of_state h.devices) (make_at h) events (λ e among. event_fits h e (within e among))
 
-pub loads_fit : (h : History) → AreFittingLoads source_state (map info_of_state h.devices) (make_at h) h.events
-loads_fit h = all_fit h h.events (λ event among. among)
+pub loads_fit : (h : History) → AreFittingLoads source_state (map info_of_state h.devices) (make_at h) (events_among h.events)
+loads_fit h = all_fit h (events_among h.events) (λ event among. among)
 
 -- ---- where one comes
 
 abbrev Comes : (HeldPage → Bool) → History → List ℕ → Type 0
 Comes test h name = (held : HeldPage) × CameFor h name held × (test held ≡ true)
 
-by_load : (test : HeldPage → Bool) (h : History) (name : List ℕ) (event : Event) → In event h.events → is_such_load test name event ≡ true → Comes test h name
+by_load : (test : HeldPage → Bool) (h : History) (name : List ℕ) (event : Event) → In event (events_among h.events) → is_such_load test name event ≡ true → Comes test h name
 by_load test h name (Connect i) among e = absurd (false≢true e)
 by_load test h name (ToDaemon i n) among e = absurd (false≢true e)
 by_load test h name (ToClient i n) among e = absurd (false≢true e)
@@ -183,19 +186,19 @@ by_load test h name (Cancel i) among e = absurd (false≢true e)
 by_load test h name (Load other source) among e =
     let parts = both (bytes_eq other name) (test (held_from (source_state source))) e in
     let same : other ≡ name = (bytes_eq-Decides other name).0 parts.0 in
-    (held_from (source_state source), WithEvent source (contains_in h.events (Load name source) (subst (λ (x : List ℕ). In (Load x source) h.events) same among)) refl, parts.1)
+    (held_from (source_state source), WithEvent source (contains_in h.events (OfJobs (Load name source)) (events_in h.events (Load name source) (subst (λ (x : List ℕ). In (Load x source) (events_among h.events)) same among))) refl, parts.1)
 by_load test h name (Unplug other) among e = absurd (false≢true e)
 
-of_device : (test : HeldPage → Bool) (h : History) (d : ℕ) (s : DeviceState) → slice_get h.devices d ≡ Some s → (list_any test s.pages ≡ true) ⊎ (list_any (is_such_load test s.info.name) h.events ≡ true) → Comes test h s.info.name
+of_device : (test : HeldPage → Bool) (h : History) (d : ℕ) (s : DeviceState) → slice_get h.devices d ≡ Some s → (list_any test s.pages ≡ true) ⊎ (list_any (is_such_load test s.info.name) (events_among h.events) ≡ true) → Comes test h s.info.name
 of_device test h d s at (inl e) =
     let r = found test s.pages e in
     (r.0, AtFirst s (contains_at h.devices d s at) refl (contains_in s.pages r.0 r.1), r.2)
-of_device test h d s at (inr e) = let r = found (is_such_load test s.info.name) h.events e in by_load test h s.info.name r.0 r.1 r.2
+of_device test h d s at (inr e) = let r = found (is_such_load test s.info.name) (events_among h.events) e in by_load test h s.info.name r.0 r.1 r.2
 
-at_place : (test : HeldPage → Bool) (h : History) (d : ℕ) (name : List ℕ) (o : Option DeviceState) → slice_get h.devices d ≡ o → ((s : DeviceState) → slice_get h.devices d ≡ Some s → s.info.name ≡ name) → such_among test o h.events ≡ true → Comes test h name
+at_place : (test : HeldPage → Bool) (h : History) (d : ℕ) (name : List ℕ) (o : Option DeviceState) → slice_get h.devices d ≡ o → ((s : DeviceState) → slice_get h.devices d ≡ Some s → s.info.name ≡ name) → such_among test o (events_among h.events) ≡ true → Comes test h name
 unfolding such_among
 at_place test h d name None at named e = absurd (false≢true e)
-at_place test h d name (Some s) at named e = subst (Comes test h) (named s at) (of_device test h d s at (one_of (list_any test s.pages) (list_any (is_such_load test s.info.name) h.events) e))
+at_place test h d name (Some s) at named e = subst (Comes test h) (named s at) (of_device test h d s at (one_of (list_any test s.pages) (list_any (is_such_load test s.info.name) (events_among h.events)) e))
 
 comes_there : (test : HeldPage → Bool) (h : History) (d : ℕ) (name : List ℕ) → ((s : DeviceState) → slice_get h.devices d ≡ Some s → s.info.name ≡ name) → one_comes test h d ≡ true → Comes test h name
 unfolding one_comes

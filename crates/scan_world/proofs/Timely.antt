@@ -12,13 +12,15 @@ use Rattle.event_world.specs.declared.endpoint.Endpoint.{Endpoint}
 use Rattle.event_world.specs.declared.event.Event.{Event}
 use Rattle.event_world.specs.Worlds.{AreNew, Runs, WorldCore}
 use Rattle.world_refines.specs.MainTheorem.{AreTrueLoads}
+use Rattle.strangers.specs.Together.{JointEvent, RunsAmong, events_among}
+use Rattle.strangers.specs.Together.JointEvent.{OfJobs, OfStranger}
 use Rattle.scan_world.specs.Histories.{History, LedTo, history_up_to}
 use Rattle.scan_world.specs.Calls.{EndedIn, ForEach, outcome_at, starved_at}
 use Rattle.scan_world.specs.Laws.{Below}
 use Rattle.scan_world.specs.Promise.{OutcomeIsKept}
 use Rattle.scan_world.proofs.Calls.{outcome_call}
-use Rattle.scan_world.proofs.Led.{led_then}
-use Rattle.scan_world.proofs.Over.{over_stays}
+use Rattle.scan_world.proofs.Led.{led_on, led_then}
+use Rattle.scan_world.proofs.Over.{over_among}
 
 -- ---- at first each job runs
 
@@ -46,14 +48,14 @@ abbrev Kept : History → WorldCore → ℕ → Job → Type 0
 Kept h v i job = (o : Outcome) × (outcome_at v i ≡ Some o) × OutcomeIsKept h v i job (starved_at v i) o
 
 -- in this event, or where it still runs behind it in a later one
-here_or_later : (h : History) (w u v : WorldCore) (i : ℕ) (job : Job) (status : Status) (why : Why) (e : Event) (es seen : List Event) → outcome_at w i ≡ Some (Ended status why) → h.events ≡ seen ++ e ∷ es → LedTo (history_up_to h seen) u → outcome_at u i ≡ Some Running → Runs source_state (e ∷ []) u v → LedTo (history_up_to h (seen ++ e ∷ [])) v → Runs source_state es v w →
-    (outcome_at v i ≡ Some Running → EndedIn h w i job status why) → Kept (history_up_to h (seen ++ e ∷ [])) v i job → EndedIn h w i job status why
+here_or_later : (h : History) (w u v : WorldCore) (i : ℕ) (job : Job) (status : Status) (why : Why) (e : Event) (es seen : List JointEvent) → outcome_at w i ≡ Some (Ended status why) → h.events ≡ seen ++ OfJobs e ∷ es → LedTo (history_up_to h seen) u → outcome_at u i ≡ Some Running → Runs source_state (e ∷ []) u v → LedTo (history_up_to h (seen ++ OfJobs e ∷ [])) v → RunsAmong source_state es v w →
+    (outcome_at v i ≡ Some Running → EndedIn h w i job status why) → Kept (history_up_to h (seen ++ OfJobs e ∷ [])) v i job → EndedIn h w i job status why
 here_or_later h w u v i job status why e es seen is split led ran leads led_on rest later (Running, there, keeps) = later there
 here_or_later h w u v i job status why e es seen is split led ran leads led_on rest later (Done reports, there, keeps) =
-    let stays = (over_stays es v w rest i (Done reports) there (λ r. cc)).outcome in
+    let stays = (over_among es v w rest i (Done reports) there (λ r. cc)).outcome in
     absurd (let clash : ◌≡◌ {A = Option Outcome} (Some (Ended status why)) (Some (Done reports)) = sym is ∙ (stays ∙ there) in cc)
 here_or_later h w u v i job status why e es seen is split led ran leads led_on rest later (Ended other reason, there, keeps) =
-    let stays = (over_stays es v w rest i (Ended other reason) there (not_running other reason)).outcome in
+    let stays = (over_among es v w rest i (Ended other reason) there (not_running other reason)).outcome in
     let same : ◌≡◌ {A = Option Outcome} (Some (Ended status why)) (Some (Ended other reason)) = sym is ∙ (stays ∙ there) in
     record {
       event = e;
@@ -64,14 +66,18 @@ here_or_later h w u v i job status why e es seen is split led ran leads led_on r
       caused = (keeps.ended status why (is_ended status other why reason same)).2;
     }
 
-ends_from : Below → (h : History) (w : WorldCore) (i : ℕ) (job : Job) (status : Status) (why : Why) → slice_get h.jobs i ≡ Some job → outcome_at w i ≡ Some (Ended status why) → (es seen : List Event) (u : WorldCore) → h.events ≡ seen ++ es → LedTo (history_up_to h seen) u → AreTrueLoads source_state es → Runs source_state es u w → outcome_at u i ≡ Some Running → EndedIn h w i job status why
+ends_from : Below → (h : History) (w : WorldCore) (i : ℕ) (job : Job) (status : Status) (why : Why) → slice_get h.jobs i ≡ Some job → outcome_at w i ≡ Some (Ended status why) → (es seen : List JointEvent) (u : WorldCore) → h.events ≡ seen ++ es → LedTo (history_up_to h seen) u → AreTrueLoads source_state (events_among es) → RunsAmong source_state es u w → outcome_at u i ≡ Some Running → EndedIn h w i job status why
 ends_from below h w i job status why at is [] seen u split led loads run ran =
     absurd (let clash : ◌≡◌ {A = Option Outcome} (Some (Ended status why)) (Some Running) = sym is ∙ (ap (λ (x : WorldCore). outcome_at x i) run ∙ ran) in cc)
-ends_from below h w i job status why at is (e ∷ es) seen u split led loads (v, leads, rest) ran =
-    let on : LedTo (history_up_to h (seen ++ e ∷ [])) v = led_then (history_up_to h seen) (e ∷ []) u v led (loads.0, tt) (v, leads, refl) in
+ends_from below h w i job status why at is (OfStranger a ∷ es) seen u split led loads (v, acts, rest) ran =
+    let on : LedTo (history_up_to h (seen ++ OfStranger a ∷ [])) v = led_on (history_up_to h seen) (OfStranger a ∷ []) u v led tt (v, acts, refl) in
+    ends_from below h w i job status why at is es (seen ++ OfStranger a ∷ []) v (split ∙ sym (append_assoc seen (OfStranger a ∷ []) es)) on loads rest
+    (ap (λ (ps : List Endpoint). option_map (λ (p : Endpoint). p.client.outcome) (slice_get ps i)) acts.rest ∙ ran)
+ends_from below h w i job status why at is (OfJobs e ∷ es) seen u split led loads (v, leads, rest) ran =
+    let on : LedTo (history_up_to h (seen ++ OfJobs e ∷ [])) v = led_then (history_up_to h seen) (e ∷ []) u v led (loads.0, tt) (v, leads, refl) in
     here_or_later h w u v i job status why e es seen is split led ran (v, leads, refl) on rest
-    (ends_from below h w i job status why at is es (seen ++ e ∷ []) v (split ∙ sym (append_assoc seen (e ∷ []) es)) on loads.1 rest)
-    (outcome_call below v i (history_up_to h (seen ++ e ∷ [])) job (record { led = on; job_at = at }))
+    (ends_from below h w i job status why at is es (seen ++ OfJobs e ∷ []) v (split ∙ sym (append_assoc seen (OfJobs e ∷ []) es)) on loads.1 rest)
+    (outcome_call below v i (history_up_to h (seen ++ OfJobs e ∷ [])) job (record { led = on; job_at = at }))
 
 ended_there : Below → (w : WorldCore) (i : ℕ) → ForEach w i (λ h job. (status : Status) (why : Why) → outcome_at w i ≡ Some (Ended status why) → EndedIn h w i job status why)
 ended_there below w i h job at status why ended =

@@ -27,6 +27,8 @@ use Rattle.world_refines.specs.FailedSources.{AwaitsAnswer}
 use Rattle.world_refines.specs.GhostStates.{place_named}
 use Rattle.world_refines.specs.WorldPromises.{IsOutcome}
 use Rattle.world_refines.proofs.requests.Waiting.{waits_there as waits_so}
+use Rattle.strangers.specs.Together.{JointEvent}
+use Rattle.strangers.specs.Together.JointEvent.{OfJobs}
 use Rattle.scan_world.specs.Calls.{ForEach, IsJobAt, finished_at, finished_by, page_answered}
 use Rattle.scan_world.specs.Endings.{HadNoPage}
 use Rattle.scan_world.specs.Histories.{History, history_up_to}
@@ -37,8 +39,9 @@ use Rattle.scan_world.specs.Trays.{BatchIsCounted, IsOfTray, OwnTray, TraysAreTa
 use Rattle.scan_world.proofs.AllKept.{count_kept, page_kept}
 use Rattle.scan_world.proofs.Begun.{wants_all}
 use Rattle.scan_world.proofs.Jobs.{IsJob}
-use Rattle.scan_world.proofs.Lists.{In, contains_in, in_list}
+use Rattle.scan_world.proofs.Lists.{In, contains_in, in_front, in_list}
 use Rattle.scan_world.proofs.OwnTrays.{begun_pages, takes_there}
+use Rattle.scan_world.proofs.Quiet.{no_acts_front}
 use Rattle.scan_world.proofs.Scanned.{at_first, infos_of, kept_by, wants_there}
 use Rattle.scan_world.proofs.Sources.{sources_of}
 use Rattle.scan_world.proofs.There.{endpoint_there, outcome_there}
@@ -132,19 +135,15 @@ by_todo below h w i job at tray p d a (q ∷ rest) todo =
     let left : (u.system.device (place_named (infos_of h) job.device)).tray ≡ pages_in d = ap (λ (j : ℕ). (u.system.device j).tray) (sym (wants_then below h w i job at)) ∙ (ap (λ (x : AbstractDevice). x.tray) dev ∙ pages_at_rest d d.phase a.rest_is) in
     left_of (begun_pages me.session.started) p.finished (first_tray tray.device) d (ap (λ (ys : List PageView). begun_pages me.session.started ++ ys) (sym left) ∙ takes_there below h w i job at tray) (mapped_length (λ (b : Begin). b.page) me.session.started ∙ sym n)
 
-front_in : (xs ys : List Event) (e : Event) → In e xs → In e (xs ++ ys)
-front_in [] ys e among = absurd among
-front_in (x ∷ xs) ys e (inl same) = inl same
-front_in (x ∷ xs) ys e (inr among) = inr (front_in xs ys e among)
-
-pub tray_front : (h : History) (front back : List Event) (e : Event) (i : ℕ) (job : Job) → h.events ≡ front ++ e ∷ back → OwnTray h i job → OwnTray (history_up_to h front) i job
+pub tray_front : (h : History) (front back : List JointEvent) (e : Event) (i : ℕ) (job : Job) → h.events ≡ front ++ OfJobs e ∷ back → OwnTray h i job → OwnTray (history_up_to h front) i job
 tray_front h front back e i job split tray = record {
   device = tray.device;
   is_there = tray.is_there;
   named = tray.named;
   feeder = tray.feeder;
   alone = tray.alone;
-  unladen = λ source among. tray.unladen source (contains_in h.events (Load job.device source) (subst (λ (es : List Event). In (Load job.device source) es) (sym split) (front_in front (e ∷ back) (Load job.device source) (in_list front (Load job.device source) among))));
+  unladen = λ source among. tray.unladen source (contains_in h.events (OfJobs (Load job.device source)) (subst (λ (es : List JointEvent). In (OfJobs (Load job.device source)) es) (sym split) (in_front front (OfJobs e ∷ back) (OfJobs (Load job.device source)) (in_list front (OfJobs (Load job.device source)) among))));
+  undisturbed = no_acts_front h front (OfJobs e ∷ back) split tray.undisturbed;
 }
 
 at_endpoint : (w : WorldCore) (i : ℕ) (p : Endpoint) (Is : Endpoint → Type 0) → slice_get w.endpoints i ≡ Some p → AtJob w i Is → Is p

@@ -4,7 +4,6 @@ use Rattle.std.specs.Prelude.{cond, eqb, length, slice_get, Contains, ◌<◌, �
 use Rattle.std.specs.List.{AllByRecursion}
 use Rattle.std.proofs.Common.{◌≡◌, ◌∙◌, ℕ, List, [], ◌∷◌, Bool, true, false, Option, Some, None, refl, sym, ap, subst, eqb-true, arith}
 use Rattle.std.proofs.lemmas.Option.{get_or_from_slice_get, slice_get_within}
-use Rattle.page_picture.specs.SourceView.{source_state}
 use Rattle.sane_fixed.specs.declared.device_info.DeviceInfo.{DeviceInfo}
 use Rattle.page_picture.specs.declared.scene.DeviceKind.TheVariants.{Flatbed, Hand, ThreePass, Feeder}
 use Rattle.device_api.specs.Kinds.{IsStocked, Model, is_feeder}
@@ -28,7 +27,9 @@ use Rattle.event_world.specs.Worlds.{WorldCore}
 use Rattle.world_refines.specs.GhostStates.{name_at, place_named}
 use Rattle.world_refines.specs.NewWorlds.{make_of}
 use Rattle.world_refines.specs.WorldRefinement.{HaveDifferentNames}
-use Rattle.world_refines.proofs.job_events.Constant.{Fixed, all_fixed, makes_stay}
+use Rattle.world_refines.proofs.job_events.Constant.{Fixed, makes_stay}
+use Rattle.strangers.specs.Together.{JointEvent}
+use Rattle.strangers.specs.Together.JointEvent.{OfJobs, OfStranger}
 use Rattle.scan_world.specs.Histories.{History, LedTo}
 use Rattle.scan_world.specs.Laws.{Below}
 use Rattle.scan_world.specs.Sessions.{Has}
@@ -37,17 +38,19 @@ use Rattle.scan_world.proofs.Jobs.{item_there}
 use Rattle.scan_world.proofs.Lists.{In, all_each, all_then}
 use Rattle.system_model.proofs.OwnMarks.{action_mine}
 use Rattle.scan_world.proofs.OfJobs.{all_of_jobs}
-use Rattle.scan_world.proofs.Pages.{IsOfOne, all_of_one, name_there}
-use Rattle.scan_world.proofs.Scanned.{at_first, infos_of, kept_by, name_of, untouched_at_first}
+use Rattle.scan_world.proofs.Elsewhere.{elsewhere}
+use Rattle.scan_world.proofs.Joint.{JointStep, all_fixed_by, each_of_any}
+use Rattle.scan_world.proofs.Pages.{IsOfOne, all_of_one, name_there, shows_own}
+use Rattle.scan_world.proofs.Scanned.{at_first, infos_of, kept_by, may_first, name_of, untouched_at_first}
 use Rattle.scan_world.proofs.Sources.{have_sources, make_at, named_at, sources_of}
-use Rattle.scan_world.proofs.Traced.{StepOf, each_of, traced, no_use}
+use Rattle.scan_world.proofs.Traced.{StepOf}
 use Rattle.scan_world.proofs.moments.Opened.{listed_found}
 use Rattle.scan_world.proofs.moments.Stands.{has_holds}
 
 -- ---- the devices of a world have different names
 
 pub names_apart : Below → (h : History) (w : WorldCore) (job : Job) → LedTo h w → HaveDifferentNames (infos_of h)
-names_apart below h w job l = (below.new (sources_of h) h.jobs job h.devices l.first l.endpoints l.daemon l.names l.limits (have_sources h) l.fit).is_of.apart
+names_apart below h w job l = (may_first below.kept h w job l (sources_of h) (have_sources h)).refines.is_of.apart
 
 -- ---- listed, unless it was taken out
 
@@ -80,7 +83,7 @@ mine_stays i d (Loaded e page) h = absurd h
 mine_stays i d (Removed e) h = absurd h
 
 -- the name of a place that is taken out is that of an event
-taken_out : (h : History) (d : ℕ) (name : List ℕ) (event : Event) → In event h.events → StepOf (infos_of h) event (Unplugs d) → name_at (infos_of h) d ≡ Some name → In (Unplug name) h.events
+taken_out : (h : History) (d : ℕ) (name : List ℕ) (event : Event) → In (OfJobs event) h.events → StepOf (infos_of h) event (Unplugs d) → name_at (infos_of h) d ≡ Some name → In (OfJobs (Unplug name)) h.events
 taken_out h d name (Connect i) among of is = absurd of
 taken_out h d name (ToDaemon i n) among of is = absurd of
 taken_out h d name (ToClient i n) among of is = absurd of
@@ -94,20 +97,24 @@ taken_out h d name (Load other source) among of is = absurd of
 taken_out h d name (Unplug other) among of is =
     let both : Some other ≡ Some name = sym of ∙ is in
     let same : other ≡ name = cc in
-    subst (λ (x : List ℕ). In (Unplug x) h.events) same among
+    subst (λ (x : List ℕ). In (OfJobs (Unplug x)) h.events) same among
 
-step_stays : (h : History) (d : ℕ) (name : List ℕ) (s : SystemState) (x : Transition) → name_at (infos_of h) d ≡ Some name → (In (Unplug name) h.events → ⊥) → IsOfOne h x → (b : Bool) → eqb d (touched_device s x) ≡ b → AllByRecursion IsNotRemoved (cond b (marks s x) [])
+out_by : (h : History) (d : ℕ) (name : List ℕ) (x : JointEvent) → In x h.events → JointStep (infos_of h) x (Unplugs d) → name_at (infos_of h) d ≡ Some name → In (OfJobs (Unplug name)) h.events
+out_by h d name (OfJobs e) among of is = taken_out h d name e among of is
+out_by h d name (OfStranger a) among of is = absurd of
+
+step_stays : (h : History) (d : ℕ) (name : List ℕ) (s : SystemState) (x : Transition) → name_at (infos_of h) d ≡ Some name → (In (OfJobs (Unplug name)) h.events → ⊥) → IsOfOne h x → (b : Bool) → eqb d (touched_device s x) ≡ b → AllByRecursion IsNotRemoved (cond b (marks s x) [])
 step_stays h d name s x is none of false e = tt
 step_stays h d name s (By j this_action) is none of true e = all_each (IsMarkOf j (wanted_place s j)) IsNotRemoved (marks s (By j this_action)) (mine_stays j (wanted_place s j)) (action_mine j (wanted_place s j) (make_for s j) (listed_devices s) (s.job j) (device_for s j) this_action)
 step_stays h d name s (Loads place page) is none of true e = (tt, tt)
-step_stays h d name s (Unplugs place) is none of true e = absurd (none (taken_out h place name of.event of.among of.is (subst (λ (n : ℕ). name_at (infos_of h) n ≡ Some name) (eqb-true d place e) is)))
-step_stays h d name s (Uses u place shown left) is none of true e = absurd (no_use (infos_of h) of.event u place shown left of.is)
+step_stays h d name s (Unplugs place) is none of true e = absurd (none (out_by h place name of.event of.among of.is (subst (λ (n : ℕ). name_at (infos_of h) n ≡ Some name) (eqb-true d place e) is)))
+step_stays h d name s (Uses u place shown left) is none of true e = all_each (IsMarkOf u place) IsNotRemoved shown (mine_stays u place) (shows_own (infos_of h) of.event u place shown left of.is)
 
-pub all_stay : (h : History) (d : ℕ) (name : List ℕ) (xs : List Transition) (s : SystemState) → name_at (infos_of h) d ≡ Some name → (In (Unplug name) h.events → ⊥) → AllByRecursion (IsOfOne h) xs → AllByRecursion IsNotRemoved (all_marks d s xs)
+pub all_stay : (h : History) (d : ℕ) (name : List ℕ) (xs : List Transition) (s : SystemState) → name_at (infos_of h) d ≡ Some name → (In (OfJobs (Unplug name)) h.events → ⊥) → AllByRecursion (IsOfOne h) xs → AllByRecursion IsNotRemoved (all_marks d s xs)
 all_stay h d name [] s is none of = tt
 all_stay h d name (x ∷ xs) s is none of = all_then IsNotRemoved (marks_at d s x) (all_marks d (after_transition s x) xs) (step_stays h d name s x is none of.0 (eqb d (touched_device s x)) refl) (all_stay h d name xs (after_transition s x) is none of.1)
 
-pub listed_here : Below → (h : History) (w : WorldCore) (job : Job) → LedTo h w → (device : DeviceState) → Contains h.devices device → device.info.name ≡ job.device → (In (Unplug job.device) h.events → ⊥) → find_name job.device w.daemon.registry ≢ None
+pub listed_here : Below → (h : History) (w : WorldCore) (job : Job) → LedTo h w → (device : DeviceState) → Contains h.devices device → device.info.name ≡ job.device → (In (OfJobs (Unplug job.device)) h.events → ⊥) → find_name job.device w.daemon.registry ≢ None
 listed_here below h w job l device there named none =
     let k = kept_by below.kept h w job l in
     let t = at_first h w job l in
@@ -116,10 +123,10 @@ listed_here below h w job l device there named none =
     let d = place_named (infos_of h) job.device in
     let at : slice_get h.devices d ≡ Some device = device_named h job.device device (names_apart below h w job l) there named in
     let is : name_at (infos_of h) d ≡ Some job.device = name_there h.devices d device at ∙ ap (λ (n : List ℕ). Some n) named in
-    let of = all_of_one h steps (each_of t.infos h.events steps (traced h.events t steps u k.run.comes)) (all_of_jobs h.events t steps u (untouched_at_first h w job l) k.run.comes) in
+    let of = all_of_one h steps (each_of_any h.events t steps u k.run.comes) (all_of_jobs h.events t steps u (untouched_at_first h w job l) k.run.comes) in
     let first : (t.system.device d).listed ≡ true = ap (λ (o : Option DeviceState). (fresh_device o).listed) at in
     let on : ((after_all t.system steps).device d).listed ≡ true = listed_stays (all_marks d t.system steps) (device_view (t.system.make d) (t.system.device d)) (device_view (t.system.make d) ((after_all t.system steps).device d)) (k.run.marks d) (all_stay h d job.device steps t.system is none of) first in
-    let infos : u.infos ≡ infos_of h = ap (λ (f : Fixed). f.1) (all_fixed source_state h.events t steps u k.run.comes) in
+    let infos : u.infos ≡ infos_of h = ap (λ (f : Fixed). f.1) (all_fixed_by h.events t steps u k.run.comes) in
     listed_found u w job.device d k.run.stands (subst (λ (s : SystemState). (s.device d).listed ≡ true) (sym k.run.rules_are) on) (subst (λ (x : List DeviceInfo). name_at x d ≡ Some job.device) (sym infos) is)
 
 -- ---- who has it names it
@@ -128,11 +135,11 @@ pub has_own : Below → (h : History) (w : WorldCore) (job : Job) → LedTo h w 
 has_own below h w job l j name d has =
     let k = kept_by below.kept h w job l in
     let u = k.run.ghost_then in
-    let fixed = all_fixed source_state h.events (at_first h w job l) k.run.steps u k.run.comes in
+    let fixed = all_fixed_by h.events (at_first h w job l) k.run.steps u k.run.comes in
     let count : u.count ≡ length h.jobs = ap (λ (f : Fixed). f.2) fixed in
     let low : j < length h.jobs = subst (λ (n : ℕ). j < n) (sym k.run.stands.is_of.count ∙ count) (slice_get_within w.endpoints j has.at.endpoint has.at.is_there) in
     let own = item_there h.jobs j low in
-    let job_is : u.jobs j ≡ own.0 = ap (λ (f : Fixed). f.3 j) fixed ∙ get_or_from_slice_get h.jobs j own.0 job own.1 in
+    let job_is : u.jobs j ≡ own.0 = ap (λ (f : Fixed). f.3 j) fixed ∙ get_or_from_slice_get h.jobs j own.0 (elsewhere h.devices job) own.1 in
     let infos : u.infos ≡ infos_of h = ap (λ (f : Fixed). f.1) fixed in
     let m = has_holds u w j name d k.run.stands has in
     let place : m.place ≡ place_named (infos_of h) own.0.device =
@@ -156,7 +163,7 @@ is_of below h w job l device there j d has =
     let k = kept_by below.kept h w job l in
     let t = at_first h w job l in
     let u = k.run.ghost_then in
-    let infos : u.infos ≡ infos_of h = ap (λ (f : Fixed). f.1) (all_fixed source_state h.events t k.run.steps u k.run.comes) in
+    let infos : u.infos ≡ infos_of h = ap (λ (f : Fixed). f.1) (all_fixed_by h.events t k.run.steps u k.run.comes) in
     let m = has_holds u w j device.info.name d k.run.stands has in
     let there_is : name_at (infos_of h) m.place ≡ Some device.info.name = subst (λ (x : List DeviceInfo). name_at x m.place ≡ Some device.info.name) infos m.named in
     let apart = names_apart below h w job l in

@@ -26,7 +26,8 @@ use Rattle.event_world.specs.Rounds.{total_left}
 use Rattle.event_world.specs.Worlds.{Leads, Runs, WorldCore}
 use Rattle.world_refines.specs.FailedSources.{CutIn}
 use Rattle.scan_world.specs.Endings.{IsEndingExplained}
-use Rattle.scan_world.specs.Histories.{History, LedTo, Moment, and_then, history_up_to}
+use Rattle.strangers.specs.Together.JointEvent.{OfJobs}
+use Rattle.scan_world.specs.Histories.{HasEvent, History, LedTo, Moment, and_then, history_up_to}
 use Rattle.scan_world.specs.Promise.{CountIsKept, FileIsKept, JobAnswers, MoveIsKept, OutcomeIsKept, PageIsKept}
 use Rattle.scan_world.specs.Sessions.{CanAt, Has, SessionAt}
 
@@ -109,8 +110,8 @@ pub record EndedIn (h : History) (w : WorldCore) (i : ℕ) (job : Job) (status :
   pub at : Moment h w event
   pub ran : outcome_at at.before i ≡ Some Running
   pub ended : outcome_at at.behind i ≡ Some (Ended status why)
-  pub led_behind : LedTo (history_up_to h (at.front ++ event ∷ [])) at.behind
-  pub caused : IsEndingExplained (history_up_to h (at.front ++ event ∷ []))
+  pub led_behind : LedTo (history_up_to h (at.front ++ OfJobs event ∷ [])) at.behind
+  pub caused : IsEndingExplained (history_up_to h (at.front ++ OfJobs event ∷ []))
       at.behind i job (starved_at at.behind i) status why
 
 -- so did each that ended
@@ -218,7 +219,7 @@ CancelEnds events w v =
 abbrev pub LossEnds : History → List Event → WorldCore → WorldCore → Type 0
 LossEnds h events w v =
     (i : ℕ) → Reaches events w v (LoseControl i) (λ front u. outcome_at u i ≡ Some Running
-    → Contains (h.events ++ front) (Connect i) → outcome_at v i ≡ Some (Ended statuses.IoError whys.Lost))
+    → HasEvent (and_then h front) (Connect i) → outcome_at v i ≡ Some (Ended statuses.IoError whys.Lost))
 
 -- and by that of its data connection, where that stands
 abbrev pub ImageLossEnds : List Event → WorldCore → WorldCore → Type 0

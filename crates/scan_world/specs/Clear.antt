@@ -26,7 +26,7 @@ use Rattle.event_world.specs.Worlds.{WorldCore}
 use Rattle.world_refines.specs.GhostStates.{backend_of, is_allowed_for, is_guarded}
 use Rattle.scan_world.specs.Calls.{AreNextMoves, HadUnsaidReply, IsJobAt, RunsOut, outcome_at, starved_at}
 use Rattle.scan_world.specs.Endings.{IsUnforced}
-use Rattle.scan_world.specs.Histories.{History, LedTo, Moment, and_then, begun, history_up_to}
+use Rattle.scan_world.specs.Histories.{HasEvent, HasNoActs, History, LedTo, Moment, and_then, begun, history_up_to}
 use Rattle.scan_world.specs.Lies.{NamesNothing}
 use Rattle.scan_world.specs.Page.{CameFor, Settled}
 use Rattle.scan_world.specs.Trays.{first_tray}
@@ -49,13 +49,14 @@ IsAllowedAlways users job =
 pub record IsSupplied (h : History) (i : ℕ) (job : Job) (device : DeviceState) (Among : ℕ → Type 0) : Type 0 where
   pub some : first_tray device ≢ []
   pub only : (j : ℕ) → Among j → j ≡ i
-  pub unladen : (source : Source) → Contains h.events (Load job.device source) → ⊥
+  pub unladen : (source : Source) → HasEvent h (Load job.device source) → ⊥
 
 -- **clear (`IsClear`, `IsSupplied`, `LeavesAlone`, `IsAllowedAlways`)**: nothing stands in the way of a job: its device
 -- is there, and named by these jobs alone, as by itself; its settings can be in force and name no status; where it
 -- scans, they mean a picture on each page that came for it, of sources that cannot fail, and a feeder had a page at
 -- first, is named by it alone, and no event brought one for it; no line of the users names its backend, or its password
--- is right for each challenge; and no event gave it up, took a connection of it, or took its device out.
+-- is right for each challenge; no event gave it up, took a connection of it, or took its device out; and no stranger
+-- did anything.
 pub record IsClear (h : History) (i : ℕ) (job : Job) (Among : ℕ → Type 0) : Type 0 where
   pub device : DeviceState
   pub is_there : Contains h.devices device
@@ -68,7 +69,8 @@ pub record IsClear (h : History) (i : ℕ) (job : Job) (Among : ℕ → Type 0) 
       → meaning_of held.page s.setup.scene ≢ None
   pub firm : scans job.task ≡ true → (held : HeldPage) → CameFor h job.device held → held.infallible ≡ true
   pub allowed : IsAllowedAlways h.users job
-  pub left : (event : Event) → Contains h.events event → LeavesAlone i job event
+  pub left : (event : Event) → HasEvent h event → LeavesAlone i job event
+  pub undisturbed : HasNoActs h
 
 -- **plain (`PlainIsClear`)**: of a new world, a job without settings is clear that is alone on a flatbed
 -- whose page means a picture at its defaults, where its source cannot fail and its password is right.
@@ -149,7 +151,7 @@ ClearsBy events old new =
 abbrev pub AllAreListed : Type 0
 AllAreListed =
     (h : History) (w : WorldCore) (i : ℕ) (job : Job) → IsJobAt h w i job
-    → ((name : List ℕ) → Contains h.events (Unplug name) → ⊥)
+    → ((name : List ℕ) → HasEvent h (Unplug name) → ⊥)
     → listed_infos w.daemon.registry ≡ map (λ (d : DeviceState). d.info) h.devices
 
 -- **no lie (`StoppedIsNoLie`, `RefusedIsNoLie`, `TurnedAwayIsNoLie`, `BothBusyIsNoLie`, `NeitherIsNoLie`)**: no clear

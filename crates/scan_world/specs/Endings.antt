@@ -1,5 +1,5 @@
 -- WHAT EXPLAINS AN ENDING: an event of the job, and what stood in the world in front of it.
-use Rattle.std.specs.Prelude.{ℕ, ◌≡◌, ◌≢◌, ◌⊎◌, ◌++◌, Bool, true, false, Some, None, List, [], Contains}
+use Rattle.std.specs.Prelude.{ℕ, ◌≡◌, ◌≢◌, ◌⊎◌, ◌++◌, Bool, true, false, Some, None, List, []}
 use Rattle.sane_fixed.specs.declared.status.Status.{Status}
 use Rattle.sane_fixed.specs.declared.status.Status.TheVariants.{Cancelled, DeviceBusy, Inval, Eof, NoDocs, IoError}
 use Rattle.sane_fixed.specs.declared.status.Status.TheVariants.{NoMem, AccessDenied}
@@ -21,9 +21,9 @@ use Rattle.event_world.specs.Worlds.{WorldCore}
 use Rattle.world_refines.specs.GhostStates.{backend_of, is_allowed_for, is_guarded}
 use Rattle.world_refines.specs.FailedSources.{HoldsLease}
 use Rattle.saned_requests.specs.LeaseLaws.{IsIn}
-use Rattle.scan_world.specs.Histories.{History}
+use Rattle.scan_world.specs.Histories.{HasEvent, History}
 use Rattle.scan_world.specs.Page.{CameInTime, Settled}
-use Rattle.scan_world.specs.Sessions.{Asked, AtJob, Happened, Has, IsAtOpen, IsAtStart, SessionAt}
+use Rattle.scan_world.specs.Sessions.{Asked, AtJob, Happened, Has, IsAtOpen, IsAtStart, SessionAt, StrangerHas}
 
 -- ---- the rows
 
@@ -90,12 +90,14 @@ HadFailed h w i job =
     × SendsFailure turn.0.before turn.0.behind i))
 
 -- what the daemon's answer with this status comes from, where `read-return-value` does not say it: as the job asked for
--- its device, that was not listed; another job's session had it; or its user and password are not allowed
+-- its device, that was not listed; another job's session had it, or a stranger's; or its user and password are not
+-- allowed
 abbrev pub AnswerIsExplained : History → WorldCore → ℕ → Job → Status → Type 0
 AnswerIsExplained h w i job Inval = IsUnforced h job ⊎ (HadNoPicture h w i job
     ⊎ ((asked : Asked h w i IsAtOpen) × (find_name job.device asked.at.before.daemon.registry ≡ None)))
-AnswerIsExplained h w i job DeviceBusy =
-    (asked : Asked h w i IsAtOpen) × (j : ℕ) × (d : DeviceState) × (j ≢ i) × Has asked.at.before j job.device d
+AnswerIsExplained h w i job DeviceBusy = (asked : Asked h w i IsAtOpen)
+    × (((j : ℕ) × (d : DeviceState) × (j ≢ i) × Has asked.at.before j job.device d)
+    ⊎ StrangerHas asked.at.before job.device)
 AnswerIsExplained h w i job AccessDenied = (asked : Asked h w i IsAtOpen) × HasPassed h asked.at.before i job false
 AnswerIsExplained h w i job NoDocs = HadNoPage h w i job 0
 AnswerIsExplained h w i job IoError = HadFailed h w i job
@@ -104,14 +106,14 @@ AnswerIsExplained h w i job status = ⊥
 -- **caused (`IsEndingExplained`, `AnswerIsExplained`, `HadNoPage`, `HadNoPicture`, `HadFailed`,
 -- `DeviceFailed`, `SendsFailure`, `NamesStatus`, `IsUnforced`)**: the table of endings: a status and a why, with what
 -- explains it: an event of the job, which came to it as it ran, and what stood in the world in front of it. Another
--- session had the device; it was not listed; the user's password is not allowed for the challenge that was sent; the
--- device had no page, or settings mean no picture on its first; its source failed; a connection was lost; a piece came
--- to a client without memory; `read-return-value` says a status in a turn of a frame. Without an event: the settings
--- can be in force on no device of the name.
+-- session had the device, a job's or a stranger's; it was not listed; the user's password is not allowed for the
+-- challenge that was sent; the device had no page, or settings mean no picture on its first; its source failed; a
+-- connection was lost; a piece came to a client without memory; `read-return-value` says a status in a turn of a frame.
+-- Without an event: the settings can be in force on no device of the name.
 --
 -- THE TABLE: what explains that job i ended with a status and a why. No other two of them occur.
 abbrev pub IsEndingExplained : History → WorldCore → ℕ → Job → Bool → Status → Why → Type 0
-IsEndingExplained h w i job starved status whys.Cancelled = (status ≡ Cancelled) × Contains h.events (Cancel i)
+IsEndingExplained h w i job starved status whys.Cancelled = (status ≡ Cancelled) × HasEvent h (Cancel i)
 IsEndingExplained h w i job starved status whys.Lost =
     (status ≡ IoError) × ((Happened h w i (LoseControl i) ⊎ Happened h w i (LoseImage i)) ⊎ (starved ≡ true))
 IsEndingExplained h w i job starved status whys.Short = (status ≡ IoError) × NamesStatus h w i job Eof
@@ -125,10 +127,11 @@ IsEndingExplained h w i job starved status why = ⊥
 -- ---- and where a job is done
 
 -- **opened (`WasOpened`, `HasPassed`)**: as a job that is done asked for its device, that was listed and no session had
--- it; no line of the users names its backend, or its user and password are allowed for the challenge that its session
--- had sent.
+-- it, no job's and no stranger's; no line of the users names its backend, or its user and password are allowed for the
+-- challenge that its session had sent.
 pub record WasOpened (h : History) (w : WorldCore) (i : ℕ) (job : Job) : Type 0 where
   pub asked : Asked h w i IsAtOpen
   pub listed : find_name job.device asked.at.before.daemon.registry ≢ None
   pub free : (j : ℕ) (d : DeviceState) → Has asked.at.before j job.device d → ⊥
+  pub unshared : StrangerHas asked.at.before job.device → ⊥
   pub permitted : (is_guarded h.users (backend_of job.device) ≡ false) ⊎ HasPassed h asked.at.before i job true

@@ -1,5 +1,6 @@
--- What was handed to a world over all its calls, that it led to it, and each of its events with the worlds around it.
-use Rattle.std.specs.Prelude.{◌≡◌, ◌++◌, List, [], ◌∷◌, All}
+-- What was handed to a world over all its calls, and what strangers did meanwhile; that it led to the world, and each
+-- of its events with the worlds around it.
+use Rattle.std.specs.Prelude.{◌≡◌, ◌++◌, List, [], ◌∷◌, All, Contains}
 use Rattle.page_picture.specs.SourceView.{source_state}
 use Rattle.md5_auth.specs.declared.users.Entry.{Entry}
 use Rattle.device_api.specs.ScannerLimits.{HasLimits}
@@ -10,26 +11,43 @@ use Rattle.event_world.specs.declared.event.Event.{Event}
 use Rattle.event_world.specs.Worlds.{AreNew, IsFitJob, Runs, WorldCore}
 use Rattle.world_refines.specs.NewWorlds.{IsNewDaemon}
 use Rattle.world_refines.specs.MainTheorem.{AreTrueLoads}
+use Rattle.strangers.specs.Among.{StrangerAct}
+use Rattle.strangers.specs.Together.{JointEvent, RunsAmong, events_among}
+use Rattle.strangers.specs.Together.JointEvent.{OfJobs, OfStranger}
 
--- **history (`History`, `begun`, `and_then`, `LedTo`)**: the devices, users and jobs that a world was made of, and all
--- events since; nothing has happened yet; and then these events; a new world of them, and then its events, led to this
--- one, and each device and page was within its limits.
+-- **history (`History`, `begun`, `and_then`, `of_jobs`, `LedTo`)**: the devices, users and jobs that a world was made
+-- of, and all that came since, in its order: events of jobs and devices, and acts of strangers; nothing has happened
+-- yet; and then these events; a new world of them, and then what came, led to this one, and each device and page was
+-- within its limits.
 pub record History : Type 0 where
   pub devices : List DeviceState
   pub users : List Entry
   pub jobs : List Job
-  pub events : List Event
+  pub events : List JointEvent
 
 -- these devices, users and jobs, and nothing has happened
 abbrev pub begun : List DeviceState → List Entry → List Job → History
 begun devices users jobs = record { devices = devices; users = users; jobs = jobs; events = [] }
 
+-- these events, and nothing of strangers
+abbrev pub of_jobs : List Event → List JointEvent
+of_jobs [] = []
+of_jobs (e ∷ es) = OfJobs e ∷ of_jobs es
+
 -- and then these events
 abbrev pub and_then : History → List Event → History
-and_then h events = record h { events = h.events ++ events }
+and_then h events = record h { events = h.events ++ of_jobs events }
 
--- a new world of these devices, users and jobs, and then these events, led to this one; each device and page was
--- within its limits
+-- **among what came (`HasEvent`, `HasNoActs`)**: that this event came; that no stranger did anything.
+abbrev pub HasEvent : History → Event → Type 0
+HasEvent h e = Contains h.events (OfJobs e)
+
+-- no act in it is a stranger's
+abbrev pub HasNoActs : History → Type 0
+HasNoActs h = (a : StrangerAct) → Contains h.events (OfStranger a) → ⊥
+
+-- a new world of these devices, users and jobs, and then what came, led to this one; each device and page was within
+-- its limits
 pub record LedTo (h : History) (w : WorldCore) : Type 0 where
   pub first : WorldCore
   pub endpoints : AreNew h.jobs first.endpoints
@@ -38,26 +56,26 @@ pub record LedTo (h : History) (w : WorldCore) : Type 0 where
   pub names : HaveOwnNames h.devices
   pub limits : All HasLimits h.devices
   pub fit : All IsFitJob h.jobs
-  pub loads : AreTrueLoads source_state h.events
-  pub runs : Runs source_state h.events first w
+  pub loads : AreTrueLoads source_state (events_among h.events)
+  pub runs : RunsAmong source_state h.events first w
 
 -- **moment (`Moment`, `history_up_to`)**: an event of a history that led to a world, with the world in front of it, to
--- which the events before it led, and the one behind it, from which those after it led on; and the history of the first
--- events alone.
+-- which what came before it led, and the one behind it, from which what came after it led on; and the history of what
+-- came first alone.
 --
--- the same, of these events alone
-abbrev pub history_up_to : History → List Event → History
+-- the same, of these alone
+abbrev pub history_up_to : History → List JointEvent → History
 history_up_to h events = record h { events = events }
 
 -- An event of a history that led to the world w: what came in front of it led to the world before it, it led from
 -- there to the one behind
 -- it, and what came later from there to w.
 pub record Moment (h : History) (w : WorldCore) (e : Event) : Type 0 where
-  pub front : List Event
-  pub back : List Event
-  pub split : h.events ≡ front ++ e ∷ back
+  pub front : List JointEvent
+  pub back : List JointEvent
+  pub split : h.events ≡ front ++ OfJobs e ∷ back
   pub before : WorldCore
   pub led_before : LedTo (record h { events = front }) before
   pub behind : WorldCore
   pub leads : Runs source_state (e ∷ []) before behind
-  pub rest : Runs source_state back behind w
+  pub rest : RunsAmong source_state back behind w

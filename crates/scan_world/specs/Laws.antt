@@ -8,13 +8,15 @@ use Rattle.system_model.specs.Settings.{SettingsMeanTheSame}
 use Rattle.world_refines.specs.NewWorlds.{NewWorldsRefine}
 use Rattle.world_refines.specs.MainTheorem.{AllIsKept, EventsFollow}
 use Rattle.world_refines.specs.WorldPromises.{LossesAreExplained, OutcomesAreRight, PagesAreMeant, ScansAreMeant}
+use Rattle.strangers.specs.Together.{AllIsKeptAmongStrangers, JobsGoOn, StrangersKeepWorlds}
 use Rattle.scan_world.specs.Histories.{History}
 use Rattle.scan_world.specs.Promise.{JobAnswers, JobIsKept}
 use Rattle.scan_world.specs.Calls.{AnswersAre, IsJobAt}
 
 -- the laws of the crates below on which they rest
 pub record Below : Type 0 where
-  pub kept : AllIsKept
+  pub kept : AllIsKeptAmongStrangers
+  pub alone : AllIsKept
   pub new : NewWorldsRefine
   pub notes : NotesAreTrue
   pub histories : HistoriesKeepInvariant
@@ -23,6 +25,8 @@ pub record Below : Type 0 where
   pub grounds : CausesAreGrounded
   pub same : SettingsMeanTheSame
   pub follows : EventsFollow
+  pub goes : JobsGoOn
+  pub acts : StrangersKeepWorlds
   pub outcomes : OutcomesAreRight
   pub losses : LossesAreExplained
   pub scans : ScansAreMeant

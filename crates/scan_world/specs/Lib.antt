@@ -10,4 +10,5 @@ pub mod Trays
 pub mod Laws
 pub mod Clear
 pub mod Lies
+pub mod Shared
 pub mod Examples

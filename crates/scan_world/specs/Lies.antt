@@ -34,10 +34,10 @@ use Rattle.world_refines.specs.GhostStates.{backend_of, is_allowed_for, is_guard
 use Rattle.scan_world.specs.Calls.{CancelEnds, IsGoodMove, MoveLowers, OneHolder, PageStays, RunsOut, left_at}
 use Rattle.scan_world.specs.Calls.{outcome_at, starved_at}
 use Rattle.scan_world.specs.Endings.{DeviceFailed, IsEndingExplained, IsUnforced}
-use Rattle.scan_world.specs.Histories.{History, Moment}
+use Rattle.scan_world.specs.Histories.{HasEvent, History, Moment}
 use Rattle.scan_world.specs.Page.{CameInTime, IsSteady, Settled}
 use Rattle.scan_world.specs.Promise.{CountIsKept, FileIsKept, JobIsDone, MoveIsKept, PageIsKept}
-use Rattle.scan_world.specs.Sessions.{AtJob, CanAt, Happened, Has}
+use Rattle.scan_world.specs.Sessions.{AtJob, CanAt, Happened, Has, StrangerHas}
 use Rattle.scan_world.specs.Trays.{CountsPages, IsOfTray, OwnTray, first_tray}
 
 -- ---- of an ending
@@ -62,11 +62,12 @@ Always h w i Is = (n : ℕ) (at : Moment h w (ToDaemon i n)) → Is at.before
 abbrev pub NamesNothing : History → Job → Type 0
 NamesNothing h job = (s : Settled h job) → s.setup.told ≡ None
 
--- busy, though no other job had the device
+-- busy, though no other job had the device, and no stranger
 abbrev pub BusyIsNoLie : Type 0
 BusyIsNoLie =
     (h : History) (w : WorldCore) (i : ℕ) (job : Job) (starved : Bool) → NamesNothing h job
     → Always h w i (λ before. (j : ℕ) (d : DeviceState) → Has before j job.device d → j ≡ i)
+    → Always h w i (λ before. StrangerHas before job.device → ⊥)
     → IsEndingExplained h w i job starved DeviceBusy whys.Answer → ⊥
 
 -- INVAL, though the device was listed, and the settings can be in force and mean a picture on its page
@@ -136,7 +137,7 @@ FirmIsNoLie =
 -- cancelled, though nobody gave it up
 abbrev pub CancelledIsNoLie : Type 0
 CancelledIsNoLie =
-    (h : History) (w : WorldCore) (i : ℕ) (job : Job) (starved : Bool) → (Contains h.events (Cancel i) → ⊥)
+    (h : History) (w : WorldCore) (i : ℕ) (job : Job) (starved : Bool) → (HasEvent h (Cancel i) → ⊥)
     → IsEndingExplained h w i job starved Cancelled whys.Cancelled → ⊥
 
 -- ---- of a job that is done

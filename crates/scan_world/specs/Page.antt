@@ -13,7 +13,7 @@ use Rattle.device_api.specs.Values.{defaults}
 use Rattle.scan_job.specs.declared.job.Job.{Job}
 use Rattle.event_world.specs.declared.event.Event.TheVariants.{Load}
 use Rattle.event_world.specs.Worlds.{WorldCore}
-use Rattle.scan_world.specs.Histories.{History}
+use Rattle.scan_world.specs.Histories.{HasEvent, History}
 use Rattle.scan_world.specs.Sessions.{Asked, AtJob, Happened, Has, IsAtStart}
 use Rattle.scan_world.specs.Settings.{AreSettingsPut}
 
@@ -70,5 +70,5 @@ pub record IsScan (h : History) (w : WorldCore) (i : ℕ) (job : Job) (count : �
 pub data CameFor (h : History) (name : List ℕ) (held : HeldPage) : Type 0 where
   AtFirst : (device : DeviceState) → Contains h.devices device → device.info.name ≡ name → Contains device.pages held
       → CameFor h name held
-  WithEvent : (source : Source) → Contains h.events (Load name source) → held_from (source_state source) ≡ held
+  WithEvent : (source : Source) → HasEvent h (Load name source) → held_from (source_state source) ≡ held
       → CameFor h name held

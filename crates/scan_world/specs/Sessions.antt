@@ -15,10 +15,12 @@ use Rattle.event_world.specs.declared.event.Event.TheVariants.{ToDaemon}
 use Rattle.event_world.specs.declared.event.JobEvent.{JobEvent}
 use Rattle.event_world.specs.JobEvents.{Can}
 use Rattle.event_world.specs.Worlds.{WorldCore}
+use Rattle.world_refines.specs.WorldRefinement.{IsNobodys}
+use Rattle.strangers.specs.Busy.{LeasesNamed}
 use Rattle.scan_world.specs.Histories.{History, Moment}
 
--- **has (`SessionAt`, `Has`)**: the session of a job in a world, that its connection leads to; and that it has a device
--- of a name: a word of it stands for a lease of that.
+-- **has (`SessionAt`, `Has`, `StrangerHas`)**: the session of a job in a world, that its connection leads to; that it
+-- has a device of a name: a word of it stands for a lease of that; and that a session which is no job's has one.
 --
 -- endpoint i is linked to the session
 pub record SessionAt (w : WorldCore) (i : ℕ) (s : Session DeviceState) : Type 0 where
@@ -37,6 +39,12 @@ pub record Has (w : WorldCore) (i : ℕ) (name : List ℕ) (d : DeviceState) : T
   pub held : held_by session.held word ≡ Some lease
   pub is : lease.device ≡ d
   pub named : d.info.name ≡ name
+
+-- a session that no endpoint has, so a stranger's, has a device of that name
+pub record StrangerHas (w : WorldCore) (name : List ℕ) : Type 0 where
+  pub number : ℕ
+  pub nobodys : IsNobodys w number
+  pub leases : LeasesNamed w number name
 
 -- the event can happen to job i
 abbrev pub CanAt : WorldCore → ℕ → JobEvent → Type 0

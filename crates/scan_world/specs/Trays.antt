@@ -10,14 +10,14 @@ use Rattle.scan_job.specs.declared.report.Reports.{Reports}
 use Rattle.event_world.specs.declared.event.Event.TheVariants.{Load}
 use Rattle.event_world.specs.Worlds.{WorldCore}
 use Rattle.scan_world.specs.Calls.{ForEach, IsJobAt, outcome_at}
-use Rattle.scan_world.specs.Histories.{History}
+use Rattle.scan_world.specs.Histories.{HasEvent, HasNoActs, History}
 use Rattle.scan_world.specs.Page.{IsScan, IsSteady}
 use Rattle.scan_world.specs.Sessions.{Asked, AtJob, Has, IsAtStart}
 
 -- **tray (`pages_in`, `first_tray`, `OwnTray`, `TraysAreTaken`)**: the pages that lie in a device, and that lay in it
 -- as the world was made, in which each device was reset; a feeder that no other job names and for which no event
--- brought a page; that as its job asks for a start while so many of its pages are finished, the device at rest has
--- those of its first tray but as many.
+-- brought a page, where no stranger did anything; that as its job asks for a start while so many of its pages are
+-- finished, the device at rest has those of its first tray but as many.
 abbrev pub pages_in : DeviceState → List PageView
 pages_in d = map (λ (held : HeldPage). held.page) d.pages
 
@@ -31,7 +31,9 @@ pub record OwnTray (h : History) (i : ℕ) (job : Job) : Type 0 where
   pub named : device.info.name ≡ job.device
   pub feeder : feeds device ≡ true
   pub alone : (j : ℕ) (other : Job) → slice_get h.jobs j ≡ Some other → other.device ≡ job.device → j ≡ i
-  pub unladen : (source : Source) → Contains h.events (Load job.device source) → ⊥
+  pub unladen : (source : Source) → HasEvent h (Load job.device source) → ⊥
+  -- a stranger's start would take one
+  pub undisturbed : HasNoActs h
 
 -- of the pages of its tray those are left that it has not finished, as it asks for a start
 abbrev pub TraysAreTaken : Type 0

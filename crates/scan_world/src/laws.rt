@@ -7,8 +7,10 @@ ghost use Rattle.event_world.specs.Worlds.{Runs, WorldCore};
 ghost use Rattle.scan_world.specs.Calls.{CancelEnds, MoveLowers, MovesFall, OthersStay, OverStays, StarvedStays};
 ghost use Rattle.scan_world.specs.Clear.{AllAreListed, ClearsBy, FeederIsClear, PlainIsClear};
 ghost use Rattle.scan_world.specs.Laws.{AllFollow, AllIsRight, Below};
+ghost use Rattle.scan_world.specs.Shared.{ActsLeaveSessions, BusyIsByJobs, EventsAreNoActs, HoldersStandApart, LedAlone, NoneSharesAlone, VisitorsMayCome};
 ghost use Rattle.scan_world.specs.Trays.{TraysAreTaken};
 
+use strangers::{all_is_kept_among_strangers, jobs_go_on_among_strangers};
 use system_model::{
     causes_are_grounded, every_history_keeps_the_invariant, marks_are_enabled, notes_are_true,
     outcomes_last, settings_mean_the_same,
@@ -33,6 +35,8 @@ pub(crate) fn what_stands_below()
     ensures { Below }
 {
     all_is_kept();
+    all_is_kept_among_strangers();
+    jobs_go_on_among_strangers();
     a_new_world_refines();
     a_run_refines();
     outcomes_are_right();
@@ -92,7 +96,7 @@ pub fn a_plain_job_is_clear()
 #[tactic(none)]
 pub fn trays_are_taken()
     /// As a job asks for a start while so many of its pages are finished, a feeder which it alone names, and into which no
-    /// event laid a page, has at rest the pages of its first tray but as many; and there were as many in it.
+    /// event laid a page, has, where no stranger did anything, at rest the pages of its first tray but as many; and there were as many in it.
     ensures { TraysAreTaken }
 {
     what_stands_below();
@@ -103,6 +107,31 @@ pub fn trays_are_taken()
 pub fn all_are_listed()
     /// In a world with a job, to which no event led that took a device out, all devices are listed, once, in their order.
     ensures { AllAreListed }
+{
+    what_stands_below();
+}
+
+/// Strangers among the jobs of a world.
+#[tactic(none)]
+pub fn strangers_act_among_jobs()
+    /// What led to a world may be events of jobs and acts of strangers, in any order, and all is promised as before: to
+    /// any world that has a job a stranger may come, where a place for a session is free, and that is such a history.
+    /// Carried by: `come` of `strangers_act_among_jobs`; `LedTo`
+    ensures come { VisitorsMayCome }
+    /// No job and no stranger have devices of one name; and whatever a stranger does, each job's session stands as it
+    /// stood, with its device, its settings and the pages there.
+    /// Carried by: `apart`, `leave` of `strangers_act_among_jobs`
+    ensures apart { HoldersStandApart }
+    ensures leave { ActsLeaveSessions }
+    /// Without an act of a stranger all is as among jobs alone: what led there is a run of its events, no session that
+    /// is no job's has a device, and DEVICE_BUSY is explained by another job's session alone.
+    /// Carried by: `led`, `alone`, `busy` of `strangers_act_among_jobs`
+    ensures led { LedAlone }
+    ensures alone { NoneSharesAlone }
+    ensures busy { BusyIsByJobs }
+    /// Events that are handed to a world are no acts of a stranger.
+    /// Carried by: `events` of `strangers_act_among_jobs`
+    ensures events { EventsAreNoActs }
 {
     what_stands_below();
 }

@@ -2,12 +2,13 @@
 
 ghost use Rattle.scan_world.specs.Clear.{BothBusyIsNoLie, NeitherIsNoLie, RefusedIsNoLie, StoppedIsNoLie, TurnedAwayIsNoLie};
 ghost use Rattle.scan_world.specs.Lies.{AllowedIsNoLie, BusyIsNoLie, CancelledIsNoLie, CountIsNoLie, DeniedIsNoLie, EmptyIsNoLie, FailedIsNoLie, FewIsNoLie, FileIsNoLie, FirmIsNoLie, GivenUpIsNoLie, GoneOnIsNoLie, HiddenIsNoLie, IdleIsNoLie, InvalIsNoLie, JammedIsNoLie, ListIsNoLie, LossIsNoLie, LostIsNoLie, MemoryIsNoLie, MissingIsNoLie, MovedIsNoLie, NowhereIsNoLie, PageIsNoLie, RefusedStandAside, RoundedIsNoLie, SharedIsNoLie, ShownIsNoLie, SilentIsNoLie, StillRunsIsNoLie, StuckIsNoLie, SwappedIsNoLie, TrayPageIsNoLie, UnchangedStandAside, UnscannedIsNoLie, WholeIsNoLie};
+ghost use Rattle.scan_world.specs.Shared.{TakenIsNoLie, TheirPageIsNoLie};
 
 /// The table of endings explains none that nothing stood for.
 #[tactic(none)]
 pub fn an_ending_is_no_lie()
     /// The table refuses the smallest lies. Of a job whose options name no status it explains no DEVICE_BUSY where in
-    /// front of its requests no other job's session had its device; no INVAL where that was listed, and its settings
+    /// front of its requests no session but its own had its device; no INVAL where that was listed, and its settings
     /// can be in force and mean a picture; no ACCESS_DENIED where its password is allowed for each challenge.
     ensures busy { BusyIsNoLie }
     ensures inval { InvalIsNoLie }
@@ -122,4 +123,14 @@ pub fn a_holder_is_no_lie()
     /// No two jobs have a device of one name, and none has another first page in mid-scan.
     ensures shared { SharedIsNoLie }
     ensures swapped { SwappedIsNoLie }
+{}
+
+/// No stranger's page is in a file, and none had the device of a job that is done as it asked for it.
+#[tactic(none)]
+pub fn a_stranger_is_no_lie()
+    /// No file is the scan of a page that lay in no device at first and that no event brought, as one of a stranger's;
+    /// and no job but a list is done whose device a stranger had whenever it asked for it.
+    /// Carried by: `theirs`, `taken` of `a_stranger_is_no_lie`
+    ensures theirs { TheirPageIsNoLie }
+    ensures taken { TakenIsNoLie }
 {}

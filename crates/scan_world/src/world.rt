@@ -210,7 +210,7 @@ impl World {
         ///
         /// Nothing stands in its way where its device is there, and no other job names it; its settings can be in force and
         /// name no status; its password is allowed; no event cancels it, loses its connections, or takes its device out;
-        /// and a device that it scans is so that a scan ends well.
+        /// a device that it scans is so that a scan ends well; and no stranger did anything.
         /// Carried by: `clear` of `World::run_all`: `IsClear`
         ///
         /// Such a device cannot fail, has a picture on each page, and as a feeder one page at least at first.
@@ -251,7 +251,8 @@ impl World {
         /// that can be read, as the job's settings left them.
         /// Carried by: `kept` of `World::outcome`: `shown` of `JobIsDone`
         ///
-        /// As it asked for its device that was listed, no session had it, and the job was permitted: no line of the users
+        /// As it asked for its device that was listed, no session had it, no job's and no stranger's, and the job was
+        /// permitted: no line of the users
         /// names its backend, or its user and password are allowed for the challenge that its session had sent.
         /// Carried by: `kept` of `World::outcome`: `opened` of `JobIsDone`: `WasOpened`
         ///
@@ -273,7 +274,8 @@ impl World {
         /// IO_ERROR, a job ended only where that says EOF.
         /// Carried by: `NamesStatus` of `IsEndingExplained`
         ///
-        /// Else DEVICE_BUSY was answered only where another job's session had the device as the job asked for it;
+        /// Else DEVICE_BUSY was answered only where another job's session had the device as the job asked for it, or a
+        /// stranger's: one that is no job's;
         /// ACCESS_DENIED only where a line of the users names its backend, and its user and password are not allowed
         /// for the challenge that its session had sent.
         /// Carried by: `AnswerIsExplained`, `HasPassed` of `IsEndingExplained`
@@ -352,7 +354,8 @@ impl World {
         /// Carried by: `kept` of `World::file_at`: `PageIsKept`, `StartedOn`
         ensures kept { let w = seen_world ⟦<Box<dyn Device> as Device>⟧.state self.now.inner in
             KeepsPage w i k (option_map (λ f. f.now) result) }
-        /// Where the job names a feeder that no other names, and into which no event laid a page, that is the k-th of
+        /// Where the job names a feeder that no other names, and into which no event laid a page, and no stranger did
+        /// anything, that is the k-th of
         /// the pages that lay in its tray as the world was made, if they are steady.
         /// Carried by: `tray` of `World::file_at`: `OwnTray`, `IsOfTray`
         ensures tray { let w = seen_world ⟦<Box<dyn Device> as Device>⟧.state self.now.inner in

@@ -17,7 +17,7 @@ use Rattle.interleaving.specs.Interleavings.{Traffic, accepted_with, bytes_heard
 use Rattle.interleaving.specs.Interleavings.Traffic.{Writes as WritesBytes, Reads as ReadsBytes, Dials as MakesConnection, Takes as TakesBytes, NoTraffic}
 use Rattle.interleaving.specs.Interleavings.JointAction.{OfJob, OfServer}
 use Rattle.interleaving.specs.HandingOn.{HandsOn, MayMove, MayServe}
-use Rattle.programs_refine.specs.Programs.{Acts, BringsNoMore, LostBringNoMore}
+use Rattle.programs_refine.specs.Programs.{Acts}
 use Rattle.programs_refine.specs.StepTraffic.{traffic_of}
 use Rattle.programs_refine.specs.WorkedRuns.{owned_by_first}
 use Rattle.worked_run.specs.UnderWay.{HasView, IsRunUnderWay, View}
@@ -84,7 +84,6 @@ acts_on job start d e c v act u plain stays does may is = record {
   opened = opened_by act d e 0 plain does ∙ u.opened;
   one = same_open act (open_sessions (server_journal u.acts)) plain stays u.one;
   hands_on = (u.hands_on, handed act u.acts v u.view is);
-  brings = u.brings;
 }
 
 -- ---- nobody comes
@@ -119,7 +118,6 @@ waits_on job start d c v u asked = record {
   opened = u.opened;
   one = u.one;
   hands_on = (u.hands_on, tt);
-  brings = u.brings;
 }
 
 -- ---- a turn ends
@@ -167,7 +165,6 @@ turns_on job start d c v u asked is = record {
   opened = u.opened;
   one = u.one;
   hands_on = (u.hands_on, tt);
-  brings = u.brings;
 }
 
 -- ---- a step of the job
@@ -197,17 +194,6 @@ given (TakesBytes bytes) acts v h is =
     (0, refl, h.accepted ∙ is.0 ∙ sym h.made, subst (λ (l : List ℕ). IsFront (l ++ bytes) (projection_of 0 (server_journal acts)).shown) (sym h.taken) (subst (λ (p : SessionProjection). IsFront (v.taken ++ bytes) p.shown) (sym h.projection) is.1))
 given NoTraffic acts v h is = tt
 
-not_dropped : (acts : Acts) (v : View) → HasView acts v → v.projection.dropped ≡ false → (k : ℕ) → owned_by_first k ≡ Some 0 → (projection_of k (server_journal acts)).dropped ≡ false
-not_dropped acts v h known zero own = ap (λ (p : SessionProjection). p.dropped) h.projection ∙ known
-not_dropped acts v h known (suc k) own = absurd (let clash : None ≡ Some 0 = own in cc)
-
-brings_on : (t : Traffic) (acts : Acts) (v : View) → HasView acts v → IsGiven t v → BringsNoMore owned_by_first 0 t (server_journal acts)
-brings_on (WritesBytes bytes) acts v h is = tt
-brings_on (ReadsBytes bytes) acts v h is = tt
-brings_on MakesConnection acts v h is = tt
-brings_on (TakesBytes bytes) acts v h is = not_dropped acts v h is.2
-brings_on NoTraffic acts v h is = tt
-
 viewed_step : (step : JobStep) (acts : Acts) (v : View) → step.turned ≡ false → HasView acts v → HasView (OfJob 0 step ∷ acts) (moved (traffic_of step) step.gives v)
 unfolding server_journal job_journal bytes_sent bytes_heard bytes_taken connections_made
 viewed_step step acts v still h = record {
@@ -235,5 +221,4 @@ steps_on job start d c e v step u leads whole still is = record {
   opened = u.opened;
   one = u.one;
   hands_on = (u.hands_on, given (traffic_of step) u.acts v u.view is);
-  brings = (u.brings, brings_on (traffic_of step) u.acts v u.view is);
 }

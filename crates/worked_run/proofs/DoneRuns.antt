@@ -17,6 +17,8 @@ use Rattle.interleaving.specs.Interleavings.{job_journal}
 use Rattle.event_world.specs.Worlds.{WorldCore}
 use Rattle.scan_world.specs.Histories.{History}
 use Rattle.scan_world.specs.Page.{IsScan, IsSteady}
+use Rattle.interleaving.proofs.Parts.{in_parts}
+use Rattle.programs_refine.specs.StepTraffic.{traffic_of}
 use Rattle.programs_refine.specs.Keeping.{AllLoopsAreKept, AreFit, ProgramsKeepAll, history_of}
 use Rattle.programs_refine.specs.Programs.{HasOpenedNone, WentOut}
 use Rattle.programs_refine.specs.WorkedRuns.{owned_by_first}
@@ -43,8 +45,8 @@ is_done_run job start d c reports file new count r done =
         before = None;
         after = u.after;
         serves = u.serves;
-        hands_on = u.hands_on;
-        lost = u.brings;
+        hands_on = ((in_parts traffic_of owned_by_first u.acts).0 u.hands_on).0;
+        from_daemon = ((in_parts traffic_of owned_by_first u.acts).0 u.hands_on).1;
       };
       done = done;
       went_out = u.view.given ∙ r.gave;

@@ -403,7 +403,6 @@ under_way_first job start d c port none is new = record {
   opened = ap (λ (x : Core). x.opened) is.after ∙ ap (λ (n : ℕ). n + 1) none;
   one = refl;
   hands_on = (tt, (0, refl));
-  brings = tt;
 }
 
 pub first_turn : (job : Job) (start d e : Core) (c : ClientState) (port : ℕ) → start.opened ≡ 0 → IsOpened start port 0 d → AreRepliesTaken d 0 4096 [] e → IsNewClient job c → IsAtRest false job start e c []

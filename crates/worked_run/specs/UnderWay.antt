@@ -12,7 +12,7 @@ use Rattle.saned_serve.specs.Journal.{JournalLeads, SessionProjection, has_asked
 use Rattle.interleaving.specs.Interleavings.{bytes_heard, bytes_sent, bytes_taken, connections_accepted}
 use Rattle.interleaving.specs.Interleavings.{connections_made, job_journal, server_journal}
 use Rattle.interleaving.specs.HandingOn.{HandsOn}
-use Rattle.programs_refine.specs.Programs.{Acts, LostBringNoMore}
+use Rattle.programs_refine.specs.Programs.{Acts}
 use Rattle.programs_refine.specs.StepTraffic.{traffic_of}
 use Rattle.programs_refine.specs.WorkedRuns.{owned_by_first}
 
@@ -53,7 +53,6 @@ pub record IsRunUnderWay (job : Job) (start d : Core) (c : ClientState) (v : Vie
   pub opened : d.opened ≡ 1
   pub one : open_sessions (server_journal acts) ≡ 1
   pub hands_on : HandsOn traffic_of owned_by_first acts
-  pub brings : LostBringNoMore owned_by_first acts
 
 -- a data connection of which all records were written and taken, and the end record is still to come
 pub record Flows (v : View) : Type 0 where

@@ -57,7 +57,8 @@ use Rattle.strangers.specs.LeavingJobs.{IsUseOf, ghost_behind}
 use Rattle.strangers.specs.Together.{AllIsKeptAmongStrangers, ComesAmong, JobsGoOn, JointEvent, KeptAmongStrangers, Leases, RunsAmong}
 use Rattle.worked_worlds.specs.Worked.{flatbed_with}
 use Rattle.worked_strangers.specs.Inside.{ActsAt, LawsBelow, HasGone, HasLeased}
-use Rattle.worked_strangers.specs.Visits.{of_jobs, of_strangers, until_gone, until_taken}
+use Rattle.scan_world.specs.Histories.{of_jobs}
+use Rattle.worked_strangers.specs.Visits.{of_strangers, until_gone, until_taken}
 use Rattle.worked_strangers.specs.Histories.{BusyAmong, HasNoWholeFile, IsJobAmong, ScannedAmong, UnscannedAmong, VisitedWorld}
 use Rattle.worked_strangers.proofs.Slots.{IsAlone, IsEmpty, is_ended, is_lost, is_opened, session_is, slot_is}
 use Rattle.worked_strangers.proofs.Visiting.{comes_back, greeted_session, holding, is_garbled, is_greeted, is_taken, one_place}
@@ -203,8 +204,8 @@ busy_among kept goes name page users job d e endpoints v b r busy =
     let all = kept_by kept name page job (of_strangers (until_taken b.has.greeting b.has.opening) ++ of_jobs moves) x.first v first (job_loads moves quiet) (λ infos make. job_fits infos make moves quiet) whole in
     record {
       visited = x;
-      moves = moves;
       last = v;
+      moves = r;
       runs = runs;
       has = record {
         session = holding (greeted_session t.strings 1) (lease_of name page);
@@ -238,7 +239,7 @@ is_job_among kept goes name page users job d e f endpoints v b g r =
       visited = x;
       left = w;
       goes = left;
-      moves = moves;
+      moves = r;
       runs = jobs_run moves w v r.events;
       third = record { nobodys = stays.0; session = greeted_session third.strings 1; stands = ap session_in stays.1 ∙ third.alone.session };
     }

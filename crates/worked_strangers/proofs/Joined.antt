@@ -26,7 +26,8 @@ use Rattle.strangers.specs.Together.{AllIsKeptAmongStrangers, JobsGoOn, JointEve
 use Rattle.strangers.specs.Together.JointEvent.{OfJobs, OfStranger}
 use Rattle.worked_worlds.specs.Worked.{flatbed_with}
 use Rattle.worked_strangers.specs.Inside.{ActsAt}
-use Rattle.worked_strangers.specs.Visits.{of_jobs, of_strangers}
+use Rattle.scan_world.specs.Histories.{of_jobs}
+use Rattle.worked_strangers.specs.Visits.{of_strangers}
 
 -- ---- one world with these endpoints
 

@@ -1,6 +1,6 @@
 -- What the functions answer, of the facts that their calls give.
-use Rattle.std.specs.Prelude.{option_and_then, option_map, slice_get}
-use Rattle.std.proofs.Common.{◌≡◌, ◌∙◌, ℕ, List, [], ◌∷◌, Option, Some, None, refl, sym, ap, subst}
+use Rattle.std.specs.Prelude.{◌≢◌, All, option_and_then, option_map, slice_get}
+use Rattle.std.proofs.Common.{◌≡◌, ◌∙◌, ℕ, zero, suc, List, [], ◌∷◌, Option, Some, None, refl, sym, ap, subst, arith}
 use Rattle.md5_auth.specs.declared.users.Entry.{Entry}
 use Rattle.page_picture.specs.Page.{PageView}
 use Rattle.page_picture.specs.SourceView.{source_state}
@@ -14,7 +14,9 @@ use Rattle.scan_job.specs.declared.outcome.Why.TheVariants.{Answer}
 use Rattle.scan_job.specs.declared.report.Reports.{Reports}
 use Rattle.event_world.specs.declared.endpoint.Endpoint.{Endpoint}
 use Rattle.event_world.specs.Rounds.{RoundsRunOut}
-use Rattle.event_world.specs.Worlds.{AreNew, MayRun, WorldCore}
+use Rattle.event_world.specs.declared.world_fault.WorldFault.{WorldFault}
+use Rattle.event_world.specs.declared.world_fault.WorldFault.TheVariants as faults
+use Rattle.event_world.specs.Worlds.{AreNew, HasWorldFault, IsFitJob, MayRun, WorldCore}
 use Rattle.world_refines.specs.NewWorlds.{IsNewDaemon}
 use Rattle.scan_world.specs.Calls.{file_answered, outcome_at}
 use Rattle.scan_world.specs.Examples.{IsScanOf}
@@ -77,3 +79,20 @@ meant_by below name page users job d e f w v reports file copy h g r done is sam
         let file_is : endpoint.file ≡ Some file = sym (ap (option_and_then (λ (p : Endpoint). p.file)) at) ∙ sym is in
         subst (IsScanOf page job) (sym same)
         (file_meant below name page users job d e f w.endpoints v endpoint reports file (beside name page users job d e f w h) g (subst (λ (x : WorldCore). RoundsRunOut source_state x v) (same_world f w h.daemon) r) at (let own : endpoint.client.outcome ≡ Done reports = cc in own) file_is scan)
+
+-- ---- why there is no world
+
+all_one : (job : Job) → IsFitJob job → All IsFitJob (job ∷ [])
+all_one job h zero d within = h
+all_one job h (suc k) d within = absurd (omega (arith, within))
+
+-- a fault of one job that is fit is want of memory
+memory_alone : (fault : WorldFault) (job : Job) → HasWorldFault fault (job ∷ []) → IsFitJob job → fault ≡ faults.NoMem
+memory_alone faults.SameName job never fit = absurd never
+memory_alone faults.TooManyDevices job never fit = absurd never
+memory_alone faults.TooManyJobs job many fit = absurd (omega (arith, many))
+memory_alone faults.BadJob job (few, bad) fit = absurd (bad (all_one job fit))
+memory_alone faults.NoMem job may fit = refl
+
+pub refused_by : (fault : WorldFault) (jobs : List Job) (job : Job) → jobs ≡ job ∷ [] → HasWorldFault fault jobs → fault ≢ faults.NoMem → ¬ IsFitJob job
+refused_by fault jobs job only has other fit = other (memory_alone fault job (subst (HasWorldFault fault) only has) fit)

@@ -13,21 +13,22 @@ use Rattle.scan_job.specs.declared.outcome.Outcome.{Outcome}
 use Rattle.scan_job.specs.declared.outcome.Outcome.TheVariants.{Done, Ended}
 use Rattle.scan_job.specs.declared.outcome.Why.TheVariants.{Answer}
 use Rattle.scan_job.specs.declared.report.Reports.{Reports}
-use Rattle.event_world.specs.declared.event.Event.{Event}
 use Rattle.event_world.specs.JobEvents.{is_done}
+use Rattle.event_world.specs.Rounds.{RoundsRunOut, all_made}
 use Rattle.event_world.specs.Worlds.{AreNew, WorldCore}
 use Rattle.world_refines.specs.NewWorlds.{IsNewDaemon}
 use Rattle.world_refines.specs.WorldRefinement.{IsNobodys}
 use Rattle.scan_world.specs.Calls.{file_answered, outcome_at}
 use Rattle.strangers.specs.Together.{Leases, RunsAmong}
 use Rattle.worked_worlds.specs.Worked.{flatbed_with}
-use Rattle.worked_strangers.specs.Visits.{HasVisits, of_jobs, of_strangers, until_gone}
+use Rattle.scan_world.specs.Histories.{of_jobs}
+use Rattle.worked_strangers.specs.Visits.{HasVisits, of_strangers, until_gone}
 
 -- **a job among strangers (`VisitedWorld`, `IsJobAmong`, `ScannedAmong`, `UnscannedAmong`, `BusyAmong`)**: a new world
 -- of this flatbed, these users and this job, in which strangers came until one had the flatbed; a history in which he
--- then was lost and a third one came and stood to the end, while the job made moves; that the job is done there with
--- this file, or is not, and has none that is whole; and one in which he had it to the end, the job was answered
--- DEVICE_BUSY, and no file is whole.
+-- then was lost and a third one came and stood to the end, while the job made its next moves until it had none; that
+-- the job is done there with this file, or is not, and has none that is whole; and one in which he had it to the end,
+-- the job made its next moves until it had none and was answered DEVICE_BUSY, and no file is whole.
 pub record VisitedWorld (name : List ℕ) (page : PageView) (users : List Entry) (job : Job) : Type 0 where
   pub first : WorldCore
   pub jobs : AreNew (job ∷ []) first.endpoints
@@ -47,8 +48,8 @@ pub record IsJobAmong (name : List ℕ) (page : PageView) (users : List Entry) (
   pub visited : VisitedWorld name page users job
   pub left : WorldCore
   pub goes : RunsAmong source_state (of_strangers (until_gone visited.visits.greeting)) visited.taken left
-  pub moves : List Event
-  pub runs : RunsAmong source_state (of_jobs moves) left last
+  pub moves : RoundsRunOut source_state left last
+  pub runs : RunsAmong source_state (of_jobs (all_made moves.rounds)) left last
   pub third : StandsApart last 2
 
 -- the file under way of the world's first job is not whole
@@ -78,9 +79,9 @@ pub record UnscannedAmong (name : List ℕ) (page : PageView) (users : List Entr
 -- a stranger has the flatbed as it asks
 pub record BusyAmong (name : List ℕ) (page : PageView) (users : List Entry) (job : Job) : Type 0 where
   pub visited : VisitedWorld name page users job
-  pub moves : List Event
   pub last : WorldCore
-  pub runs : RunsAmong source_state (of_jobs moves) visited.taken last
+  pub moves : RoundsRunOut source_state visited.taken last
+  pub runs : RunsAmong source_state (of_jobs (all_made moves.rounds)) visited.taken last
   pub has : Leases last 1 0
   pub busy : outcome_at last 0 ≡ Some (Ended DeviceBusy Answer)
   pub short : HasNoWholeFile last

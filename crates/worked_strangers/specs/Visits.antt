@@ -7,11 +7,10 @@ use Rattle.saned_serve.specs.SessionActions.SessionAction.{Feed, Leaves, Opens}
 use Rattle.saned_requests.specs.RequestAnswers.{own_version}
 use Rattle.wire_message.specs.declared.message.Request.TheVariants as requests
 use Rattle.wire_writing.specs.RequestWriting.{write_request}
-use Rattle.event_world.specs.declared.event.Event.{Event}
 use Rattle.event_world.specs.Worlds.{WorldCore}
 use Rattle.strangers.specs.Among.{StrangerAct}
 use Rattle.strangers.specs.Together.{JointEvent, Leases, RunsAmong}
-use Rattle.strangers.specs.Together.JointEvent.{OfJobs, OfStranger}
+use Rattle.strangers.specs.Together.JointEvent.{OfStranger}
 
 -- ---- what a stranger does
 
@@ -46,10 +45,6 @@ until_gone greeting = is_cut_off 1 ∷ comes 2 ∷ says 2 greeting Standing ∷ 
 abbrev pub of_strangers : List StrangerAct → List JointEvent
 of_strangers [] = []
 of_strangers (a ∷ acts) = OfStranger a ∷ of_strangers acts
-
-abbrev pub of_jobs : List Event → List JointEvent
-of_jobs [] = []
-of_jobs (e ∷ es) = OfJobs e ∷ of_jobs es
 
 -- the bytes of an INIT and of an OPEN
 pub record AreBytesSaid (name greeting opening : List ℕ) : Type 0 where

@@ -1,12 +1,13 @@
 //! A job among strangers, to its end.
 
-ghost use Rattle.std.specs.Prelude.{◌≡◌, IfOk, IfSome, Err, Some, false, true, [], ◌∷◌};
+ghost use Rattle.std.specs.Prelude.{◌≡◌, ◌≢◌, IfOk, Err, Some, false, true};
 ghost use Rattle.sane_fixed.specs.declared.status.Status.TheVariants.{DeviceBusy};
 ghost use Rattle.scan_job.specs.declared.job.Task.TheVariants as tasks;
 ghost use Rattle.scan_job.specs.declared.outcome.Outcome.TheVariants.{Done, Ended};
 ghost use Rattle.scan_job.specs.declared.outcome.Why.TheVariants.{Answer};
 ghost use Rattle.scan_job.specs.declared.report.Reports.{Reports};
-ghost use Rattle.event_world.specs.Worlds.{seen_world};
+ghost use Rattle.event_world.specs.Worlds.{IsFitJob, seen_world};
+ghost use Rattle.event_world.specs.declared.world_fault.WorldFault.TheVariants as faults;
 ghost use Rattle.scan_world.specs.Calls.{outcome_at};
 ghost use Rattle.scan_world.specs.Examples.{IsScanOf};
 ghost use Rattle.worked_strangers.specs.Histories.{BusyAmong, IsNotDone, ScannedAmong, UnscannedAmong};
@@ -14,7 +15,7 @@ ghost use Rattle.worked_strangers.specs.Histories.{BusyAmong, IsNotDone, Scanned
 use crate::below::what_stands_below;
 use crate::visits::{daemon_on, lose_and_stay, take_among_strangers};
 use device_api::Device;
-use event_world::EventWorld;
+use event_world::{EventWorld, WorldFault};
 use flatbed_dev::Flatbed;
 use md5_auth::Users;
 use net_backend::{Job, Outcome, Why};
@@ -22,6 +23,7 @@ use page_picture::Page;
 use sane_fixed::{Status, Text};
 use std::alloc::Global;
 use thiserror::Error;
+use worked_worlds::{copied, one_job};
 
 /// Why there is no file.
 #[derive(Clone, Copy, Debug, PartialEq, Eq, Error)]
@@ -36,26 +38,18 @@ pub enum NoScan {
     NotDone,
 }
 
-/// One job.
-fn one_job(alloc: Global, job: Job) -> Option<Vec<Job>>
-    ensures { IfSome result (λ jobs. jobs.items ≡ job ∷ []) }
+/// What it is told as that there is no world of a job.
+fn no_scan(fault: WorldFault) -> NoScan
+    ensures refused { result ≡ NoScan.BadJob → fault ≢ faults.NoMem }
+    ensures begun { result ≢ NoScan.NotDone }
 {
-    let mut jobs = Vec::new(alloc);
-    if jobs.push(job).is_err() {
-        return None;
+    match fault {
+        WorldFault::NoMem => NoScan::NoMem,
+        WorldFault::SameName
+        | WorldFault::TooManyDevices
+        | WorldFault::TooManyJobs
+        | WorldFault::BadJob => NoScan::BadJob,
     }
-    Some(jobs)
-}
-
-/// The bytes, once more.
-fn copied(alloc: Global, bytes: &[u8]) -> Option<Vec<u8>>
-    ensures { IfSome result (λ copy. copy.items ≡ bytes.now) }
-{
-    let mut copy = Vec::new(alloc);
-    if copy.extend_from_slice(bytes).is_err() {
-        return None;
-    }
-    Some(copy)
 }
 
 /// Whether the world's one job is done.
@@ -97,7 +91,9 @@ pub fn scan_among_strangers(
     /// Where it scans, that file is of the picture that its settings mean on that very page.
     ensures meant { IfOk result
         (λ file. job.task ≡ tasks.Scan → IsScanOf page job file.items) }
-    /// Where the job is not done, there is a history up to its end, and no file of it is whole.
+    /// It is refused only where no client takes it.
+    ensures bad_job { result ≡ Err NoScan.BadJob → ¬ IsFitJob job }
+    /// Where the job is not done, there is such a history up to where it has no move left, and no file of it is whole.
     ensures not_done { result ≡ Err NoScan.NotDone → UnscannedAmong name page users job }
 {
     what_stands_below();
@@ -116,8 +112,9 @@ pub fn scan_among_strangers(
     let Some(jobs) = one_job(alloc, job) else {
         return Err(NoScan::NoMem);
     };
-    let Ok(mut world) = EventWorld::beside_daemon(alloc, daemon, jobs) else {
-        return Err(NoScan::BadJob);
+    let mut world = match EventWorld::beside_daemon(alloc, daemon, jobs) {
+        Ok(world) => world,
+        Err((fault, _daemon)) => return Err(no_scan(fault)),
     };
     world.run_all();
     if !is_done(&world) {

@@ -17,12 +17,13 @@ use device_api::Device;
 use dispatch::Registry;
 use flatbed_dev::Flatbed;
 use md5_auth::Users;
-use page_picture::{MemoryPage, Page, Source};
-use sane_fixed::{ByteOrder, Status, Text};
+use page_picture::Page;
+use sane_fixed::{Status, Text};
 use saned_core::{Daemon, Fed, FrameState, SessionId};
 use std::alloc::Global;
 use wire_message::Request;
 use wire_writing::encode_request;
+use worked_worlds::flatbed_on;
 
 /// A word that no request begins with.
 const GARBAGE: [u8; 4] = [0, 0, 0, 99];
@@ -199,19 +200,6 @@ pub(crate) fn lose_and_stay<D: Device>(
         return false;
     };
     true
-}
-
-/// A flatbed of that name, with this page in memory.
-fn flatbed_on(alloc: Global, name: Text, page: Page) -> Option<Flatbed>
-    ensures { IfSome result (λ flatbed. flatbed ≡ flatbed_with name page) }
-{
-    Flatbed::new(
-        alloc,
-        name,
-        Source::Memory(MemoryPage::new(page)),
-        ByteOrder::Little,
-    )
-    .ok()
 }
 
 /// That flatbed alone.

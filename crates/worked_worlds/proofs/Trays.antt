@@ -16,9 +16,11 @@ use Rattle.event_world.specs.declared.event.Event.TheVariants.{Load}
 use Rattle.event_world.specs.Worlds.{WorldCore}
 use Rattle.scan_world.specs.Calls.{ForEach, KeepsPage, outcome_at}
 use Rattle.scan_world.specs.Clear.{ClearsUp, FeederIsClear}
-use Rattle.scan_world.specs.Histories.{LedTo, begun}
+use Rattle.strangers.specs.Together.JointEvent.{OfJobs, OfStranger}
+use Rattle.scan_world.specs.Histories.{LedTo, begun, of_jobs}
 use Rattle.scan_world.specs.Page.{IsScan}
 use Rattle.scan_world.specs.Trays.{BatchIsCounted, IsOfTray, KeepsTray, OwnTray, first_tray}
+use Rattle.scan_world.proofs.Joint.{in_jobs, no_act_in}
 use Rattle.scan_world.proofs.Lists.{in_list}
 use Rattle.worked_worlds.specs.Inside.{IsKeptPage}
 use Rattle.worked_worlds.specs.Worked.{HasBrokenOff, IsFedScanOf, IsPlainBatch, feeder_with, memory_source}
@@ -41,7 +43,8 @@ own_tray name pages users job new c named = record {
   named = named;
   feeder = is_fed name pages;
   alone = λ j other at same. only_job job other j at;
-  unladen = λ source among. c.unladen job.device source (in_list c.events (Load job.device source) among);
+  unladen = λ source among. c.unladen job.device source (in_jobs c.events (Load job.device source) (in_list (of_jobs c.events) (OfJobs (Load job.device source)) among));
+  undisturbed = λ a among. no_act_in c.events a (in_list (of_jobs c.events) (OfStranger a) among);
 }
 
 -- ---- its files

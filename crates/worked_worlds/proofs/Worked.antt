@@ -34,12 +34,15 @@ use Rattle.scan_world.specs.Calls.{ForEach, IsJobAt, KeepsPage, RunsOut, outcome
 use Rattle.scan_world.specs.Clear.{AllAreListed, ClearsUp, IsClear, PlainIsClear}
 use Rattle.scan_world.specs.Examples.{IsScanOf}
 use Rattle.scan_world.specs.Endings.{AnswerIsExplained, HadNoPage, HasPassed, NamesStatus}
-use Rattle.scan_world.specs.Histories.{History, LedTo, and_then, begun, history_up_to}
+use Rattle.strangers.specs.Together.{JointEvent}
+use Rattle.strangers.specs.Together.JointEvent.{OfJobs}
+use Rattle.scan_world.specs.Histories.{History, LedTo, and_then, begun, history_up_to, of_jobs}
 use Rattle.scan_world.specs.Page.{CameInTime, IsSteady, Settled}
 use Rattle.scan_world.specs.Page.CameInTime.{FromFirst, AsItRan}
 use Rattle.scan_world.specs.Promise.{FileIsKept, OutcomeIsKept}
 use Rattle.scan_world.specs.Settings.{AreSettingsPut}
-use Rattle.scan_world.proofs.Lists.{In, in_list, in_split}
+use Rattle.scan_world.proofs.Joint.{in_jobs, of_jobs_then}
+use Rattle.scan_world.proofs.Lists.{In, in_front, in_list, in_split}
 use Rattle.scan_world.proofs.NextMoves.{LoadsNothing, quiet_moves}
 use Rattle.worked_worlds.specs.Worked.{AreScans, DoneFrom, HasBrokenOff, IsPlainScan, LedFrom, ListsAll, IsDisallowed, IsUnlisted, SaysAnswered, SaysDone, ShowsOptions, WasPassed, feeder_with, flatbed_with, memory_source}
 
@@ -76,7 +79,8 @@ moved_behind devices users job old mid new taken events led are run ran =
     let first = and_then (begun devices users (job ∷ [])) events in
     let out = ran first (run (begun devices users (job ∷ [])) led) in
     let quiet = quiet_moves out.moves mid new out.next in
-    record { events = events ++ out.moves; led = out.led; unladen = λ name source among. not_laden events out.moves taken name source are quiet among }
+    let led_there = subst (λ (xs : List JointEvent). LedTo (history_up_to (begun devices users (job ∷ [])) xs) new) (sym (of_jobs_then events out.moves)) out.led in
+    record { events = events ++ out.moves; led = led_there; unladen = λ name source among. not_laden events out.moves taken name source are quiet among }
   where
     unplugged : (taken name : List ℕ) (source : Source) → Load name source ≡ Unplug taken → ⊥
     unplugged taken name source e = cc
@@ -112,11 +116,6 @@ done_from devices users job new c told =
 
 -- ---- a list
 
-in_front : (xs ys : List Event) (e : Event) → In e xs → In e (xs ++ ys)
-in_front [] ys e among = absurd among
-in_front (x ∷ xs) ys e (inl same) = inl same
-in_front (x ∷ xs) ys e (inr among) = inr (in_front xs ys e among)
-
 pub lists_all : AllAreListed → (devices : List DeviceState) (users : List Entry) (job : Job) (new : WorldCore) → Moved devices users job new → SaysDone new → job.task ≡ tasks.List → ListsAll devices users job
 lists_all all devices users job new m told list =
     let h = history_of devices users job new m.came in
@@ -126,7 +125,7 @@ lists_all all devices users job new m told list =
     let here : IsJobAt (history_up_to h at.front) at.before 0 job = record { led = at.led_before; job_at = refl } in (
       done_from devices users job new m.came told,
       l.1 ∙ all (history_up_to h at.front) at.before 0 job here (λ name among.
-          m.whole name (subst (λ (es : List Event). In (Unplug name) es) (sym at.split) (in_front at.front (_ ∷ at.back) (Unplug name) (in_list at.front (Unplug name) among)))),
+          m.whole name (in_jobs m.came.events (Unplug name) (subst (λ (es : List JointEvent). In (OfJobs (Unplug name)) es) (sym at.split) (in_front at.front (_ ∷ at.back) (OfJobs (Unplug name)) (in_list at.front (OfJobs (Unplug name)) among))))),
     )
 
 -- ---- the device and its options
@@ -203,7 +202,7 @@ page_is : (name : List ℕ) (page : PageView) (users : List Entry) (job : Job) (
 page_is name page users job new c held (FromFirst device there named among) =
     let same : flatbed_with name page ≡ device = only_one (flatbed_with name page) device there in
     only_one (held_from (memory_source page)) held (subst (λ (d : DeviceState). Contains d.pages held) (sym same) among)
-page_is name page users job new c held (AsItRan laid happened is) = absurd (c.unladen job.device laid (in_list c.events (Load job.device laid) (in_split c.events happened.0.front happened.0.back (Load job.device laid) happened.0.split)))
+page_is name page users job new c held (AsItRan laid happened is) = absurd (c.unladen job.device laid (in_jobs c.events (Load job.device laid) (in_list (of_jobs c.events) (OfJobs (Load job.device laid)) (in_split (of_jobs c.events) happened.0.front happened.0.back (OfJobs (Load job.device laid)) happened.0.split))))
 
 pub was_unlisted : (name : List ℕ) (page : PageView) (users : List Entry) (job : Job) (new : WorldCore) → Came (flatbed_with name page ∷ []) users job new → SaysAnswered new statuses.Inval → job.settings.items ≡ [] → job.device ≡ name → meaning_of page (defaults Flatbed Little).scene ≢ None → (from : LedFrom (flatbed_with name page ∷ []) users job) × IsUnlisted from.history from.world 0 job
 was_unlisted name page users job new c told none named meant = (led_from (flatbed_with name page ∷ []) users job new c, by_case (answered Flatbed name (memory_source page ∷ []) users job new statuses.Inval c told none))
@@ -230,7 +229,7 @@ pub steady_tray : (name : List ℕ) (pages : List PageView) (users : List Entry)
 steady_tray name pages users job new c held (FromFirst device there named among) =
     let same : feeder_with name pages ≡ device = only_one (feeder_with name pages) device there in
     steady_in pages held (in_list (map held_from (map memory_source pages)) held (subst (λ (d : DeviceState). Contains d.pages held) (sym same) among))
-steady_tray name pages users job new c held (AsItRan laid happened is) = absurd (c.unladen job.device laid (in_list c.events (Load job.device laid) (in_split c.events happened.0.front happened.0.back (Load job.device laid) happened.0.split)))
+steady_tray name pages users job new c held (AsItRan laid happened is) = absurd (c.unladen job.device laid (in_jobs c.events (Load job.device laid) (in_list (of_jobs c.events) (OfJobs (Load job.device laid)) (in_split (of_jobs c.events) happened.0.front happened.0.back (OfJobs (Load job.device laid)) happened.0.split))))
 
 pub are_scans : (name : List ℕ) (pages : List PageView) (users : List Entry) (job : Job) (new : WorldCore) (first second : List ℕ) → Moved (feeder_with name pages ∷ []) users job new → KeepsPage new 0 1 (Some first) → KeepsPage new 0 2 (Some second) → AreScans (feeder_with name pages ∷ []) users job first second
 are_scans name pages users job new first second m one two =

@@ -19,3 +19,4 @@ pub use shows::show_options;
 pub use surely::{NoFile, scan_surely};
 pub use taken::scan_of_taken_out;
 pub use tray::{scan_no_page, scan_pages};
+pub use worlds::{copied, flatbed_on, one_job};

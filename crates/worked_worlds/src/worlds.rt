@@ -10,8 +10,11 @@ use page_picture::{MemoryPage, Page, Source};
 use sane_fixed::{ByteOrder, Text};
 use std::alloc::Global;
 
-/// A flatbed of that name with this page in memory.
-pub(crate) fn flatbed_on(alloc: Global, name: Text, page: Page) -> Option<Flatbed>
+/// A flatbed of that name with this page in memory; `None` where memory runs out.
+pub fn flatbed_on(alloc: Global, name: Text, page: Page) -> Option<Flatbed>
+    /// What worked worlds are made of: a flatbed of that name with that page in memory; one job, and no other; the same
+    /// bytes once more. Each is none where memory runs out.
+    /// Carried by: `flatbed_on`, `one_job`, `copied`
     ensures { IfSome result (λ flatbed. flatbed ≡ flatbed_with name page) }
 {
     Flatbed::new(
@@ -34,8 +37,8 @@ pub(crate) fn one_box(alloc: Global, device: Box<dyn Device>) -> Option<Vec<Box<
     Some(boxes)
 }
 
-/// The bytes, once more.
-pub(crate) fn copied(alloc: Global, bytes: &[u8]) -> Option<Vec<u8>>
+/// The bytes, once more; `None` where memory runs out.
+pub fn copied(alloc: Global, bytes: &[u8]) -> Option<Vec<u8>>
     ensures { IfSome result (λ copy. copy.items ≡ bytes.now) }
 {
     let mut copy = Vec::new(alloc);
@@ -45,8 +48,8 @@ pub(crate) fn copied(alloc: Global, bytes: &[u8]) -> Option<Vec<u8>>
     Some(copy)
 }
 
-/// One job.
-pub(crate) fn one_job(alloc: Global, job: Job) -> Option<Vec<Job>>
+/// One job; `None` where memory runs out.
+pub fn one_job(alloc: Global, job: Job) -> Option<Vec<Job>>
     ensures { IfSome result (λ jobs. jobs.items ≡ job ∷ []) }
 {
     let mut jobs = Vec::new(alloc);

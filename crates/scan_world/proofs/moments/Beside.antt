@@ -28,11 +28,15 @@ use Rattle.system_model.specs.Transitions.{By, IsEnabled, IsHistory, IsUnderWay,
 use Rattle.world_refines.specs.FailedSources.{AllAlong}
 use Rattle.world_refines.specs.GhostStates.{Ghost, abstract_job, job_state, name_at, place_named, place_of_info}
 use Rattle.world_refines.specs.WorldRefinement.{HaveDifferentNames, WorldRefines, client_at_greeting}
-use Rattle.scan_world.specs.Histories.{History, LedTo, history_up_to}
+use Rattle.event_world.specs.declared.event.Event.TheVariants.{ToDaemon}
+use Rattle.strangers.specs.Together.JointEvent.{OfJobs}
+use Rattle.scan_world.specs.Histories.{HasNoActs, History, LedTo, history_up_to}
 use Rattle.scan_world.specs.Laws.{Below}
 use Rattle.scan_world.specs.Lies.{NamesNothing}
 use Rattle.scan_world.proofs.Along.{Fine, Laws, Own, fine_then, told_by}
 use Rattle.scan_world.proofs.Begun.{job_same, party_stays}
+use Rattle.scan_world.proofs.Elsewhere.{elsewhere, same_elsewhere}
+use Rattle.scan_world.proofs.Quiet.{no_acts_front, none_shared}
 use Rattle.scan_world.proofs.Ended.{comes_there, ended_reads, first_here, laws_of, steps_of_one, woken_ended}
 use Rattle.scan_world.proofs.Evident.{Comes, IsAnswer, Opens, all_come, causes_by, met_by}
 use Rattle.scan_world.proofs.Options.{streaming}
@@ -58,9 +62,10 @@ pub record Pair (h : History) (o : Job) (a b : ℕ) (ja jb : Job) : Type 0 where
   pub only : (m : ℕ) (x : Job) → slice_get h.jobs m ≡ Some x → x.device ≡ o.device → (m ≡ a) ⊎ (m ≡ b)
   pub a_nothing : NamesNothing h ja
   pub b_nothing : NamesNothing h jb
+  pub undisturbed : HasNoActs h
 
 swapped : (h : History) (o : Job) (a b : ℕ) (ja jb : Job) → Pair h o a b ja jb → Pair h o b a jb ja
-swapped h o a b ja jb p = record { a_at = p.b_at; b_at = p.a_at; a_named = p.b_named; b_named = p.a_named; apart = λ e. p.apart (sym e); only = λ m x at named. other (p.only m x at named); a_nothing = p.b_nothing; b_nothing = p.a_nothing }
+swapped h o a b ja jb p = record { a_at = p.b_at; b_at = p.a_at; a_named = p.b_named; b_named = p.a_named; apart = λ e. p.apart (sym e); only = λ m x at named. other (p.only m x at named); a_nothing = p.b_nothing; b_nothing = p.a_nothing; undisturbed = p.undisturbed }
   where
     other : {A B : Type 0} → A ⊎ B → B ⊎ A
     other (inl x) = inr x
@@ -69,7 +74,7 @@ swapped h o a b ja jb p = record { a_at = p.b_at; b_at = p.a_at; a_named = p.b_n
 -- ---- where they look for their device
 
 place_at : (h : History) (o : Job) (s : SystemState) (n : ℕ) (x : Job) → slice_get h.jobs n ≡ Some x → x.device ≡ o.device → Fine h o s → wanted_place s n ≡ place_named (infos_of h) o.device
-place_at h o s n x at named f = f.places n ∙ (ap (λ (y : Job). place_named (infos_of h) y.device) (get_or_from_slice_get h.jobs n x o at) ∙ ap (place_named (infos_of h)) named)
+place_at h o s n x at named f = f.places n ∙ (ap (λ (y : Job). place_named (infos_of h) y.device) (get_or_from_slice_get h.jobs n x (elsewhere h.devices o) at) ∙ ap (place_named (infos_of h)) named)
 
 default_same : (jobs : List Job) (n : ℕ) (o x : Job) → x.device ≡ o.device → (slice_index_or jobs n o).device ≡ (slice_index_or jobs n x).device
 default_same [] n o x e = sym e
@@ -77,20 +82,23 @@ default_same (job ∷ jobs) zero o x e = refl
 default_same (job ∷ jobs) (suc n) o x e = default_same jobs n o x e
 
 fine_for : (h : History) (o x : Job) (s : SystemState) → x.device ≡ o.device → Fine h o s → Fine h x s
-fine_for h o x s e f = record { makes = f.makes; places = λ n. f.places n ∙ ap (place_named (infos_of h)) (default_same h.jobs n o x e); slots = f.slots }
+fine_for h o x s e f = record { makes = f.makes; places = λ n. f.places n ∙ ap (place_named (infos_of h)) (default_same h.jobs n (elsewhere h.devices o) (elsewhere h.devices x) (same_elsewhere h.devices x o)); slots = f.slots }
 
 front_of : (h : History) (w : WorldCore) (o : Job) (s : SystemState) (a : ℕ) (x : Action) → IsAnswer x → IsUnderWay (s.job a).client.stage → AnsweredSo h w o s (By a x) → Front h w o s a
 front_of h w o s a x answer on so = (answer.1, (subst (λ (y : Action). AnsweredSo h w o s (By a y)) answer.2 so) on)
 
 -- who holds it names it
-who_holds : Below → (h : History) (w : WorldCore) (o : Job) (s : SystemState) (n m : ℕ) → Fine h o s → wanted_place s n ≡ place_named (infos_of h) o.device → Front h w o s n → (device_for s n).holder ≡ Some m → (x : Job) × (slice_get h.jobs m ≡ Some x) × (x.device ≡ o.device)
-who_holds below h w o s n m f place a held =
+who_holds : Below → (h : History) (w : WorldCore) (o : Job) (s : SystemState) (n m : ℕ) → HasNoActs h → Fine h o s → wanted_place s n ≡ place_named (infos_of h) o.device → Front h w o s n → (device_for s n).holder ≡ Some m → (x : Job) × (slice_get h.jobs m ≡ Some x) × (x.device ≡ o.device)
+who_holds below h w o s n m quiet f place a held =
     let d = place_named (infos_of h) o.device in
     let there : HasDevice h d = subst (HasDevice h) place ((f.slots (wanted_place s n)).held m held) in
     let name : name_at (infos_of h) d ≡ Some o.device = name_there h.devices d there.0 there.1 ∙ ap (λ (x : List ℕ). Some x) (name_of h o.device there.0 there.1) in
     let named : name_at a.1.ghost.infos (wanted_place s n) ≡ Some o.device = subst (λ (k : ℕ). name_at a.1.ghost.infos k ≡ Some o.device) (sym place) (subst (λ (infos : _). name_at infos d ≡ Some o.device) (sym (infos_there h w o s n a)) name) in
-    let r = holder_has a.1.ghost a.1.at.before (wanted_place s n) m o.device a.1.stands a.1.alone (ap (λ (u : SystemState). (u.device (wanted_place s n)).holder) a.1.state ∙ held) named in
-    has_own below (history_up_to h a.1.at.front) a.1.at.before o a.1.at.led_before m o.device r.0 r.1
+    let front = no_acts_front h a.1.at.front (OfJobs (ToDaemon n a.1.n) ∷ a.1.at.back) a.1.at.split quiet in
+    elim (holder_has a.1.ghost a.1.at.before (wanted_place s n) m o.device a.1.stands (ap (λ (u : SystemState). (u.device (wanted_place s n)).holder) a.1.state ∙ held) named) [
+      | inl r ↦ has_own below (history_up_to h a.1.at.front) a.1.at.before o a.1.at.led_before m o.device r.0 r.1
+      | inr x ↦ absurd (none_shared below (history_up_to h a.1.at.front) a.1.at.before o front a.1.at.led_before o.device x)
+    ]
 
 -- ---- a job that met that another had its device, and may be told so, or was
 
@@ -232,7 +240,7 @@ hit_back h w o s a b ja jb x pair st bes sound hit = by_stage (s.job a).client.s
     held on (inr m) = inl (hit_under (s.job a).session.met (s.job a).client.stage on m)
     held on (inl (answer, opens, (m, holder, not_own))) =
         let place = place_at h o s a ja pair.a_at pair.a_named st.fine in
-        let own = who_holds st.below h w o s a m st.fine place (front_of h w o s a x answer on st.answers) holder in
+        let own = who_holds st.below h w o s a m pair.undisturbed st.fine place (front_of h w o s a x answer on st.answers) holder in
         let same : m ≡ b = elim (pair.only m own.0 own.1 own.2) [
           | inl is ↦ absurd (not_own is)
           | inr is ↦ is
@@ -343,7 +351,7 @@ ended_hit u w i p h at is =
     subst (HitBy me.session.met) (sym stage) (refl, refl)
 
 own_first : (h : History) (w : WorldCore) (o : Job) (l : LedTo h w) (n : ℕ) (x : Job) → slice_get h.jobs n ≡ Some x → ((at_first h w o l).system.job n).session.job ≡ abstract_job h.users (infos_of h) x
-own_first h w o l n x at = ap (λ (users : List Entry). abstract_job users (infos_of h) (slice_index_or h.jobs n o)) l.users_are ∙ ap (λ (y : Job). abstract_job h.users (infos_of h) y) (get_or_from_slice_get h.jobs n x o at)
+own_first h w o l n x at = ap (λ (users : List Entry). abstract_job users (infos_of h) (slice_index_or h.jobs n (elsewhere h.devices o))) l.users_are ∙ ap (λ (y : Job). abstract_job h.users (infos_of h) y) (get_or_from_slice_get h.jobs n x (elsewhere h.devices o) at)
 
 pub not_both : (below : Below) (h : History) (w : WorldCore) (i j : ℕ) (o other : Job) (p q : Endpoint) → LedTo h w → Pair h o i j o other → slice_get w.endpoints i ≡ Some p → slice_get w.endpoints j ≡ Some q → p.client.outcome ≡ outcomes.Ended codes.DeviceBusy whys.Answer → q.client.outcome ≡ outcomes.Ended codes.DeviceBusy whys.Answer → ⊥
 not_both below h w i j o other p q l pair at there first second =

@@ -38,10 +38,11 @@ use Rattle.event_world.specs.JobEvents.{FeedsPiece, delivered_bytes, after_fed, 
 use Rattle.event_world.specs.Worlds.{AtEndpoint, Runs, WorldCore}
 use Rattle.event_world.proofs.Deciding.{can_or_not}
 use Rattle.world_refines.specs.GhostStates.{Ghost}
-use Rattle.world_refines.specs.MainTheorem.{AllIsKept}
 use Rattle.world_refines.specs.WorldRefinement.{IsServed, WorldRefines, session_by, slot_of_link}
 use Rattle.world_refines.specs.Wires.{SpellsAsked}
 use Rattle.world_refines.proofs.requests.RequestDeliveries.{cut_piece}
+use Rattle.strangers.specs.Together.{AllIsKeptAmongStrangers}
+use Rattle.strangers.specs.Together.JointEvent.{OfJobs}
 use Rattle.scan_world.specs.Histories.{History, LedTo, and_then, history_up_to}
 use Rattle.scan_world.specs.Calls.{PageStays, StartsOnFirst}
 use Rattle.scan_world.proofs.Scanned.{kept_by}
@@ -202,17 +203,17 @@ asked_page t u w v i n name a b h g at x y busy =
     let had = by_goes u w v i name a b g x m.0 now y busy (delivered t w v i n p m.0 x.at.id x.session h x.at.is_there x.at.linked x.at.stands went) in
     had.2 ∙ ap page_of (sym (one_lease t w i name a had.0 h x had.1).0)
 
-by_jobs : AllIsKept → (h : History) (w v : WorldCore) (i n : ℕ) (name : List ℕ) (a b : DeviceState) (l : LedTo h w) → LedTo (history_up_to h (h.events ++ events.ToDaemon i n ∷ [])) v → AtEndpoint w i (ToDaemon n) v → Has w i name a → Has v i name b → is_at_rest b.phase ≡ false → (jobs : List Job) → h.jobs ≡ jobs → page_of b ≡ page_of a
+by_jobs : AllIsKeptAmongStrangers → (h : History) (w v : WorldCore) (i n : ℕ) (name : List ℕ) (a b : DeviceState) (l : LedTo h w) → LedTo (history_up_to h (h.events ++ OfJobs (events.ToDaemon i n) ∷ [])) v → AtEndpoint w i (ToDaemon n) v → Has w i name a → Has v i name b → is_at_rest b.phase ≡ false → (jobs : List Job) → h.jobs ≡ jobs → page_of b ≡ page_of a
 by_jobs all h w v i n name a b l lv at x y busy [] is = absurd (let clash : None ≡ Some x.at.endpoint = ap (λ (ps : List Endpoint). slice_get ps i) (sym (no_endpoints h w l is)) ∙ x.at.is_there in cc)
 by_jobs all h w v i n name a b l lv at x y busy (job ∷ jobs) is =
     let k = kept_by all h w job l in
-    let m = kept_by all (history_up_to h (h.events ++ events.ToDaemon i n ∷ [])) v job lv in
+    let m = kept_by all (history_up_to h (h.events ++ OfJobs (events.ToDaemon i n) ∷ [])) v job lv in
     asked_page k.run.ghost_then m.run.ghost_then w v i n name a b k.run.stands m.run.stands at x y busy
 
-asked_stays : AllIsKept → (h : History) (w v : WorldCore) (i n : ℕ) (name : List ℕ) (a b : DeviceState) → LedTo h w → LedTo (history_up_to h (h.events ++ events.ToDaemon i n ∷ [])) v → Runs source_state (events.ToDaemon i n ∷ []) w v → Has w i name a → Has v i name b → is_at_rest b.phase ≡ false → page_of b ≡ page_of a
+asked_stays : AllIsKeptAmongStrangers → (h : History) (w v : WorldCore) (i n : ℕ) (name : List ℕ) (a b : DeviceState) → LedTo h w → LedTo (history_up_to h (h.events ++ OfJobs (events.ToDaemon i n) ∷ [])) v → Runs source_state (events.ToDaemon i n ∷ []) w v → Has w i name a → Has v i name b → is_at_rest b.phase ≡ false → page_of b ≡ page_of a
 asked_stays all h w v i n name a b l lv run x y busy = by_jobs all h w v i n name a b l lv (subst (AtEndpoint w i (ToDaemon n)) (sym run.2) run.1) x y busy h.jobs refl
 
-pub starts_on_first : AllIsKept → (h : History) (es : List Event) (w v : WorldCore) → LedTo h w → LedTo (and_then h es) v → Runs source_state es w v → StartsOnFirst es w v
+pub starts_on_first : AllIsKeptAmongStrangers → (h : History) (es : List Event) (w v : WorldCore) → LedTo h w → LedTo (and_then h es) v → Runs source_state es w v → StartsOnFirst es w v
 starts_on_first all h es w v l lv run i n name a b are x y busy =
     asked_stays all h w v i n name a b l (subst (λ (xs : List Event). LedTo (and_then h xs) v) are lv) (subst (λ (xs : List Event). Runs source_state xs w v) are run) x y busy
 
@@ -224,7 +225,7 @@ asks_or_not (events.ToDaemon j m) i = elim (decide j i) [
 ]
 asks_or_not e i = inr (λ n is. (let clash : e ≡ events.ToDaemon i n = is in cc))
 
-pub page_stays : AllIsKept → (h : History) (es : List Event) (w v : WorldCore) → LedTo h w → LedTo (and_then h es) v → Runs source_state es w v → PageStays es w v
+pub page_stays : AllIsKeptAmongStrangers → (h : History) (es : List Event) (w v : WorldCore) → LedTo h w → LedTo (and_then h es) v → Runs source_state es w v → PageStays es w v
 page_stays all h es w v l lv run i name a b e are x y was busy =
     let led : LedTo (and_then h (e ∷ [])) v = subst (λ (xs : List Event). LedTo (and_then h xs) v) are lv in
     let ran : Runs source_state (e ∷ []) w v = subst (λ (xs : List Event). Runs source_state xs w v) are run in

@@ -37,7 +37,9 @@ use Rattle.world_refines.specs.WorldPromises.{IsMeant, IsOutcome, KeepsPromise}
 use Rattle.world_refines.specs.WorldRefinement.{KeepsFiles, WorldRefines, is_laid}
 use Rattle.world_refines.proofs.frames.Paged.{woken_pages}
 use Rattle.world_refines.proofs.promise_proofs.Counted.{pages_count}
-use Rattle.world_refines.proofs.job_events.Constant.{Fixed, all_fixed, makes_stay}
+use Rattle.world_refines.proofs.job_events.Constant.{Fixed, makes_stay}
+use Rattle.strangers.specs.Together.{JointEvent, events_among}
+use Rattle.strangers.specs.Together.JointEvent.{OfJobs}
 use Rattle.scan_world.specs.Endings.{HadNoPage}
 use Rattle.scan_world.specs.Histories.{History, LedTo, history_up_to}
 use Rattle.scan_world.specs.Laws.{Below}
@@ -45,6 +47,8 @@ use Rattle.scan_world.specs.Page.{CameFor, StartedOn}
 use Rattle.scan_world.proofs.Begun.{wants_all}
 use Rattle.scan_world.proofs.Changing.{changing_in}
 use Rattle.scan_world.proofs.Ended.{FailuresCame, comes_by, comes_there, failures_changing, failures_more, fine_first, first_by, first_here, laws_of, make_by, of_changing, steps_by, steps_of_changing, steps_of_one}
+use Rattle.scan_world.proofs.Elsewhere.{elsewhere}
+use Rattle.scan_world.proofs.Joint.{all_fixed_by, events_in}
 use Rattle.scan_world.proofs.Jobs.{IsJob}
 use Rattle.scan_world.proofs.Lists.{In, contains_at, contains_in}
 use Rattle.scan_world.proofs.Nearest.{nearest_for}
@@ -59,7 +63,7 @@ use Rattle.scan_world.proofs.moments.Finished.{mapped_length}
 -- ---- the job of these steps, and its device
 
 pub job_of : (h : History) (w : WorldCore) (job : Job) (l : LedTo h w) (sources : ℕ → PageSources) (k : Comes h w job (changing_in h w l) (ghost_by h w job l sources)) (i : ℕ) → slice_get h.jobs i ≡ Some job → k.ghost_then.jobs i ≡ job
-job_of h w job l sources k i at = ap (λ (f : Fixed). f.3 i) (all_fixed source_state (changing_in h w l) (ghost_by h w job l sources) k.steps k.ghost_then k.comes) ∙ get_or_from_slice_get h.jobs i job job at
+job_of h w job l sources k i at = ap (λ (f : Fixed). f.3 i) (all_fixed_by (changing_in h w l) (ghost_by h w job l sources) k.steps k.ghost_then k.comes) ∙ get_or_from_slice_get h.jobs i job (elsewhere h.devices job) at
 
 make_of_it : (h : History) (w : WorldCore) (job : Job) (l : LedTo h w) (sources : ℕ → PageSources) (k : Comes h w job (changing_in h w l) (ghost_by h w job l sources)) (i : ℕ) → slice_get h.jobs i ≡ Some job → make_for k.ghost_then.system i ≡ make_by h sources (place_named (infos_of h) job.device)
 make_of_it h w job l sources k i at =
@@ -77,7 +81,7 @@ meant_then h w i job l sources k begin file at m =
 
 pub record SteadyRun (h : History) (w : WorldCore) (job : Job) (l : LedTo h w) : Type 0 where
   pub first : (device : DeviceState) → Contains h.devices device → device.info.name ≡ job.device → (held : HeldPage) → Contains device.pages held → held.steady ≡ true
-  pub later : (source : Source) → In (Load job.device source) (changing_in h w l) → (held_from (source_state source)).steady ≡ true
+  pub later : (source : Source) → In (OfJobs (Load job.device source)) (changing_in h w l) → (held_from (source_state source)).steady ≡ true
 
 -- the sources of its device are, and of the others nothing is known
 abbrev steady_at : (h : History) (w : WorldCore) → Job → LedTo h w → ℕ → PageSources
@@ -101,7 +105,7 @@ steady_first h w job l s k device at =
     let here : slice_get h.devices place ≡ Some device = ap (slice_get h.devices) (sym (eqb-true k place e)) ∙ at in
     s.first device (contains_at h.devices k device at) (name_of h job.device device here) held (contains_in device.pages held among))
 
-steady_event : (h : History) (w : WorldCore) (job : Job) (l : LedTo h w) → SteadyRun h w job l → (e : Event) → In e (changing_in h w l) → IsFittingLoad source_state (infos_of h) (make_by h (steady_at h w job l)) e
+steady_event : (h : History) (w : WorldCore) (job : Job) (l : LedTo h w) → SteadyRun h w job l → (e : Event) → In e (events_among (changing_in h w l)) → IsFittingLoad source_state (infos_of h) (make_by h (steady_at h w job l)) e
 steady_event h w job l s (Connect j) among = tt
 steady_event h w job l s (ToDaemon j n) among = tt
 steady_event h w job l s (ToClient j n) among = tt
@@ -125,11 +129,11 @@ steady_event h w job l s (Load name source) among = λ k named.
           let there : name_at (infos_of h) place ≡ Some name = subst (λ (n : ℕ). name_at (infos_of h) n ≡ Some name) here named in
           let d = named_at h.devices place name there in
           let own_name : name ≡ job.device = sym d.2 ∙ name_of h job.device d.0 d.1 in
-          s.later source (subst (λ (x : List ℕ). In (Load x source) (changing_in h w l)) own_name among);
+          s.later source (subst (λ (x : List ℕ). In (OfJobs (Load x source)) (changing_in h w l)) own_name (events_in (changing_in h w l) (Load name source) among));
     }
 
 steady_steps : (below : Below) (h : History) (w : WorldCore) (job : Job) (l : LedTo h w) → SteadyRun h w job l → Comes h w job (changing_in h w l) (ghost_by h w job l (steady_at h w job l))
-steady_steps below h w job l s = comes_by below h w job l (steady_at h w job l) (steady_first h w job l s) (each_fits (infos_of h) (make_by h (steady_at h w job l)) (changing_in h w l) (steady_event h w job l s))
+steady_steps below h w job l s = comes_by below h w job l (steady_at h w job l) (steady_first h w job l s) (each_fits (infos_of h) (make_by h (steady_at h w job l)) (events_among (changing_in h w l)) (steady_event h w job l s))
 
 steady_fails : (h : History) (w : WorldCore) (job : Job) (l : LedTo h w) → FailuresCame h (of_changing h w l) (steady_at h w job l)
 steady_fails h w job l d able device at = failures_changing h w l d able device at
@@ -193,7 +197,7 @@ one_page u w i job p reports h done at own scan =
 
 -- ---- a file that is meant
 
-pub is_scan : (h : History) (w : WorldCore) (changing : List Event) (i : ℕ) (job : Job) (sources : ℕ → PageSources) (count : ℕ) (begin : Begin) (file : List ℕ) → StartFact h w changing i job count begin → IsMeant (make_by h sources (place_named (infos_of h) job.device)) job.settings.items begin file → IsScanEver h w changing i job count file
+pub is_scan : (h : History) (w : WorldCore) (changing : List JointEvent) (i : ℕ) (job : Job) (sources : ℕ → PageSources) (count : ℕ) (begin : Begin) (file : List ℕ) → StartFact h w changing i job count begin → IsMeant (make_by h sources (place_named (infos_of h) job.device)) job.settings.items begin file → IsScanEver h w changing i job count file
 is_scan h w changing i job sources count begin file fact meant =
     let there = fact.begun in
     let device = there.0.0 in

@@ -8,8 +8,9 @@ use Rattle.event_world.specs.declared.endpoint.Endpoint.{Endpoint}
 use Rattle.event_world.specs.declared.event.Event.{Event}
 use Rattle.event_world.specs.declared.event.Event.TheVariants.{Connect, ToDaemon, ToClient, DataConnect, DataTurn, DataToClient, LoseControl, LoseImage, Cancel, Load, Unplug}
 use Rattle.event_world.specs.declared.event.JobEvent.{JobEvent}
-use Rattle.event_world.specs.Worlds.{AreNew, AtEndpoint, Leads, Runs, WorldCore}
-use Rattle.world_refines.specs.MainTheorem.{AllIsKept}
+use Rattle.event_world.specs.Worlds.{AreNew, AtEndpoint, Leads, WorldCore}
+use Rattle.strangers.specs.Together.{AllIsKeptAmongStrangers, JointEvent, RunsAmong}
+use Rattle.strangers.specs.Together.JointEvent.{OfJobs, OfStranger}
 use Rattle.scan_world.specs.Histories.{History, LedTo}
 use Rattle.scan_world.proofs.Scanned.{kept_by}
 use Rattle.scan_world.specs.Calls.{OneHolder}
@@ -34,9 +35,10 @@ empty_then (Cancel i) w u a none = nowhere i _ w u a none
 empty_then (Load name source) w u a none = ap (λ (y : WorldCore). y.endpoints) a ∙ none
 empty_then (Unplug name) w u a none = ap (λ (y : WorldCore). y.endpoints) a ∙ none
 
-empty_all : (es : List Event) (w v : WorldCore) → Runs source_state es w v → w.endpoints ≡ [] → v.endpoints ≡ []
+empty_all : (es : List JointEvent) (w v : WorldCore) → RunsAmong source_state es w v → w.endpoints ≡ [] → v.endpoints ≡ []
 empty_all [] w v run none = ap (λ (y : WorldCore). y.endpoints) run ∙ none
-empty_all (e ∷ es) w v (u, leads, rest) none = empty_all es u v rest (empty_then e w u leads none)
+empty_all (OfJobs e ∷ es) w v (u, leads, rest) none = empty_all es u v rest (empty_then e w u leads none)
+empty_all (OfStranger a ∷ es) w v (u, acts, rest) none = empty_all es u v rest (acts.rest ∙ none)
 
 none_new : (endpoints : List Endpoint) → AreNew [] endpoints → endpoints ≡ []
 none_new [] new = refl
@@ -47,7 +49,7 @@ no_endpoints h v l is = empty_all h.events l.first v l.runs (none_new l.first.en
 
 -- ---- one holder
 
-by_jobs : AllIsKept → (h : History) (v : WorldCore) (l : LedTo h v) (jobs : List Job) → h.jobs ≡ jobs → (i j : ℕ) (name : List ℕ) (a b : DeviceState) → Has v i name a → Has v j name b → i ≡ j
+by_jobs : AllIsKeptAmongStrangers → (h : History) (v : WorldCore) (l : LedTo h v) (jobs : List Job) → h.jobs ≡ jobs → (i j : ℕ) (name : List ℕ) (a b : DeviceState) → Has v i name a → Has v j name b → i ≡ j
 by_jobs all h v l [] is i j name a b x y =
     let none : v.endpoints ≡ [] = no_endpoints h v l is in
     absurd (let clash : None ≡ Some x.at.endpoint = ap (λ (ps : List Endpoint). slice_get ps i) (sym none) ∙ x.at.is_there in cc)
@@ -55,5 +57,5 @@ by_jobs all h v l (job ∷ jobs) is i j name a b x y =
     let k = kept_by all h v job l in
     one_has k.run.ghost_then v i j name a b k.run.stands x y
 
-pub one_holder : AllIsKept → (h : History) (v : WorldCore) → LedTo h v → OneHolder v
+pub one_holder : AllIsKeptAmongStrangers → (h : History) (v : WorldCore) → LedTo h v → OneHolder v
 one_holder all h v l i j name a b x y = by_jobs all h v l h.jobs refl i j name a b x y

@@ -19,10 +19,11 @@ use Rattle.event_world.specs.declared.event.JobEvent.TheVariants.{LoseImage}
 use Rattle.event_world.specs.JobEvents.{IfLinked}
 use Rattle.event_world.specs.Worlds.{AtEndpoint, Runs, WorldCore}
 use Rattle.world_refines.specs.GhostStates.{Ghost, place_of_info}
-use Rattle.world_refines.specs.MainTheorem.{AllIsKept, AreTrueLoads}
+use Rattle.world_refines.specs.MainTheorem.{AreTrueLoads}
 use Rattle.world_refines.specs.WorldPromises.{IsOutcome}
 use Rattle.world_refines.specs.WorldRefinement.{WorldRefines, image_bytes}
 use Rattle.world_refines.proofs.frames.Unimaged.{image_counts}
+use Rattle.strangers.specs.Together.{AllIsKeptAmongStrangers}
 use Rattle.scan_world.specs.Calls.{ImageLossEnds, outcome_at}
 use Rattle.scan_world.specs.Histories.{History, LedTo, and_then}
 use Rattle.scan_world.specs.Sessions.{CanAt}
@@ -53,7 +54,7 @@ image_by w v i p at counts a image link =
     lost_by p.link _ (h.1.does (image, link)) (λ k it.
     ap (option_map (λ (q : Endpoint). q.client.outcome)) now ∙ (ap (λ (q : Endpoint). Some q.client.outcome) it.1 ∙ ap (λ (o : Outcome). Some o) (lost_runs (is_lost_by links.Image p.client.outcome p.client.progress) p.client counts)))
 
-by_jobs : AllIsKept → (h : History) (w v : WorldCore) (i : ℕ) (l : LedTo h w) → outcome_at w i ≡ Some Running → (can : CanAt w i LoseImage) → AtEndpoint w i LoseImage v → (jobs : List Job) → h.jobs ≡ jobs → outcome_at v i ≡ Some (Ended IoError whys.Lost)
+by_jobs : AllIsKeptAmongStrangers → (h : History) (w v : WorldCore) (i : ℕ) (l : LedTo h w) → outcome_at w i ≡ Some Running → (can : CanAt w i LoseImage) → AtEndpoint w i LoseImage v → (jobs : List Job) → h.jobs ≡ jobs → outcome_at v i ≡ Some (Ended IoError whys.Lost)
 by_jobs all h w v i l runs can a [] is = absurd (let clash : None ≡ Some can.0 = ap (λ (ps : List Endpoint). slice_get ps i) (sym (no_endpoints h w l is)) ∙ can.1 in cc)
 by_jobs all h w v i l runs can a (job ∷ jobs) is =
     let k = kept_by all h w job l in
@@ -62,7 +63,7 @@ by_jobs all h w v i l runs can a (job ∷ jobs) is =
     let on : IsUnderWay (u.system.job i).client.stage = subst (IsOutcome u i) ran (k.promises.outcomes i can.0 can.1) in
     image_by w v i can.0 can.1 (counts_there u w i can.0 k.run.stands can.1 on can.2.0) a can.2.0 can.2.1
 
-pub image_loss_ends : AllIsKept → (h : History) (es : List Event) (w v : WorldCore) → LedTo h w → AreTrueLoads source_state es → Runs source_state es w v → ImageLossEnds es w v
+pub image_loss_ends : AllIsKeptAmongStrangers → (h : History) (es : List Event) (w v : WorldCore) → LedTo h w → AreTrueLoads source_state es → Runs source_state es w v → ImageLossEnds es w v
 image_loss_ends all h es w v l loads run i front back split =
     let s = runs_split front (events.LoseImage i ∷ back) w v (subst (λ (xs : List Event). Runs source_state xs w v) split run) in
     let led = led_then h front w s.0 l (loads_front front (events.LoseImage i ∷ back) (subst (AreTrueLoads source_state) split loads)) s.1 in

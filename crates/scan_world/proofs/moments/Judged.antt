@@ -1,8 +1,8 @@
 -- What each cause that a job met comes from, of the world in front of its event; and so why a job ended.
-use Rattle.std.specs.Prelude.{eqb, length, map, slice_get, Contains}
+use Rattle.std.specs.Prelude.{◌<◌, eqb, length, map, slice_get, Contains}
 use Rattle.std.specs.List.{AllByRecursion}
 use Rattle.std.proofs.Common.{◌≡◌, ◌∙◌, ◌⊎◌, ◌≢◌, ℕ, List, [], ◌∷◌, ◌++◌, Bool, true, false, Option, Some, None, inl, inr, refl, sym, ap, subst, eqb-true}
-use Rattle.std.proofs.lemmas.Option.{get_or_from_slice_get}
+use Rattle.std.proofs.lemmas.Option.{get_or_from_slice_get, slice_get_within}
 use Rattle.scan_job.specs.declared.outcome.Why.{Why}
 use Rattle.sane_fixed.specs.declared.status.Status.{Status}
 use Rattle.sane_fixed.specs.declared.status.Status.TheVariants.{Eof}
@@ -33,7 +33,7 @@ use Rattle.system_model.specs.Invariants.{IsCaused, StageInvariant}
 use Rattle.system_model.specs.ModelPromises.{CausesAreGrounded}
 use Rattle.system_model.specs.SystemStates.{JobState, SystemState, listed_devices, make_for, device_for, wanted_place}
 use Rattle.system_model.specs.Transitions.{By, IsActionEnabled, IsHistory, IsEnabled, IsUnderWay, Loads, Transition, Unplugs, Uses, after_transition, after_all}
-use Rattle.event_world.specs.declared.event.Event.{Event}
+use Rattle.event_world.specs.declared.endpoint.Endpoint.{Endpoint}
 use Rattle.event_world.specs.declared.event.Event.TheVariants.{Cancel, DataTurn}
 use Rattle.event_world.specs.Worlds.{WorldCore}
 use Rattle.daemon_refines.specs.ContextRefinement.{abstract_device}
@@ -41,11 +41,12 @@ use Rattle.world_refines.specs.FailedSources.{AllAlong, FailedIn}
 use Rattle.world_refines.specs.NewWorlds.{make_of}
 use Rattle.world_refines.specs.GhostStates.{backend_of, is_allowed_for, name_at, place_named}
 use Rattle.world_refines.proofs.job_events.Constant.{Fixed}
+use Rattle.strangers.specs.Together.{JointEvent}
 use Rattle.scan_world.specs.Calls.{HadUnsaidReply}
 use Rattle.scan_world.specs.Endings.{HadNoPage, HasPassed}
-use Rattle.scan_world.specs.Histories.{History, history_up_to}
+use Rattle.scan_world.specs.Histories.{HasEvent, History, history_up_to}
 use Rattle.scan_world.specs.Page.{CameFor}
-use Rattle.scan_world.specs.Sessions.{Asked, Happened, Has, IsAtOpen, IsAtStart}
+use Rattle.scan_world.specs.Sessions.{Asked, Happened, Has, IsAtOpen, IsAtStart, StrangerHas}
 use Rattle.scan_world.proofs.Along.{Fine, Here, IsTold, Laws, NotForced, Own, fine_then, own_place, settled_by, told_by}
 use Rattle.scan_world.proofs.Asked.{AsksGuarded, asks_then}
 use Rattle.scan_world.proofs.Begun.{job_same, party_stays}
@@ -56,12 +57,14 @@ use Rattle.scan_world.proofs.NoPictures.{IsSet, no_meaning, starting, starting_s
 use Rattle.scan_world.proofs.Options.{streaming}
 use Rattle.scan_world.proofs.Rows as rows
 use Rattle.scan_world.proofs.Rows.{HasFinished, WaitsAt}
-use Rattle.scan_world.proofs.Pages.{HasDevice, IsOfDevice, IsOfOne, name_there}
+use Rattle.scan_world.proofs.Elsewhere.{elsewhere}
+use Rattle.scan_world.proofs.Jobs.{item_there}
+use Rattle.scan_world.proofs.Pages.{HasDevice, IsOfDevice, IsOfOne, acts_by, name_there}
 use Rattle.scan_world.proofs.Scanned.{infos_of, name_of}
 use Rattle.scan_world.proofs.moments.Entries.{linked_by, own_party}
 use Rattle.scan_world.proofs.moments.Moments.{AnsweredSo, AnswersAt, HappenedSo}
 use Rattle.scan_world.proofs.moments.Requests.{IsOpening}
-use Rattle.scan_world.proofs.moments.Stands.{awaits_there, holder_has, unlisted_none}
+use Rattle.scan_world.proofs.moments.Stands.{HasIt, awaits_there, holder_has, job_has, unlisted_none}
 use Rattle.scan_world.proofs.moments.Tray.{empty_there, first_rests, page_there, rests_there, starts_ready}
 use Rattle.scan_world.proofs.Sources.{CanFail, fallible_of_make}
 use Rattle.scan_world.proofs.moments.Finished.{as_many, count_at}
@@ -73,8 +76,8 @@ use Rattle.scan_world.proofs.moments.Waiting.{WaitsFor, waits_there}
 abbrev pub IsNamed : History → WorldCore → ℕ → Job → Status → Type 0
 IsNamed h w i job status = Happened h w i (DataTurn i) × (scans job.task ≡ true) × IsTold h job status
 
-abbrev pub Evid : History → WorldCore → List Event → ℕ → Job → Cause → Type 0
-Evid h w changing i job GaveUp = Contains h.events (Cancel i)
+abbrev pub Evid : History → WorldCore → List JointEvent → ℕ → Job → Cause → Type 0
+Evid h w changing i job GaveUp = HasEvent h (Cancel i)
 Evid h w changing i job LinkLost = rows.WasLost h w i
 Evid h w changing i job LinkOutOfMemory = Unit {0}
 Evid h w changing i job WasUnsaid = HadUnsaidReply h w i job
@@ -142,21 +145,37 @@ asked_open h w i job s on a o = asked_there h w i job s IsAtOpen o.0 o.1 on a o.
 abbrev pub asked_start : (h : History) (w : WorldCore) (i : ℕ) (job : Job) (s : SystemState) → IsUnderWay (s.job i).client.stage → (a : Front h w job s i) → (rest : List AbstractRequest) → (s.job i).todo ≡ Start ∷ rest → Asked h w i IsAtStart
 asked_start h w i job s on a rest todo = asked_there h w i job s IsAtStart Start rest on a todo refl
 
--- whoever holds the device that the job names has it
-pub has_there : (h : History) (w : WorldCore) (i : ℕ) (job : Job) (s : SystemState) (j : ℕ) → Own h i job → Fine h job s → (a : Front h w job s i) → (device_for s i).holder ≡ Some j → (d : DeviceState) × Has a.1.at.before j job.device d × (device_for s i ≡ abstract_device (Some j) d) × IsInScan d
-has_there h w i job s j o f a held =
+-- the place that the job names has that name, where somebody holds its device
+named_there : (h : History) (w : WorldCore) (i : ℕ) (job : Job) (s : SystemState) (j : ℕ) → Own h i job → Fine h job s → (a : Front h w job s i) → (device_for s i).holder ≡ Some j → name_at a.1.ghost.infos (wanted_place s i) ≡ Some job.device
+named_there h w i job s j o f a held =
     let d = place_named (infos_of h) job.device in
     let place : wanted_place s i ≡ d = f.places i ∙ own_place h i job o.at in
     let there : HasDevice h d = subst (HasDevice h) place ((f.slots (wanted_place s i)).held j held) in
     let name : name_at (infos_of h) d ≡ Some job.device = name_there h.devices d there.0 there.1 ∙ ap (λ (n : List ℕ). Some n) (name_of h job.device there.0 there.1) in
-    let named : name_at a.1.ghost.infos (wanted_place s i) ≡ Some job.device = subst (λ (k : ℕ). name_at a.1.ghost.infos k ≡ Some job.device) (sym place) (subst (λ (infos : _). name_at infos d ≡ Some job.device) (sym (infos_there h w job s i a)) name) in
-    let r = holder_has a.1.ghost a.1.at.before (wanted_place s i) j job.device a.1.stands a.1.alone (ap (λ (u : SystemState). (u.device (wanted_place s i)).holder) a.1.state ∙ held) named in
+    subst (λ (k : ℕ). name_at a.1.ghost.infos k ≡ Some job.device) (sym place) (subst (λ (infos : _). name_at infos d ≡ Some job.device) (sym (infos_there h w job s i a)) name)
+
+-- the job has an endpoint there
+endpoint_at : (h : History) (w : WorldCore) (i : ℕ) (job : Job) (s : SystemState) → slice_get h.jobs i ≡ Some job → (a : Front h w job s i) → (p : Endpoint) × (slice_get a.1.at.before.endpoints i ≡ Some p)
+endpoint_at h w i job s at a =
+    let count : length h.jobs ≡ length a.1.at.before.endpoints = sym (ap (λ (f : Fixed). f.2) a.1.fixed) ∙ a.1.stands.is_of.count in
+    item_there a.1.at.before.endpoints i (subst (λ (n : ℕ). i < n) count (slice_get_within h.jobs i job at))
+
+-- where the job holds its device it has it
+pub has_there : (h : History) (w : WorldCore) (i : ℕ) (job : Job) (s : SystemState) → Own h i job → Fine h job s → (a : Front h w job s i) → (device_for s i).holder ≡ Some i → (d : DeviceState) × Has a.1.at.before i job.device d × (device_for s i ≡ abstract_device (Some i) d) × IsInScan d
+has_there h w i job s o f a held =
+    let named = named_there h w i job s i o f a held in
+    let p = endpoint_at h w i job s o.at a in
+    let r = job_has a.1.ghost a.1.at.before (wanted_place s i) i job.device p.0 p.1 a.1.stands (ap (λ (u : SystemState). (u.device (wanted_place s i)).holder) a.1.state ∙ held) named in
     (r.0, r.1, sym (ap (λ (u : SystemState). u.device (wanted_place s i)) a.1.state) ∙ r.2, r.3)
 
 held_by_other : (h : History) (w : WorldCore) (i : ℕ) (job : Job) (s : SystemState) (j : ℕ) → Here h i job s → IsUnderWay (s.job i).client.stage → Front h w job s i → Opens (s.job i) → (device_for s i).holder ≡ Some j → j ≢ i → rows.WasHeld h w i job
 held_by_other h w i job s j e on a opens held other =
-    let r = has_there h w i job s j e.own_job e.fine a held in
-    (asked_open h w i job s on a opens, j, r.0, other, r.1)
+    let named = named_there h w i job s j e.own_job e.fine a held in
+    (asked_open h w i job s on a opens, by_holder (holder_has a.1.ghost a.1.at.before (wanted_place s i) j job.device a.1.stands (ap (λ (u : SystemState). (u.device (wanted_place s i)).holder) a.1.state ∙ held) named))
+  where
+    by_holder : HasIt a.1.ghost a.1.at.before (wanted_place s i) j job.device ⊎ StrangerHas a.1.at.before job.device → ((k : ℕ) × (d : DeviceState) × (k ≢ i) × Has a.1.at.before k job.device d) ⊎ StrangerHas a.1.at.before job.device
+    by_holder (inl r) = inl (j, r.0, other, r.1)
+    by_holder (inr x) = inr x
 
 not_listed : (h : History) (w : WorldCore) (i : ℕ) (job : Job) (s : SystemState) → Here h i job s → IsUnderWay (s.job i).client.stage → Front h w job s i → Opens (s.job i) → (device_for s i).listed ≡ false → rows.WasUnlisted h w i job
 not_listed h w i job s e on a opens none =
@@ -217,13 +236,13 @@ none_begun (x ∷ xs) e = absurd (let clash : true ≡ false = e in cc)
 
 pub no_page : (h : History) (w : WorldCore) (i : ℕ) (job : Job) (s : SystemState) → Here h i job s → IsUnderWay (s.job i).client.stage → Front h w job s i → (rest : List AbstractRequest) → (s.job i).todo ≡ Start ∷ rest → (device_for s i).phase ≡ Resting → HasNone i (device_for s i) → HadNoPage h w i job (length (s.job i).client.pages)
 no_page h w i job s e on a rest todo rests held =
-    let r = has_there h w i job s i e.own_job e.fine a held.0 in
+    let r = has_there h w i job s e.own_job e.fine a held.0 in
     (starts_scan h i job s e on rest todo, asked_start h w i job s on a rest todo, finished_there h w i job s e on a rest todo rests, (r.0, r.1, rests_there (Some i) (device_for s i) r.0 rests r.2 r.3, held.1 r.0 r.2 r.3))
 
-no_meaning_there : (h : History) (w : WorldCore) (changing : List Event) (i : ℕ) (job : Job) (s : SystemState) → Here h i job s → Fine (history_up_to h changing) job s → IsUnderWay (s.job i).client.stage → (a : Front h w job s i) → (rest : List AbstractRequest) → (s.job i).todo ≡ Start ∷ rest → IsSet i (make_for s i) (s.job i).session (device_for s i) → (page : Page) (later : List Page) → (device_for s i).tray ≡ page ∷ later → picture_frames (make_for s i) (device_for s i).options page ≡ [] → (device_for s i).phase ≡ Resting → rows.HadNoPictureEver h w changing i job
+no_meaning_there : (h : History) (w : WorldCore) (changing : List JointEvent) (i : ℕ) (job : Job) (s : SystemState) → Here h i job s → Fine (history_up_to h changing) job s → IsUnderWay (s.job i).client.stage → (a : Front h w job s i) → (rest : List AbstractRequest) → (s.job i).todo ≡ Start ∷ rest → IsSet i (make_for s i) (s.job i).session (device_for s i) → (page : Page) (later : List Page) → (device_for s i).tray ≡ page ∷ later → picture_frames (make_for s i) (device_for s i).options page ≡ [] → (device_for s i).phase ≡ Resting → rows.HadNoPictureEver h w changing i job
 no_meaning_there h w changing i job s e f on a rest todo set page later tray none rests =
     let settled = settled_by h i job s e.own_job e.fine e.is set.0 set.1 in
-    let r = has_there h w i job s i e.own_job e.fine a set.0 in
+    let r = has_there h w i job s e.own_job e.fine a set.0 in
     let setup : (device_for s i).options ≡ r.0.setup = ap (λ (dev : AbstractDevice). dev.options) r.2 in
     let first = page_there (Some i) (device_for s i) r.0 page later rests tray r.2 r.3 in
     let came = (subst (AllByRecursion (IsOfDevice (history_up_to h changing) (wanted_place s i))) tray (f.slots (wanted_place s i)).pages).0 settled.0.device settled.2 in
@@ -241,7 +260,7 @@ no_meaning_there h w changing i job s e f on a rest todo set page later tray non
     }
 
 -- a page that can fail came for a device whose source may fail
-can_fail : (h : History) (changing : List Event) (i : ℕ) (job : Job) (s : SystemState) → Own h i job → Fine (history_up_to h changing) job s → (make_for s i).fallible ≡ true → (device_for s i).holder ≡ Some i → CanFail (history_up_to h changing) job.device
+can_fail : (h : History) (changing : List JointEvent) (i : ℕ) (job : Job) (s : SystemState) → Own h i job → Fine (history_up_to h changing) job s → (make_for s i).fallible ≡ true → (device_for s i).holder ≡ Some i → CanFail (history_up_to h changing) job.device
 can_fail h changing i job s o f able mine =
     let known = f.makes (wanted_place s i) in
     let b : known.sources.fallible ≡ true = sym (fallible_of_make known.sources (slice_get h.devices (wanted_place s i))) ∙ (ap (λ (k : Make). k.fallible) (sym known.is) ∙ able) in
@@ -249,14 +268,14 @@ can_fail h changing i job s o f able mine =
     let place : wanted_place s i ≡ place_named (infos_of h) job.device = f.places i ∙ own_place h i job o.at in
     subst (CanFail (history_up_to h changing)) (name_of h job.device there.0 (ap (slice_get h.devices) (sym place) ∙ there.1)) (known.fails b there.0 there.1)
 
-source_failed : (h : History) (w : WorldCore) (changing : List Event) (i : ℕ) (job : Job) (s : SystemState) (x : Action) → Here h i job s → Fine (history_up_to h changing) job s → (IsFailedAnswer x × Begins (s.job i)) ⊎ ((fault : FailureCounts) × (x ≡ Actions.TurnsFault fault)) → IsUnderWay (s.job i).client.stage → StepSo h w job s (By i x) → IsEnabled s (By i x) → slice_get h.jobs i ≡ Some job → rows.MayHaveFailed h w changing i job
+source_failed : (h : History) (w : WorldCore) (changing : List JointEvent) (i : ℕ) (job : Job) (s : SystemState) (x : Action) → Here h i job s → Fine (history_up_to h changing) job s → (IsFailedAnswer x × Begins (s.job i)) ⊎ ((fault : FailureCounts) × (x ≡ Actions.TurnsFault fault)) → IsUnderWay (s.job i).client.stage → StepSo h w job s (By i x) → IsEnabled s (By i x) → slice_get h.jobs i ≡ Some job → rows.MayHaveFailed h w changing i job
 source_failed h w changing i job s x e f (inl (a, begins)) on so may at =
     let m : AnswersAt h w job s i (Some a.1) = (subst (λ (y : Action). AnsweredSo h w job s (By i y)) a.2 so.0) on in
     let fails = (subst (λ (y : Action). IsEnabled s (By i y)) a.2 may).2.0 in
     let set = starting i (make_for s i) (s.job i) (device_for s i) (s.job i).client.stage begins.0 on (e.sound.exchanges i) begins.1 in (
       starts_scan h i job s e on begins.0 begins.1,
       can_fail h changing i job s e.own_job f fails set.0,
-      inl (asked_start h w i job s on (Some a.1, m) begins.0 begins.1, subst (λ (j : Job). FailedIn m.at.before m.at.behind.daemon i j.device) (get_or_from_slice_get h.jobs i job job at) m.failed),
+      inl (asked_start h w i job s on (Some a.1, m) begins.0 begins.1, subst (λ (j : Job). FailedIn m.at.before m.at.behind.daemon i j.device) (get_or_from_slice_get h.jobs i job (elsewhere h.devices job) at) m.failed),
     )
 source_failed h w changing i job s x e f (inr a) on so may at =
     let fault = happened_by h w job s i x (Actions.TurnsFault a.0) a.1 so on in
@@ -264,7 +283,7 @@ source_failed h w changing i job s x e f (inr a) on so may at =
     let streamed = streaming i (make_for s i) (s.job i) (device_for s i) (s.job i).client.stage on (e.sound.exchanges i) turns.3.0 in (
       scans_so job.task (subst (λ (j : RuledJob). Scans j.task) e.is streamed.1),
       can_fail h changing i job s e.own_job f turns.4.0 turns.3.1,
-      inr (fault.0, subst (λ (j : Job). FailedIn fault.0.0.before fault.0.0.behind.daemon i j.device) (get_or_from_slice_get h.jobs i job job at) fault.1, fault.2),
+      inr (fault.0, subst (λ (j : Job). FailedIn fault.0.0.before fault.0.0.behind.daemon i j.device) (get_or_from_slice_get h.jobs i job (elsewhere h.devices job) at) fault.1, fault.2),
     )
 
 served_by_step : (i : ℕ) (k : Make) (p : JobState) (dev : AbstractDevice) (x : Action) → IsAnswer x → IsActionEnabled i k p dev x → p.served ≡ true
@@ -275,11 +294,13 @@ named_by h w i job s status e on streams held reads turn =
     let streamed = streaming i (make_for s i) (s.job i) (device_for s i) (s.job i).client.stage on (e.sound.exchanges i) streams in
     (turn, scans_so job.task (subst (λ (j : RuledJob). Scans j.task) e.is streamed.1), told_by h i job s status e.own_job e.fine e.is held streamed.0 reads)
 
-evid : (h : History) (w : WorldCore) (changing : List Event) (i : ℕ) (job : Job) (s : SystemState) (x : Action) → Here h i job s → Fine (history_up_to h changing) job s → IsUnderWay (s.job i).client.stage → own_of h i x → StepSo h w job s (By i x) → IsEnabled s (By i x) → (c : Cause) → Comes i (make_for s i) (s.job i) (device_for s i) x c → Evid h w changing i job c
-evid h w changing i job s x e f on of so may GaveUp c = let o = of_action h i x Actions.Stops c of in stops_event (Contains h.events) (infos_of h) i o.event (contains_in h.events o.event o.among) o.is
+evid : (h : History) (w : WorldCore) (changing : List JointEvent) (i : ℕ) (job : Job) (s : SystemState) (x : Action) → Here h i job s → Fine (history_up_to h changing) job s → IsUnderWay (s.job i).client.stage → own_of h i x → StepSo h w job s (By i x) → IsEnabled s (By i x) → (c : Cause) → Comes i (make_for s i) (s.job i) (device_for s i) x c → Evid h w changing i job c
+evid h w changing i job s x e f on of so may GaveUp c = let o = of_action h i x Actions.Stops c of in
+    let b = acts_by (infos_of h) o.event i Actions.Stops o.is in
+    stops_event (HasEvent h) (infos_of h) i b.0 (subst (Contains h.events) b.1 (contains_in h.events o.event o.among)) b.2
 evid h w changing i job s x e f on of so may LinkLost c = link_lost h w job s i x on c so
 evid h w changing i job s x e f on of so may LinkOutOfMemory c = tt
-evid h w changing i job s x e f on of so may WasUnsaid c = subst (HadUnsaidReply h w i) (get_or_from_slice_get h.jobs i job job e.own_job.at) (happened_by h w job s i x (Actions.Breaks false) c so on)
+evid h w changing i job s x e f on of so may WasUnsaid c = subst (HadUnsaidReply h w i) (get_or_from_slice_get h.jobs i job (elsewhere h.devices job) e.own_job.at) (happened_by h w job s i x (Actions.Breaks false) c so on)
 evid h w changing i job s x e f on of so may SourceFailed c = source_failed h w changing i job s x e f c on so may e.own_job.at
 evid h w changing i job s x e f on of so may NamesEof c = named_by h w i job s Eof e on c.1 c.2 c.3 (happened_by h w job s i x Actions.TurnsShort c.0 so on)
 evid h w changing i job s x e f on of so may (Names status) c = named_by h w i job s status e on c.1 c.2 c.3 (happened_by h w job s i x (Actions.TurnsNamed status) c.0 so on)
@@ -300,25 +321,25 @@ evid h w changing i job s x e f on of so may ClientOutOfMemory c = happened_by h
 
 -- ---- what the job met
 
-abbrev pub EndedBy : History → WorldCore → List Event → ℕ → Job → List Cause → Status → Why → Type 0
+abbrev pub EndedBy : History → WorldCore → List JointEvent → ℕ → Job → List Cause → Status → Why → Type 0
 EndedBy h w changing i job met status why = ((c : Cause) × Evid h w changing i job c × IsCauseAmong c met × Explains c status why) ⊎ (NotForced h job × Explains Unforced status why)
 
 -- each cause that a job met that is under way is so, and an ending is by one of them
-abbrev pub Judged : History → WorldCore → List Event → ℕ → Job → List Cause → List (List Frame) → JobStage → Type 0
+abbrev pub Judged : History → WorldCore → List JointEvent → ℕ → Job → List Cause → List (List Frame) → JobStage → Type 0
 Judged h w changing i job met pages Idle = AllByRecursion (Evid h w changing i job) met
 Judged h w changing i job met pages (Running g) = AllByRecursion (Evid h w changing i job) met
 Judged h w changing i job met pages Done = Unit {0}
 Judged h w changing i job met pages (Ended status why) = EndedBy h w changing i job met status why
 
-abbrev pub JudgedAt : History → WorldCore → List Event → ℕ → Job → SystemState → Type 0
+abbrev pub JudgedAt : History → WorldCore → List JointEvent → ℕ → Job → SystemState → Type 0
 JudgedAt h w changing i job s = Judged h w changing i job (s.job i).session.met (s.job i).client.pages (s.job i).client.stage
 
-pub among_met : (h : History) (w : WorldCore) (changing : List Event) (i : ℕ) (job : Job) (c : Cause) (met : List Cause) → AllByRecursion (Evid h w changing i job) met → IsCauseAmong c met → Evid h w changing i job c
+pub among_met : (h : History) (w : WorldCore) (changing : List JointEvent) (i : ℕ) (job : Job) (c : Cause) (met : List Cause) → AllByRecursion (Evid h w changing i job) met → IsCauseAmong c met → Evid h w changing i job c
 among_met h w changing i job c [] a m = absurd m
 among_met h w changing i job c (d ∷ met) a (inl same) = subst (Evid h w changing i job) (sym same) a.0
 among_met h w changing i job c (d ∷ met) a (inr m) = among_met h w changing i job c met a.1 m
 
-pick : (h : History) (w : WorldCore) (changing : List Event) (i : ℕ) (job : Job) (status : Status) (why : Why) (met : List Cause) → AllByRecursion (Evid h w changing i job) met → IsExplained status why met → (c : Cause) × Evid h w changing i job c × IsCauseAmong c met × Explains c status why
+pick : (h : History) (w : WorldCore) (changing : List JointEvent) (i : ℕ) (job : Job) (status : Status) (why : Why) (met : List Cause) → AllByRecursion (Evid h w changing i job) met → IsExplained status why met → (c : Cause) × Evid h w changing i job c × IsCauseAmong c met × Explains c status why
 pick h w changing i job status why [] a e = absurd e
 pick h w changing i job status why (c ∷ met) a (inl e) = (c, a.0, inl refl, e)
 pick h w changing i job status why (c ∷ met) a (inr e) = let r = pick h w changing i job status why met a.1 e in (r.0, r.1, inr r.2, r.3)
@@ -330,29 +351,29 @@ forced_same h w i job s e none =
     let make : make_for s i ≡ make_of known.sources (slice_get h.devices (place_named (infos_of h) job.device)) = known.is ∙ ap (λ (d : ℕ). make_of known.sources (slice_get h.devices d)) place in
     (known.sources, subst (λ (k : Make). abstract_in_force k (map requested_setting job.settings.items) ≡ None) make (ap (λ (j : RuledJob). abstract_in_force (make_for s i) j.settings) (sym e.is) ∙ none))
 
-caused : (h : History) (w : WorldCore) (changing : List Event) (i : ℕ) (job : Job) (s : SystemState) (status : Status) (why : Why) → Here h i job s → AllByRecursion (Evid h w changing i job) (s.job i).session.met → IsCaused (make_for s i) (s.job i).session status why → EndedBy h w changing i job (s.job i).session.met status why
+caused : (h : History) (w : WorldCore) (changing : List JointEvent) (i : ℕ) (job : Job) (s : SystemState) (status : Status) (why : Why) → Here h i job s → AllByRecursion (Evid h w changing i job) (s.job i).session.met → IsCaused (make_for s i) (s.job i).session status why → EndedBy h w changing i job (s.job i).session.met status why
 caused h w changing i job s status why e a (inl c) = inl (pick h w changing i job status why (s.job i).session.met a c)
 caused h w changing i job s status why e a (inr c) = inr (forced_same h w i job s e c.0, c.1)
 
 -- all of its causes are so
-judge_all : (h : History) (w : WorldCore) (changing : List Event) (i : ℕ) (job : Job) (s : SystemState) (stage : JobStage) → (s.job i).client.stage ≡ stage → Here h i job s → AllByRecursion (Evid h w changing i job) (s.job i).session.met → Judged h w changing i job (s.job i).session.met (s.job i).client.pages stage
+judge_all : (h : History) (w : WorldCore) (changing : List JointEvent) (i : ℕ) (job : Job) (s : SystemState) (stage : JobStage) → (s.job i).client.stage ≡ stage → Here h i job s → AllByRecursion (Evid h w changing i job) (s.job i).session.met → Judged h w changing i job (s.job i).session.met (s.job i).client.pages stage
 judge_all h w changing i job s Idle at e a = a
 judge_all h w changing i job s (Running g) at e a = a
 judge_all h w changing i job s Done at e a = tt
 judge_all h w changing i job s (Ended status why) at e a = caused h w changing i job s status why e a (subst (λ (st : JobStage). StageInvariant i (make_for s i) (s.job i) (device_for s i) st) at (e.sound.exchanges i))
 
-met_then : CausesAreGrounded → (h : History) (w : WorldCore) (changing : List Event) (i : ℕ) (job : Job) (s : SystemState) (x : Action) → Here h i job s → Fine (history_up_to h changing) job s → IsUnderWay (s.job i).client.stage → own_of h i x → StepSo h w job s (By i x) → IsEnabled s (By i x) → AllByRecursion (Evid h w changing i job) (s.job i).session.met → AllByRecursion (Evid h w changing i job) ((after_transition s (By i x)).job i).session.met
+met_then : CausesAreGrounded → (h : History) (w : WorldCore) (changing : List JointEvent) (i : ℕ) (job : Job) (s : SystemState) (x : Action) → Here h i job s → Fine (history_up_to h changing) job s → IsUnderWay (s.job i).client.stage → own_of h i x → StepSo h w job s (By i x) → IsEnabled s (By i x) → AllByRecursion (Evid h w changing i job) (s.job i).session.met → AllByRecursion (Evid h w changing i job) ((after_transition s (By i x)).job i).session.met
 met_then so h w changing i job s x e f on of step legal a =
     let causes = causes_by i (make_for s i) (listed_devices s) (s.job i) (device_for s i) x in
     let fresh = all_each (Comes i (make_for s i) (s.job i) (device_for s i) x) (Evid h w changing i job) causes (evid h w changing i job s x e f on of step legal) (all_come so i (make_for s i) (listed_devices s) (s.job i) (device_for s i) x legal) in
     subst (AllByRecursion (Evid h w changing i job)) (sym (ap (λ (p : JobState). p.session.met) (own_party s i x) ∙ met_by i (make_for s i) (listed_devices s) (s.job i) (device_for s i) x)) (all_then (Evid h w changing i job) causes (s.job i).session.met fresh a)
 
 -- what a job that is over met changes nothing
-more_ended : (h : History) (w : WorldCore) (changing : List Event) (i : ℕ) (job : Job) (old new : List Cause) (status : Status) (why : Why) → ((c : Cause) → IsCauseAmong c old → IsCauseAmong c new) → EndedBy h w changing i job old status why → EndedBy h w changing i job new status why
+more_ended : (h : History) (w : WorldCore) (changing : List JointEvent) (i : ℕ) (job : Job) (old new : List Cause) (status : Status) (why : Why) → ((c : Cause) → IsCauseAmong c old → IsCauseAmong c new) → EndedBy h w changing i job old status why → EndedBy h w changing i job new status why
 more_ended h w changing i job old new status why grow (inl (c, e, m, x)) = inl (c, e, grow c m, x)
 more_ended h w changing i job old new status why grow (inr n) = inr n
 
-judged_over : (h : History) (w : WorldCore) (changing : List Event) (i : ℕ) (job : Job) (old new : List Cause) (pages : List (List Frame)) (stage : JobStage) → (IsUnderWay stage → ⊥) → ((c : Cause) → IsCauseAmong c old → IsCauseAmong c new) → Judged h w changing i job old pages stage → Judged h w changing i job new pages stage
+judged_over : (h : History) (w : WorldCore) (changing : List JointEvent) (i : ℕ) (job : Job) (old new : List Cause) (pages : List (List Frame)) (stage : JobStage) → (IsUnderWay stage → ⊥) → ((c : Cause) → IsCauseAmong c old → IsCauseAmong c new) → Judged h w changing i job old pages stage → Judged h w changing i job new pages stage
 judged_over h w changing i job old new pages Idle off grow j = absurd (off tt)
 judged_over h w changing i job old new pages (Running g) off grow j = absurd (off tt)
 judged_over h w changing i job old new pages Done off grow j = tt
@@ -367,7 +388,7 @@ grows s i x c m =
     let causes = causes_by i (make_for s i) (listed_devices s) (s.job i) (device_for s i) x in
     subst (IsCauseAmong c) (sym (ap (λ (p : JobState). p.session.met) (own_party s i x) ∙ met_by i (make_for s i) (listed_devices s) (s.job i) (device_for s i) x)) (met_more c causes (s.job i).session.met m)
 
-own_step : Laws → (h : History) (w : WorldCore) (changing : List Event) (i : ℕ) (job : Job) (s : SystemState) (x : Action) (stage : JobStage) → (s.job i).client.stage ≡ stage → Here h i job s → Fine (history_up_to h changing) job s → Here h i job (after_transition s (By i x)) → own_of h i x → StepSo h w job s (By i x) → IsEnabled s (By i x) → JudgedAt h w changing i job s → JudgedAt h w changing i job (after_transition s (By i x))
+own_step : Laws → (h : History) (w : WorldCore) (changing : List JointEvent) (i : ℕ) (job : Job) (s : SystemState) (x : Action) (stage : JobStage) → (s.job i).client.stage ≡ stage → Here h i job s → Fine (history_up_to h changing) job s → Here h i job (after_transition s (By i x)) → own_of h i x → StepSo h w job s (By i x) → IsEnabled s (By i x) → JudgedAt h w changing i job s → JudgedAt h w changing i job (after_transition s (By i x))
 own_step laws h w changing i job s x Idle at e f now of step legal j =
     judge_all h w changing i job (after_transition s (By i x)) ((after_transition s (By i x)).job i).client.stage refl now
     (met_then laws.grounds h w changing i job s x e f (subst IsUnderWay (sym at) tt) of step legal (subst (Judged h w changing i job (s.job i).session.met (s.job i).client.pages) at j))
@@ -383,16 +404,16 @@ own_step laws h w changing i job s x (Ended status why) at e f now of step legal
     subst (λ (m : ClientView). Judged h w changing i job ((after_transition s (By i x)).job i).session.met m.pages m.stage) (sym (laws.last s i x legal off))
     (judged_over h w changing i job (s.job i).session.met ((after_transition s (By i x)).job i).session.met (s.job i).client.pages (s.job i).client.stage off (grows s i x) j)
 
-abbrev judged_party : History → WorldCore → List Event → ℕ → Job → JobState → Type 0
+abbrev judged_party : History → WorldCore → List JointEvent → ℕ → Job → JobState → Type 0
 judged_party h w changing i job p = Judged h w changing i job p.session.met p.client.pages p.client.stage
 
-by_step : Laws → (h : History) (w : WorldCore) (changing : List Event) (i : ℕ) (job : Job) (s : SystemState) (j : ℕ) (x : Action) (b : Bool) → eqb i j ≡ b → Here h i job s → Fine (history_up_to h changing) job s → Here h i job (after_transition s (By j x)) → IsOfOne h (By j x) → StepSo h w job s (By j x) → IsEnabled s (By j x) → JudgedAt h w changing i job s → JudgedAt h w changing i job (after_transition s (By j x))
+by_step : Laws → (h : History) (w : WorldCore) (changing : List JointEvent) (i : ℕ) (job : Job) (s : SystemState) (j : ℕ) (x : Action) (b : Bool) → eqb i j ≡ b → Here h i job s → Fine (history_up_to h changing) job s → Here h i job (after_transition s (By j x)) → IsOfOne h (By j x) → StepSo h w job s (By j x) → IsEnabled s (By j x) → JudgedAt h w changing i job s → JudgedAt h w changing i job (after_transition s (By j x))
 by_step laws h w changing i job s j x false e here f now of step legal judged = subst (judged_party h w changing i job) (sym (party_stays s j x i e)) judged
 by_step laws h w changing i job s j x true e here f now of step legal judged =
     subst (λ (n : ℕ). Here h i job (after_transition s (By n x)) → IsOfOne h (By n x) → StepSo h w job s (By n x) → IsEnabled s (By n x) → JudgedAt h w changing i job (after_transition s (By n x))) (eqb-true i j e)
     (λ behind o r l. own_step laws h w changing i job s x (s.job i).client.stage refl here f behind o r l judged) now of step legal
 
-one_step : Laws → (h : History) (w : WorldCore) (changing : List Event) (i : ℕ) (job : Job) (s : SystemState) (x : Transition) → Here h i job s → Fine (history_up_to h changing) job s → Here h i job (after_transition s x) → IsOfOne h x → StepSo h w job s x → IsEnabled s x → JudgedAt h w changing i job s → JudgedAt h w changing i job (after_transition s x)
+one_step : Laws → (h : History) (w : WorldCore) (changing : List JointEvent) (i : ℕ) (job : Job) (s : SystemState) (x : Transition) → Here h i job s → Fine (history_up_to h changing) job s → Here h i job (after_transition s x) → IsOfOne h x → StepSo h w job s x → IsEnabled s x → JudgedAt h w changing i job s → JudgedAt h w changing i job (after_transition s x)
 one_step laws h w changing i job s (By j x) here f now of step legal judged = by_step laws h w changing i job s j x (eqb i j) refl here f now of step legal judged
 one_step laws h w changing i job s (Loads d page) here f now of step legal judged = judged
 one_step laws h w changing i job s (Unplugs d) here f now of step legal judged = judged
@@ -419,7 +440,7 @@ here_then laws h w i job s x e of legal = record {
   sound = laws.sound s (x ∷ []) e.sound (legal, tt);
 }
 
-pub all_judged : Laws → (h : History) (w : WorldCore) (changing : List Event) (i : ℕ) (job : Job) (xs : List Transition) (s : SystemState) → Here h i job s → Fine (history_up_to h changing) job s → AllByRecursion (IsOfOne h) xs → AllByRecursion (IsOfOne (history_up_to h changing)) xs → AllAlong (StepSo h w job) s xs → IsHistory s xs → JudgedAt h w changing i job s → JudgedAt h w changing i job (after_all s xs)
+pub all_judged : Laws → (h : History) (w : WorldCore) (changing : List JointEvent) (i : ℕ) (job : Job) (xs : List Transition) (s : SystemState) → Here h i job s → Fine (history_up_to h changing) job s → AllByRecursion (IsOfOne h) xs → AllByRecursion (IsOfOne (history_up_to h changing)) xs → AllAlong (StepSo h w job) s xs → IsHistory s xs → JudgedAt h w changing i job s → JudgedAt h w changing i job (after_all s xs)
 all_judged laws h w changing i job [] s e f of those steps legal j = j
 all_judged laws h w changing i job (x ∷ xs) s e f of those steps legal j =
     let now = here_then laws h w i job s x e of.0 legal.0 in

@@ -30,12 +30,14 @@ use Rattle.event_world.specs.Endpoints.{after_move, laid_by}
 use Rattle.event_world.specs.JobEvents.{Can, Connects, Does, Happens, HeedsPiece, IfLinked, SendsRecord, SendsStep, TakesDataPiece, after_fed, is_done, with_last_page}
 use Rattle.event_world.specs.Worlds.{AtEndpoint, Leads, Runs, WorldCore}
 use Rattle.event_world.proofs.Deciding.{can_or_not}
-use Rattle.world_refines.specs.MainTheorem.{AllIsKept, AreTrueLoads}
+use Rattle.world_refines.specs.MainTheorem.{AreTrueLoads}
 use Rattle.world_refines.specs.WorldPromises.{IsOutcome}
-use Rattle.scan_world.specs.Histories.{History, LedTo, and_then}
+use Rattle.strangers.specs.Together.{AllIsKeptAmongStrangers, JointEvent, RunsAmong}
+use Rattle.strangers.specs.Together.JointEvent.{OfJobs, OfStranger}
+use Rattle.scan_world.specs.Histories.{HasEvent, History, LedTo, and_then}
 use Rattle.scan_world.specs.Calls.{LossEnds, outcome_at}
 use Rattle.scan_world.proofs.Led.{first_runs, led_then, loads_front, runs_split}
-use Rattle.scan_world.proofs.Over.{ended_stays, lose_one, over_stays}
+use Rattle.scan_world.proofs.Over.{ended_stays, lose_one, over_among}
 use Rattle.scan_world.proofs.Scanned.{kept_by}
 use Rattle.scan_world.proofs.moments.Entries.{past_end, set_get, set_here}
 use Rattle.scan_world.proofs.moments.Holder.{no_endpoints}
@@ -177,30 +179,32 @@ lead_none (events.Cancel j) w u i a n = at_none w u j _ i a n
 lead_none (events.Load name source) w u i a n = ap (λ (y : WorldCore). slice_get y.endpoints i) a ∙ n
 lead_none (events.Unplug name) w u i a n = ap (λ (y : WorldCore). slice_get y.endpoints i) a ∙ n
 
-runs_was : (es : List Event) (w v : WorldCore) (i : ℕ) → Runs source_state es w v → Joined w i → Joined v i
+runs_was : (es : List JointEvent) (w v : WorldCore) (i : ℕ) → RunsAmong source_state es w v → Joined w i → Joined v i
 runs_was [] w v i run n = subst (λ (x : WorldCore). Joined x i) (sym run) n
-runs_was (e ∷ es) w v i (u, leads, rest) n = runs_was es u v i rest (lead_was e w u i leads n)
+runs_was (OfJobs e ∷ es) w v i (u, leads, rest) n = runs_was es u v i rest (lead_was e w u i leads n)
+runs_was (OfStranger a ∷ es) w v i (u, acts, rest) n = runs_was es u v i rest (n.0, ap (λ (ps : List Endpoint). slice_get ps i) acts.rest ∙ n.1, n.2)
 
-runs_none : (es : List Event) (w v : WorldCore) (i : ℕ) → Runs source_state es w v → slice_get w.endpoints i ≡ None → slice_get v.endpoints i ≡ None
+runs_none : (es : List JointEvent) (w v : WorldCore) (i : ℕ) → RunsAmong source_state es w v → slice_get w.endpoints i ≡ None → slice_get v.endpoints i ≡ None
 runs_none [] w v i run n = ap (λ (x : WorldCore). slice_get x.endpoints i) run ∙ n
-runs_none (e ∷ es) w v i (u, leads, rest) n = runs_none es u v i rest (lead_none e w u i leads n)
+runs_none (OfJobs e ∷ es) w v i (u, leads, rest) n = runs_none es u v i rest (lead_none e w u i leads n)
+runs_none (OfStranger a ∷ es) w v i (u, acts, rest) n = runs_none es u v i rest (ap (λ (ps : List Endpoint). slice_get ps i) acts.rest ∙ n)
 
 -- one that runs ran before
 abbrev RanAt : WorldCore → ℕ → Type 0
 RanAt w i = (p : Endpoint) × (slice_get w.endpoints i ≡ Some p) × (p.client.outcome ≡ Running)
 
-ran_by : (es : List Event) (w v : WorldCore) (i : ℕ) (p : Endpoint) (o : Outcome) → p.client.outcome ≡ o → slice_get w.endpoints i ≡ Some p → Runs source_state es w v → outcome_at v i ≡ Some Running → RanAt w i
+ran_by : (es : List JointEvent) (w v : WorldCore) (i : ℕ) (p : Endpoint) (o : Outcome) → p.client.outcome ≡ o → slice_get w.endpoints i ≡ Some p → RunsAmong source_state es w v → outcome_at v i ≡ Some Running → RanAt w i
 ran_by es w v i p Running is at run runs = (p, at, is)
 ran_by es w v i p (Done reports) is at run runs =
     let there : outcome_at w i ≡ Some (Done reports) = ap (option_map (λ (x : Endpoint). x.client.outcome)) at ∙ ap (λ (o : Outcome). Some o) is in
-    let stays = (over_stays es w v run i (Done reports) there (λ r. cc)).outcome in
+    let stays = (over_among es w v run i (Done reports) there (λ r. cc)).outcome in
     absurd (let clash : ◌≡◌ {A = Option Outcome} (Some Running) (Some (Done reports)) = sym runs ∙ (stays ∙ there) in cc)
 ran_by es w v i p (Ended status why) is at run runs =
     let there : outcome_at w i ≡ Some (Ended status why) = ap (option_map (λ (x : Endpoint). x.client.outcome)) at ∙ ap (λ (o : Outcome). Some o) is in
-    let stays = (over_stays es w v run i (Ended status why) there (λ r. cc)).outcome in
+    let stays = (over_among es w v run i (Ended status why) there (λ r. cc)).outcome in
     absurd (let clash : ◌≡◌ {A = Option Outcome} (Some Running) (Some (Ended status why)) = sym runs ∙ (stays ∙ there) in cc)
 
-ran_before : (es : List Event) (w v : WorldCore) (i : ℕ) (o : Option Endpoint) → slice_get w.endpoints i ≡ o → Runs source_state es w v → outcome_at v i ≡ Some Running → RanAt w i
+ran_before : (es : List JointEvent) (w v : WorldCore) (i : ℕ) (o : Option Endpoint) → slice_get w.endpoints i ≡ o → RunsAmong source_state es w v → outcome_at v i ≡ Some Running → RanAt w i
 ran_before es w v i None at run runs =
     absurd (let clash : ◌≡◌ {A = Option Outcome} None (Some Running) = sym (ap (option_map (λ (x : Endpoint). x.client.outcome)) (runs_none es w v i run at)) ∙ runs in cc)
 ran_before es w v i (Some p) at run runs = ran_by es w v i p p.client.outcome refl at run runs
@@ -215,13 +219,16 @@ connected_by w u i n false e a =
     does_new : Does w.daemon n.0 Connect u.daemon (a.happens n.0 n.1).0 → Was (a.happens n.0 n.1).0
     does_new d = connects_was d.0 (is_closed w.daemon) w.daemon n.0 u.daemon (a.happens n.0 n.1).0 d.1
 
-joined_by : (es : List Event) (w v : WorldCore) (i : ℕ) → Runs source_state es w v → Contains es (events.Connect i) → outcome_at v i ≡ Some Running → Joined v i
+joined_by : (es : List JointEvent) (w v : WorldCore) (i : ℕ) → RunsAmong source_state es w v → Contains es (OfJobs (events.Connect i)) → outcome_at v i ≡ Some Running → Joined v i
 joined_by [] w v i run (k, low, same) runs = absurd (omega (arith, low))
-joined_by (e ∷ es) w v i (u, leads, rest) (zero, low, same) runs =
-    let ran = ran_before (e ∷ es) w v i (slice_get w.endpoints i) refl (u, leads, rest) runs in
-    let at : AtEndpoint w i Connect u = subst (λ (x : Event). Leads source_state x w u) same leads in
+joined_by (OfStranger a ∷ es) w v i (u, acts, rest) (zero, low, same) runs = absurd (let clash : OfStranger a ≡ OfJobs (events.Connect i) = same in cc)
+joined_by (OfStranger a ∷ es) w v i (u, acts, rest) (suc k, low, same) runs = joined_by es u v i rest (k, omega (arith, low), same) runs
+joined_by (OfJobs e ∷ es) w v i (u, leads, rest) (zero, low, same) runs =
+    let ran = ran_before (OfJobs e ∷ es) w v i (slice_get w.endpoints i) refl (u, leads, rest) runs in
+    let one : e ≡ events.Connect i = (let both : OfJobs e ≡ OfJobs (events.Connect i) = same in cc) in
+    let at : AtEndpoint w i Connect u = subst (λ (x : Event). Leads source_state x w u) one leads in
     runs_was es u v i rest (connected_by w u i ran ran.0.was_connected refl at)
-joined_by (e ∷ es) w v i (u, leads, rest) (suc k, low, same) runs = joined_by es u v i rest (k, omega (arith, low), same) runs
+joined_by (OfJobs e ∷ es) w v i (u, leads, rest) (suc k, low, same) runs = joined_by es u v i rest (k, omega (arith, low), same) runs
 
 -- ---- its link stands
 
@@ -237,7 +244,7 @@ some_link : (o : Option SessionId) → is_some o ≡ true → (id : SessionId) �
 some_link None e = absurd (let clash : false ≡ true = e in cc)
 some_link (Some id) e = (id, refl)
 
-link_there : AllIsKept → (h : History) (w : WorldCore) (job : Job) (i : ℕ) (l : LedTo h w) (p : Endpoint) → slice_get w.endpoints i ≡ Some p → p.client.outcome ≡ Running → Was p → (id : SessionId) × (p.link ≡ Some id)
+link_there : AllIsKeptAmongStrangers → (h : History) (w : WorldCore) (job : Job) (i : ℕ) (l : LedTo h w) (p : Endpoint) → slice_get w.endpoints i ≡ Some p → p.client.outcome ≡ Running → Was p → (id : SessionId) × (p.link ≡ Some id)
 link_there all h w job i l p at runs was =
     let k = kept_by all h w job l in
     let u = k.run.ghost_then in
@@ -263,20 +270,20 @@ by_loss w v i p id at linked a same =
     let one : p ≡ h.0 = (let both : Some p ≡ Some h.0 = sym at ∙ (ap (λ (x : WorldCore). slice_get x.endpoints i) (sym same) ∙ now) in cc) in
     let clash : Some id ≡ None = sym linked ∙ (ap (λ (q : Endpoint). q.link) one ∙ gone) in cc
 
-loss_by_jobs : AllIsKept → (h : History) (w v : WorldCore) (i : ℕ) (l : LedTo h w) (jobs : List Job) → h.jobs ≡ jobs → (n : Joined w i) → (m : RanAt w i) → AtEndpoint w i LoseControl v → v ≡ w → ⊥
+loss_by_jobs : AllIsKeptAmongStrangers → (h : History) (w v : WorldCore) (i : ℕ) (l : LedTo h w) (jobs : List Job) → h.jobs ≡ jobs → (n : Joined w i) → (m : RanAt w i) → AtEndpoint w i LoseControl v → v ≡ w → ⊥
 loss_by_jobs all h w v i l [] is n m a same = absurd (let clash : None ≡ Some n.0 = ap (λ (ps : List Endpoint). slice_get ps i) (sym (no_endpoints h w l is)) ∙ n.1 in cc)
 loss_by_jobs all h w v i l (job ∷ jobs) is n m a same =
     let one : n.0 ≡ m.0 = (let both : Some n.0 ≡ Some m.0 = sym n.1 ∙ m.1 in cc) in
     let k = link_there all h w job i l m.0 m.1 m.2 (subst Was one n.2) in
     by_loss w v i m.0 k.0 m.1 k.1 a same
 
-loss_at : AllIsKept → (h : History) (w u : WorldCore) (i : ℕ) → LedTo h w → Contains h.events (events.Connect i) → outcome_at w i ≡ Some Running → AtEndpoint w i LoseControl u → outcome_at u i ≡ Some (Ended IoError whys.Lost)
+loss_at : AllIsKeptAmongStrangers → (h : History) (w u : WorldCore) (i : ℕ) → LedTo h w → HasEvent h (events.Connect i) → outcome_at w i ≡ Some Running → AtEndpoint w i LoseControl u → outcome_at u i ≡ Some (Ended IoError whys.Lost)
 loss_at all h w u i l came runs leads = elim (lose_one w u i leads runs) [
   | inl ended ↦ ended
   | inr same ↦ absurd (loss_by_jobs all h w u i l h.jobs refl (joined_by h.events l.first w i l.runs came runs) (ran_before [] w w i (slice_get w.endpoints i) refl refl runs) leads same)
 ]
 
-pub loss_ends : AllIsKept → (h : History) (es : List Event) (w v : WorldCore) → LedTo h w → AreTrueLoads source_state es → Runs source_state es w v → LossEnds h es w v
+pub loss_ends : AllIsKeptAmongStrangers → (h : History) (es : List Event) (w v : WorldCore) → LedTo h w → AreTrueLoads source_state es → Runs source_state es w v → LossEnds h es w v
 loss_ends all h es w v l loads run i front back split =
     let s = runs_split front (events.LoseControl i ∷ back) w v (subst (λ (xs : List Event). Runs source_state xs w v) split run) in
     let led = led_then h front w s.0 l (loads_front front (events.LoseControl i ∷ back) (subst (AreTrueLoads source_state) split loads)) s.1 in

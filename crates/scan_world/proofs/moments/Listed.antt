@@ -33,11 +33,12 @@ use Rattle.world_refines.specs.GhostStates.{Ghost, place_of_info}
 use Rattle.world_refines.specs.FailedSources.{AllAlong}
 use Rattle.world_refines.specs.WorldPromises.{AreListed, IsOutcome}
 use Rattle.world_refines.specs.WorldRefinement.{AreListedBelow, IsServed, WorldRefines, session_by}
-use Rattle.world_refines.proofs.job_events.Constant.{Fixed, all_fixed}
+use Rattle.world_refines.proofs.job_events.Constant.{Fixed}
 use Rattle.world_refines.proofs.requests.Listing.{listed_told}
 use Rattle.world_refines.proofs.state.Infos.{stand_there}
-use Rattle.page_picture.specs.SourceView.{source_state}
 use Rattle.scan_world.specs.Histories.{History, LedTo}
+use Rattle.scan_world.proofs.Elsewhere.{elsewhere}
+use Rattle.scan_world.proofs.Joint.{all_fixed_by}
 use Rattle.scan_world.proofs.Sources.{have_sources, sources_of}
 use Rattle.scan_world.specs.Laws.{Below}
 use Rattle.scan_world.proofs.Begun.{job_same, party_stays}
@@ -46,7 +47,7 @@ use Rattle.scan_world.proofs.Changing.{changing_in}
 use Rattle.scan_world.proofs.Ended.{comes_there}
 use Rattle.scan_world.proofs.Evident.{IsAnswer}
 use Rattle.scan_world.proofs.Jobs.{IsJob}
-use Rattle.scan_world.proofs.Scanned.{at_first, infos_of}
+use Rattle.scan_world.proofs.Scanned.{at_first, infos_of, may_first}
 use Rattle.scan_world.proofs.moments.Entries.{end_at, linked_by, own_party, past_end}
 use Rattle.scan_world.proofs.moments.Judged.{Front, asked_there}
 use Rattle.scan_world.proofs.moments.Moments.{AnsweredSo}
@@ -224,18 +225,18 @@ same_infos (x ∷ xs) (y ∷ ys) e =
     ap (λ (z : DeviceInfo). z ∷ xs) one ∙ ap (λ (zs : List DeviceInfo). y ∷ zs) (same_infos xs ys more)
 
 first_sound : (below : Below) (h : History) (w : WorldCore) (job : Job) (l : LedTo h w) → Invariant (at_first h w job l).system
-first_sound below h w job l = (below.new (sources_of h) h.jobs job h.devices l.first l.endpoints l.daemon l.names l.limits (have_sources h) l.fit).sound
+first_sound below h w job l = (may_first below.kept h w job l (sources_of h) (have_sources h)).refines.sound
 
 pub list_kept : Below → (h : History) (w : WorldCore) (i : ℕ) (job : Job) (p : Endpoint) (reports : Reports) → IsJob h w i job p → job.task ≡ tasks.List → p.client.outcome ≡ Done reports → (asked : Asked h w i IsAtList) × (reports.devices ≡ listed_infos asked.at.before.daemon.registry)
 list_kept below h w i job p reports j task is =
     let k = comes_there below h w job j.led in
     let t = at_first h w job j.led in
     let u = k.ghost_then in
-    let fixed = all_fixed source_state (changing_in h w j.led) t k.steps u k.comes in
+    let fixed = all_fixed_by (changing_in h w j.led) t k.steps u k.comes in
     let promise = subst (IsOutcome u i) is (below.outcomes u w i p k.stands j.endpoint_at) in
-    let own_job : u.jobs i ≡ job = ap (λ (f : Fixed). f.3 i) fixed ∙ get_or_from_slice_get h.jobs i job job j.job_at in
+    let own_job : u.jobs i ≡ job = ap (λ (f : Fixed). f.3 i) fixed ∙ get_or_from_slice_get h.jobs i job (elsewhere h.devices job) j.job_at in
     let listed : AreListed u i reports.devices = promise.devices (ap (λ (x : Job). x.task) own_job ∙ task) in
-    let lists : Lists t.system i = ap (λ (x : Job). task_of x.task) (get_or_from_slice_get h.jobs i job job j.job_at) ∙ ap task_of task in
+    let lists : Lists t.system i = ap (λ (x : Job). task_of x.task) (get_or_from_slice_get h.jobs i job (elsewhere h.devices job) j.job_at) ∙ ap task_of task in
     let known = all_steps below.notes below.last below.histories h w job i k.steps t.system (first_sound below h w job j.led) k.legal k.answered lists (λ ds none. absurd (let clash : None ≡ Some ds = none in cc)) in
     let there : ShownBy h w i u.system = subst (Known h w i u.system) promise.stage (subst (KnownAt h w i) (sym k.rules_are) known) in
     let r = there listed.places listed.shown in

@@ -1,7 +1,8 @@
 -- Each step of a history, with the moment of its event. An answer to a job that is under way is to the only request that was on its way:
 -- the world in front of the event stood for the very state in which it is answered.
 use Rattle.std.specs.Prelude.{length, slice_get, slice_index_or, ◌≤◌, ◌<◌}
-use Rattle.std.proofs.Common.{◌≡◌, ◌∙◌, ◌⊎◌, ℕ, Bool, true, false, List, [], ◌∷◌, ◌++◌, Option, Some, None, inl, inr, refl, sym, ap, subst, append_assoc}
+use Rattle.std.specs.List.{AllByRecursion}
+use Rattle.std.proofs.Common.{◌≡◌, ◌∙◌, ◌⊎◌, ℕ, ◌+◌, Bool, true, false, List, [], ◌∷◌, ◌++◌, Option, Some, None, inl, inr, refl, sym, ap, subst, append_assoc}
 use Rattle.std.proofs.lemmas.List.{append-nil}
 use Rattle.std.proofs.lemmas.Option.{slice_get_within}
 use Rattle.page_picture.specs.SourceView.{source_state}
@@ -19,7 +20,9 @@ use Rattle.system_model.specs.Daemon.{FailureCounts}
 use Rattle.system_model.specs.Devices.{Make}
 use Rattle.system_model.specs.Invariants.{Invariant, StageInvariant}
 use Rattle.system_model.specs.ModelPromises.{HistoriesKeepInvariant, OutcomesLast}
-use Rattle.system_model.specs.SystemStates.{JobState, SystemState, listed_devices, make_for, device_for}
+use Rattle.system_model.specs.Marks.{DeviceView, Loaded, Mark, MarksLead, Removed, Rested, Returned, Started, Took, device_view, view_after_mark}
+use Rattle.system_model.specs.MoveRuns.{all_marks}
+use Rattle.system_model.specs.SystemStates.{JobState, SystemState, listed_devices, make_for, device_for, wanted_place}
 use Rattle.system_model.specs.Transitions.{By, IsEnabled, IsHistory, IsUnderWay, Loads, Transition, Unplugs, Uses, after_transition, after_all}
 use Rattle.event_world.specs.declared.endpoint.Endpoint.{Endpoint}
 use Rattle.event_world.specs.declared.event.Event.{Event}
@@ -27,12 +30,12 @@ use Rattle.event_world.specs.declared.event.Event.TheVariants.{Connect, ToDaemon
 use Rattle.event_world.specs.declared.event.JobEvent.{JobEvent}
 use Rattle.event_world.specs.declared.event.JobEvent.TheVariants as moves
 use Rattle.event_world.specs.JobEvents.{job_event_of}
-use Rattle.event_world.specs.Worlds.{Runs, WorldCore}
+use Rattle.event_world.specs.Worlds.{Leads, Runs, WorldCore}
 use Rattle.world_refines.specs.GhostEvents.{GhostCan, GhostHappens}
 use Rattle.world_refines.specs.GhostStates.{Ghost}
 use Rattle.world_refines.specs.FailedSources.{AllAlong, CutIn, FailedIn, FailsInSome, FailsSo, HasFailed, InEvent}
-use Rattle.world_refines.specs.MainTheorem.{AllIsKept, AreFittingLoads, AreTrueLoads, EventsFollow, GhostComes, GhostComesAll, IsFittingLoad}
-use Rattle.world_refines.specs.WorldRefinement.{HasNoStrangers, WorldRefines}
+use Rattle.world_refines.specs.MainTheorem.{AreFittingLoads, AreTrueLoads, EventsFollow, GhostComes, GhostComesAll, IsFittingLoad}
+use Rattle.world_refines.specs.WorldRefinement.{WorldRefines}
 use Rattle.world_refines.proofs.frames.Seeing.{data_decides}
 use Rattle.world_refines.proofs.frames.TurnEvents.{turn_decides}
 use Rattle.world_refines.proofs.frames.Unimaged.{image_decides}
@@ -43,13 +46,20 @@ use Rattle.world_refines.proofs.requests.FedEvent.{delivery_decides}
 use Rattle.world_refines.proofs.requests.OneAnswer.{all_requests}
 use Rattle.world_refines.proofs.state.Failing.{along_each, along_then, fails_more}
 use Rattle.world_refines.proofs.state.Taking.{DecidesAt, nobody_can}
+use Rattle.strangers.specs.Among.{MayHaveStrangers, StrangerAct, StrangerActs}
+use Rattle.strangers.specs.LeavingJobs.{IsUseOf, ghost_behind}
+use Rattle.strangers.specs.Together.{AllIsKeptAmongStrangers, JobsGoOn, JointEvent, RunsAmong, StrangersKeepWorlds, events_among}
+use Rattle.strangers.specs.Together.JointEvent.{OfJobs, OfStranger}
 use Rattle.scan_world.specs.Calls.{HadUnsaidReply}
 use Rattle.scan_world.specs.Histories.{History, LedTo, Moment, history_up_to}
 use Rattle.scan_world.specs.Sessions.{CameAsItRan, CanAt, Happened, SessionAt}
-use Rattle.scan_world.proofs.Led.{led_then}
+use Rattle.scan_world.proofs.Begun.{wants_all}
+use Rattle.scan_world.proofs.Elsewhere.{elsewhere}
+use Rattle.scan_world.proofs.Joint.{ComesAll, IsOwnUse, own_uses}
+use Rattle.scan_world.proofs.Led.{led_on, led_then}
 use Rattle.scan_world.proofs.Rows.{SendsOrLoses, WasStarved}
 use Rattle.scan_world.proofs.Events.{answers_event, breaks_event, chokes_event, fault_event, image_event, loses_event, named_event, short_event}
-use Rattle.scan_world.proofs.Scanned.{infos_of, kept_by}
+use Rattle.scan_world.proofs.Scanned.{infos_of}
 use Rattle.scan_world.proofs.Changing.{LoadChanges, changes_or_same, changing_of, with_changing}
 use Rattle.scan_world.proofs.Traced.{AreOf, StepOf, comes_of}
 use Rattle.scan_world.proofs.moments.Entries.{own_party, past_end}
@@ -60,10 +70,10 @@ use Rattle.scan_world.proofs.moments.Whole.{all_sent}
 -- ---- what an answer has
 
 abbrev pub IsFixed : History → Job → Ghost → Type 0
-IsFixed h other t = fixed_of t ≡ (h.users, infos_of h, length h.jobs, λ i. slice_index_or h.jobs i other)
+IsFixed h other t = fixed_of t ≡ (h.users, infos_of h, length h.jobs, λ i. slice_index_or h.jobs i (elsewhere h.devices other))
 
 abbrev pub job_at : History → Job → ℕ → Job
-job_at h other i = slice_index_or h.jobs i other
+job_at h other i = slice_index_or h.jobs i (elsewhere h.devices other)
 
 -- where a source failed, its event has that
 abbrev pub FailedThere : Option FailureCounts → WorldCore → Core → ℕ → List ℕ → Type 0
@@ -77,7 +87,6 @@ pub record AnswersAt (h : History) (w : WorldCore) (other : Job) (s : SystemStat
   pub ghost : Ghost
   pub fixed : IsFixed h other ghost
   pub stands : WorldRefines ghost at.before
-  pub alone : HasNoStrangers at.before
   pub state : ghost.system ≡ s
   pub failed : FailedThere fault at.before at.behind.daemon i (job_at h other i).device
   pub came : CameAsItRan i at.before at.behind
@@ -220,10 +229,10 @@ CameEvent s w v (LoseControl i) = IsUnderWay (s.job i).client.stage → CameAsIt
 CameEvent s w v (LoseImage i) = IsUnderWay (s.job i).client.stage → CameAsItRan i w v
 CameEvent s w v e = Unit {0}
 
-came_by : AllIsKept → (h : History) (other : Job) (t : Ghost) (u v : WorldCore) (i : ℕ) (x : JobEvent) → LedTo h u → Runs source_state (job_event_of i x ∷ []) u v → WorldRefines t u → CanAt u i x → IsUnderWay (t.system.job i).client.stage → CameAsItRan i u v
+came_by : AllIsKeptAmongStrangers → (h : History) (other : Job) (t : Ghost) (u v : WorldCore) (i : ℕ) (x : JobEvent) → LedTo h u → Runs source_state (job_event_of i x ∷ []) u v → WorldRefines t u → CanAt u i x → IsUnderWay (t.system.job i).client.stage → CameAsItRan i u v
 came_by all h other t u v i x l run stands can on = came_there all h other u v i x l run can (runs_there t u i can.0 stands can.1 on)
 
-came_event : AllIsKept → (h : History) (other : Job) (t : Ghost) (u v : WorldCore) (e : Event) → LedTo h u → Runs source_state (e ∷ []) u v → WorldRefines t u → CanEvent u e → CameEvent t.system u v e
+came_event : AllIsKeptAmongStrangers → (h : History) (other : Job) (t : Ghost) (u v : WorldCore) (e : Event) → LedTo h u → Runs source_state (e ∷ []) u v → WorldRefines t u → CanEvent u e → CameEvent t.system u v e
 came_event all h other t u v (ToDaemon i n) l run stands can = came_by all h other t u v i (moves.ToDaemon n) l run stands can
 came_event all h other t u v (ToClient i n) l run stands can = came_by all h other t u v i (moves.ToClient n) l run stands can
 came_event all h other t u v (DataToClient i n) l run stands can = came_by all h other t u v i (moves.DataToClient n) l run stands can
@@ -249,7 +258,6 @@ fails_there F s i challenge (Some g) fails on f is = fails on
 -- an event, between the worlds that these states stand for
 record Between (h : History) (w : WorldCore) (other : Job) (e : Event) (m : Moment h w e) (t g : Ghost) : Type 0 where
   pub stands : WorldRefines t m.before
-  pub alone : HasNoStrangers m.before
   pub fixed : IsFixed h other t
   pub behind : WorldRefines g m.behind
   pub came : CameEvent t.system m.before m.behind e
@@ -266,7 +274,6 @@ at_first_step h w other e m t g b (By i (Actions.Answers challenge fault)) xs of
       ghost = t;
       fixed = b.fixed;
       stands = r.1.1.stands;
-      alone = r.1.1.alone;
       state = refl;
       failed = r.1.2;
       came = r.1.1.came on;
@@ -283,11 +290,11 @@ later_steps keeps h w other infos e [] s sound spent of may = tt
 later_steps keeps h w other infos e (x ∷ xs) s sound spent of may =
     (not_again h w other infos e s x spent of.0 may.0, later_steps keeps h w other infos e xs (after_transition s x) (keeps s (x ∷ []) sound (may.0, tt)) (spent_then infos e s x sound of.0) of.1 may.1)
 
-event_answers : HistoriesKeepInvariant → (h : History) (w : WorldCore) (other : Job) (e : Event) (m : Moment h w e) (t g : Ghost) → WorldRefines t m.before → HasNoStrangers m.before → IsFixed h other t → WorldRefines g m.behind → (xs : List Transition) → CameEvent t.system m.before m.behind e ⊎ (xs ≡ []) → g.system ≡ after_all t.system xs → AreOf t.infos e xs → AllAlong (FailsSo (FailedHere h w other e m)) t.system xs → IsHistory t.system xs → AllAlong (AnsweredSo h w other) t.system xs
-event_answers keeps h w other e m t g stands alone fixed behind [] came rules of fails may = tt
-event_answers keeps h w other e m t g stands alone fixed behind (x ∷ xs) (inr none) rules of fails may = absurd (let clash : ◌≡◌ {A = List Transition} (x ∷ xs) [] = none in cc)
-event_answers keeps h w other e m t g stands alone fixed behind (x ∷ xs) (inl came) rules of fails may =
-    let b : Between h w other e m t g = record { stands = stands; alone = alone; fixed = fixed; behind = behind; came = came } in
+event_answers : HistoriesKeepInvariant → (h : History) (w : WorldCore) (other : Job) (e : Event) (m : Moment h w e) (t g : Ghost) → WorldRefines t m.before → IsFixed h other t → WorldRefines g m.behind → (xs : List Transition) → CameEvent t.system m.before m.behind e ⊎ (xs ≡ []) → g.system ≡ after_all t.system xs → AreOf t.infos e xs → AllAlong (FailsSo (FailedHere h w other e m)) t.system xs → IsHistory t.system xs → AllAlong (AnsweredSo h w other) t.system xs
+event_answers keeps h w other e m t g stands fixed behind [] came rules of fails may = tt
+event_answers keeps h w other e m t g stands fixed behind (x ∷ xs) (inr none) rules of fails may = absurd (let clash : ◌≡◌ {A = List Transition} (x ∷ xs) [] = none in cc)
+event_answers keeps h w other e m t g stands fixed behind (x ∷ xs) (inl came) rules of fails may =
+    let b : Between h w other e m t g = record { stands = stands; fixed = fixed; behind = behind; came = came } in
     (at_first_step h w other e m t g b x xs of.0 of.1 rules fails.0, later_steps keeps h w other t.infos e xs (after_transition t.system x) (keeps t.system (x ∷ []) stands.sound (may.0, tt)) (spent_then t.infos e t.system x stands.sound of.0) of.1 may.1)
 
 -- ---- what else comes to a job that is under way, comes by an event that came to it as it ran
@@ -383,59 +390,132 @@ came_or_none : {A B C : Type 0} → (A → B) → A ⊎ C → B ⊎ C
 came_or_none f (inl a) = inl (f a)
 came_or_none f (inr c) = inr c
 
--- the steps of these events, with their moments
-pub record Comes (h : History) (w : WorldCore) (other : Job) (es : List Event) (t : Ghost) : Type 0 where
+-- the steps of what came, with the moments of the events
+pub record Comes (h : History) (w : WorldCore) (other : Job) (es : List JointEvent) (t : Ghost) : Type 0 where
   pub steps : List Transition
   pub ghost_then : Ghost
-  pub comes : GhostComesAll source_state es t steps ghost_then
+  pub comes : ComesAll es t steps ghost_then
   pub legal : IsHistory t.system steps
   pub rules_are : ghost_then.system ≡ after_all t.system steps
   pub stands : WorldRefines ghost_then w
   pub answered : AllAlong (AnsweredSo h w other) t.system steps
   pub happened : AllAlong (HappenedSo h w other) t.system steps
 
+-- ---- what a place that nobody names stays
+
+unlisted_mark : (s : DeviceView) (m : Mark) → s.listed ≡ false → (view_after_mark s m).listed ≡ false
+unlisted_mark s (Took i d) off = off
+unlisted_mark s (Started i d begin) off = off
+unlisted_mark s (Rested i d) off = off
+unlisted_mark s (Returned i d) off = off
+unlisted_mark s (Loaded d page) off = off
+unlisted_mark s (Removed d) off = refl
+
+unlisted_marks : (ms : List Mark) (s t : DeviceView) → MarksLead s ms t → s.listed ≡ false → t.listed ≡ false
+unlisted_marks [] s t g off = ap (λ (x : DeviceView). x.listed) (sym g) ∙ off
+unlisted_marks (m ∷ ms) s t g off = unlisted_marks ms (view_after_mark s m) t g.1 (unlisted_mark s m off)
+
+nowhere_then : (s u : SystemState) (xs : List Transition) (i : ℕ) → u ≡ after_all s xs → ((d : ℕ) → MarksLead (device_view (s.make d) (s.device d)) (all_marks d s xs) (device_view (s.make d) ((after_all s xs).device d))) → (device_for s i).listed ≡ false → (device_for u i).listed ≡ false
+nowhere_then s u xs i is leads off =
+    let d = wanted_place s i in
+    let still : ((after_all s xs).device d).listed ≡ false = unlisted_marks (all_marks d s xs) (device_view (s.make d) (s.device d)) (device_view (s.make d) ((after_all s xs).device d)) (leads d) off in
+    ap (λ (x : SystemState). (device_for x i).listed) is ∙ (ap (λ (k : ℕ). ((after_all s xs).device k).listed) (wants_all xs s i) ∙ still)
+
+-- ---- a stranger's steps are no answer to a job, and nothing that comes to one
+
+uses_answered : (h : History) (w : WorldCore) (other : Job) (i : ℕ) (s : SystemState) (xs : List Transition) → AllByRecursion (IsUseOf i) xs → AllAlong (AnsweredSo h w other) s xs × AllAlong (HappenedSo h w other) s xs
+uses_answered h w other i s [] his = (tt, tt)
+uses_answered h w other i s (By j x ∷ xs) his = absurd his.0
+uses_answered h w other i s (Loads d page ∷ xs) his = absurd his.0
+uses_answered h w other i s (Unplugs d ∷ xs) his = absurd his.0
+uses_answered h w other i s (Uses u d shown left ∷ xs) his =
+    let more = uses_answered h w other i (after_transition s (Uses u d shown left)) xs his.1 in
+    ((tt, more.0), (tt, more.1))
+
+-- the laws on which they rest
+pub record Steps : Type 0 where
+  pub follow : EventsFollow
+  pub goes : JobsGoOn
+  pub acts : StrangersKeepWorlds
+  pub keeps : HistoriesKeepInvariant
+  pub last : OutcomesLast
+  pub all : AllIsKeptAmongStrangers
+
+-- an act of a stranger, and then these
+act_comes : Steps → (h : History) (w : WorldCore) (other : Job) (make : ℕ → Make) (a : StrangerAct) (more : List JointEvent) (t : Ghost) (u v : WorldCore) → StrangerActs a.session a.act u v → MayHaveStrangers t u → IsFixed h other t → t.system.make ≡ make →
+    ((g : Ghost) → MayHaveStrangers g v → IsFixed h other g → g.system.make ≡ make → Comes h w other more g) → Comes h w other (OfStranger a ∷ more) t
+act_comes laws h w other make a more t u v acts may fixed made next =
+    let one = laws.acts t u v a.session a.act may acts in
+    let g = ghost_behind one.steps t in
+    let later = next g one.stands fixed (makes_stay t.system one.steps ∙ made) in
+    let own = subst (λ (n : ℕ). AllByRecursion (IsOwnUse (n + a.session)) one.steps) (sym may.refines.is_of.count) (own_uses (length u.endpoints + a.session) t.system one.steps one.uses one.legal) in
+    let quiet = uses_answered h w other (length u.endpoints + a.session) t.system one.steps one.uses in
+    record {
+      steps = one.steps ++ later.steps;
+      ghost_then = later.ghost_then;
+      comes = (one.steps, later.steps, g, refl, (own, refl), refl, later.comes);
+      legal = history_then t.system one.steps later.steps one.legal later.legal;
+      rules_are = later.rules_are ∙ sym (after_then t.system one.steps later.steps);
+      stands = later.stands;
+      answered = along_then (AnsweredSo h w other) t.system one.steps later.steps quiet.0 later.answered;
+      happened = along_then (HappenedSo h w other) t.system one.steps later.steps quiet.1 later.happened;
+    }
+
 -- one event, and then these
-one_comes_then : EventsFollow → HistoriesKeepInvariant → OutcomesLast → AllIsKept → (h : History) (w : WorldCore) (other : Job) (make : ℕ → Make) (e : Event) (m : Moment h w e) (more : List Event) (t : Ghost) → AreTrueLoads source_state (e ∷ []) → IsFittingLoad source_state (infos_of h) make e → WorldRefines t m.before → IsFixed h other t → t.system.make ≡ make →
-    ((g : Ghost) → WorldRefines g m.behind → IsFixed h other g → g.system.make ≡ make → Comes h w other more g) → Comes h w other (e ∷ more) t
-one_comes_then follow keeps last all h w other make e m more t loads fit stands fixed made next =
+one_comes_then : Steps → (h : History) (w : WorldCore) (other : Job) (make : ℕ → Make) (e : Event) (m : Moment h w e) (more : List JointEvent) (t : Ghost) → AreTrueLoads source_state (e ∷ []) → IsFittingLoad source_state (infos_of h) make e → MayHaveStrangers t m.before → IsFixed h other t → t.system.make ≡ make →
+    ((g : Ghost) → MayHaveStrangers g m.behind → IsFixed h other g → g.system.make ≡ make → Comes h w other more g) → Comes h w other (OfJobs e ∷ more) t
+one_comes_then laws h w other make e m more t loads fit may fixed made next =
     let u = m.before in
     let v = m.behind in
+    let stands = may.refines in
     let infos : t.infos ≡ infos_of h = ap (λ (f : Fixed). f.1) fixed in
     let fit_there : IsFittingLoad source_state t.infos t.system.make e =
     subst (λ (xs : List DeviceInfo). IsFittingLoad source_state xs t.system.make e) (sym infos) (subst (λ (k : ℕ → Make). IsFittingLoad source_state (infos_of h) k e) (sym made) fit) in
-    let r = follow source_state (e ∷ []) t u v stands loads (fit_there, tt) m.leads in
+    let r = laws.follow source_state (e ∷ []) t u v stands loads (fit_there, tt) m.leads in
     let g = r.ghost_then in
     let c = one_comes e t r.steps g r.comes in
     let same : fixed_of g ≡ fixed_of t = stays_fixed source_state e t r.steps g c in
     let make_same : g.system.make ≡ t.system.make = ap (λ (s : SystemState). s.make) r.rules_are ∙ makes_stay t.system r.steps in
-    let later = next g r.stands (same ∙ fixed) (make_same ∙ made) in
+    let many : length v.endpoints ≡ length u.endpoints = sym r.stands.is_of.count ∙ (ap (λ (f : Fixed). f.2) same ∙ stands.is_of.count) in
+    let goes = laws.goes source_state e t u v may loads.0 fit_there (subst (Leads source_state e u) (sym m.leads.2) m.leads.1) in
+    let then_may : MayHaveStrangers g v = record {
+      refines = r.stands;
+      limits = goes.stands.limits;
+      nowhere = λ i high. nowhere_then t.system g.system r.steps i r.rules_are r.marks (may.nowhere i (subst (λ (n : ℕ). n ≤ i) many high));
+    } in
+    let later = next g then_may (same ∙ fixed) (make_same ∙ made) in
     let of = comes_of e t r.steps g c in
-    let came = came_or_none (λ can. came_event all (history_up_to h m.front) other t u v e m.led_before m.leads stands can) (event_can e t u r.steps g stands c) in
+    let came = came_or_none (λ can. came_event laws.all (history_up_to h m.front) other t u v e m.led_before m.leads stands can) (event_can e t u r.steps g stands c) in
     let fails = along_each (FailsInSome source_state (e ∷ []) t u v) (FailsSo (FailedHere h w other e m)) (fails_more (HasFailed source_state (e ∷ []) t u v) (FailedHere h w other e m) (failed_here h w other e m t fixed)) t.system r.steps r.failures in
     record {
       steps = r.steps ++ later.steps;
       ghost_then = later.ghost_then;
-      comes = (r.steps, later.steps, g, refl, c, later.comes);
+      comes = (r.steps, later.steps, g, refl, c, r.rules_are, later.comes);
       legal = history_then t.system r.steps later.steps r.legal (subst (λ (s : SystemState). IsHistory s later.steps) r.rules_are later.legal);
       rules_are = later.rules_are ∙ (ap (λ (s : SystemState). after_all s later.steps) r.rules_are ∙ sym (after_then t.system r.steps later.steps));
       stands = later.stands;
-      answered = along_then (AnsweredSo h w other) t.system r.steps later.steps (event_answers keeps h w other e m t g stands (kept_by all (history_up_to h m.front) m.before other m.led_before).alone fixed r.stands r.steps came r.rules_are of fails r.legal) (subst (λ (s : SystemState). AllAlong (AnsweredSo h w other) s later.steps) r.rules_are later.answered);
-      happened = along_then (HappenedSo h w other) t.system r.steps later.steps (event_happened last h w other e m t r.steps r.legal of fails (event_sends e t g u v r.steps stands r.stands c) came) (subst (λ (s : SystemState). AllAlong (HappenedSo h w other) s later.steps) r.rules_are later.happened);
+      answered = along_then (AnsweredSo h w other) t.system r.steps later.steps (event_answers laws.keeps h w other e m t g stands fixed r.stands r.steps came r.rules_are of fails r.legal) (subst (λ (s : SystemState). AllAlong (AnsweredSo h w other) s later.steps) r.rules_are later.answered);
+      happened = along_then (HappenedSo h w other) t.system r.steps later.steps (event_happened laws.last h w other e m t r.steps r.legal of fails (event_sends e t g u v r.steps stands r.stands c) came) (subst (λ (s : SystemState). AllAlong (HappenedSo h w other) s later.steps) r.rules_are later.happened);
     }
 
 -- where it changed nothing, these alone
-changing_comes : EventsFollow → HistoriesKeepInvariant → OutcomesLast → AllIsKept → (h : History) (w : WorldCore) (other : Job) (make : ℕ → Make) (e : Event) (m : Moment h w e) (more : List Event) (t : Ghost) (c : LoadChanges e m.before m.behind ⊎ (m.behind ≡ m.before)) → AreTrueLoads source_state (e ∷ []) → AreFittingLoads source_state (infos_of h) make (with_changing c e more) →
-    WorldRefines t m.before → IsFixed h other t → t.system.make ≡ make → ((g : Ghost) → AreFittingLoads source_state (infos_of h) make more → WorldRefines g m.behind → IsFixed h other g → g.system.make ≡ make → Comes h w other more g) → Comes h w other (with_changing c e more) t
-changing_comes follow keeps last all h w other make e m more t (inl changes) loads fits stands fixed made next =
-    one_comes_then follow keeps last all h w other make e m more t loads fits.0 stands fixed made (λ g. next g fits.1)
-changing_comes follow keeps last all h w other make e m more t (inr same) loads fits stands fixed made next = next t fits (subst (WorldRefines t) (sym same) stands) fixed made
+changing_comes : Steps → (h : History) (w : WorldCore) (other : Job) (make : ℕ → Make) (e : Event) (m : Moment h w e) (more : List JointEvent) (t : Ghost) (c : LoadChanges e m.before m.behind ⊎ (m.behind ≡ m.before)) → AreTrueLoads source_state (e ∷ []) → AreFittingLoads source_state (infos_of h) make (events_among (with_changing c (OfJobs e) more)) →
+    MayHaveStrangers t m.before → IsFixed h other t → t.system.make ≡ make → ((g : Ghost) → AreFittingLoads source_state (infos_of h) make (events_among more) → MayHaveStrangers g m.behind → IsFixed h other g → g.system.make ≡ make → Comes h w other more g) → Comes h w other (with_changing c (OfJobs e) more) t
+changing_comes laws h w other make e m more t (inl changes) loads fits may fixed made next =
+    one_comes_then laws h w other make e m more t loads fits.0 may fixed made (λ g. next g fits.1)
+changing_comes laws h w other make e m more t (inr same) loads fits may fixed made next = next t fits (subst (MayHaveStrangers t) (sym same) may) fixed made
 
 -- those of a run that change the world come to the rules
-pub come : EventsFollow → HistoriesKeepInvariant → OutcomesLast → AllIsKept → (h : History) (w : WorldCore) (other : Job) (make : ℕ → Make) (es seen : List Event) (t : Ghost) (u : WorldCore) → h.events ≡ seen ++ es → LedTo (history_up_to h seen) u → AreTrueLoads source_state es → (run : Runs source_state es u w) → AreFittingLoads source_state (infos_of h) make (changing_of es u w run) → WorldRefines t u → IsFixed h other t → t.system.make ≡ make → Comes h w other (changing_of es u w run) t
-come follow keeps last all h w other make [] seen t u split led loads run fits stands fixed made = record { steps = []; ghost_then = t; comes = (refl, refl); legal = tt; rules_are = refl; stands = subst (WorldRefines t) (sym run) stands; answered = tt; happened = tt }
-come follow keeps last all h w other make (e ∷ es) seen t u split led loads (v, leads, rest) fits stands fixed made =
+pub come : Steps → (h : History) (w : WorldCore) (other : Job) (make : ℕ → Make) (es seen : List JointEvent) (t : Ghost) (u : WorldCore) → h.events ≡ seen ++ es → LedTo (history_up_to h seen) u → AreTrueLoads source_state (events_among es) → (run : RunsAmong source_state es u w) → AreFittingLoads source_state (infos_of h) make (events_among (changing_of es u w run)) → MayHaveStrangers t u → IsFixed h other t → t.system.make ≡ make → Comes h w other (changing_of es u w run) t
+come laws h w other make [] seen t u split led loads run fits may fixed made = record { steps = []; ghost_then = t; comes = (refl, refl); legal = tt; rules_are = refl; stands = subst (WorldRefines t) (sym run) may.refines; answered = tt; happened = tt }
+come laws h w other make (OfJobs e ∷ es) seen t u split led loads (v, leads, rest) fits may fixed made =
     let m : Moment h w e = record { front = seen; back = es; split = split; before = u; led_before = led; behind = v; leads = (v, leads, refl); rest = rest } in
-    let on : LedTo (history_up_to h (seen ++ e ∷ [])) v = led_then (history_up_to h seen) (e ∷ []) u v led (loads.0, tt) (v, leads, refl) in
-    let further : h.events ≡ (seen ++ e ∷ []) ++ es = split ∙ sym (append_assoc seen (e ∷ []) es) in
-    changing_comes follow keeps last all h w other make e m (changing_of es v w rest) t (changes_or_same e u v leads) (loads.0, tt) fits stands fixed made
-    (λ g fit. come follow keeps last all h w other make es (seen ++ e ∷ []) g v further on loads.1 rest fit)
+    let on : LedTo (history_up_to h (seen ++ OfJobs e ∷ [])) v = led_then (history_up_to h seen) (e ∷ []) u v led (loads.0, tt) (v, leads, refl) in
+    let further : h.events ≡ (seen ++ OfJobs e ∷ []) ++ es = split ∙ sym (append_assoc seen (OfJobs e ∷ []) es) in
+    changing_comes laws h w other make e m (changing_of es v w rest) t (changes_or_same e u v leads) (loads.0, tt) fits may fixed made
+    (λ g fit. come laws h w other make es (seen ++ OfJobs e ∷ []) g v further on loads.1 rest fit)
+come laws h w other make (OfStranger a ∷ es) seen t u split led loads (v, acts, rest) fits may fixed made =
+    let on : LedTo (history_up_to h (seen ++ OfStranger a ∷ [])) v = led_on (history_up_to h seen) (OfStranger a ∷ []) u v led tt (v, acts, refl) in
+    let further : h.events ≡ (seen ++ OfStranger a ∷ []) ++ es = split ∙ sym (append_assoc seen (OfStranger a ∷ []) es) in
+    act_comes laws h w other make a (changing_of es v w rest) t u v acts may fixed made
+    (λ g. come laws h w other make es (seen ++ OfStranger a ∷ []) g v further on loads rest fits)

@@ -32,11 +32,11 @@ use Rattle.daemon_refines.proofs.OtherSessions.{IsThere}
 use Rattle.event_world.specs.Worlds.{WorldCore}
 use Rattle.world_refines.specs.FailedSources.{AllAlong}
 use Rattle.world_refines.specs.GhostStates.{Ghost, backend_of, is_guarded, name_at, place_named}
-use Rattle.world_refines.specs.WorldRefinement.{HaveDifferentNames, WorldRefines}
+use Rattle.world_refines.specs.WorldRefinement.{HaveDifferentNames, WorldRefines, stranger_of}
 use Rattle.world_refines.proofs.state.Finding.{find_there, names_at}
 use Rattle.scan_world.specs.Endings.{HasPassed, WasOpened}
 use Rattle.scan_world.specs.Histories.{History}
-use Rattle.scan_world.specs.Sessions.{Has}
+use Rattle.scan_world.specs.Sessions.{Has, StrangerHas}
 use Rattle.scan_world.proofs.Along.{Here, Laws, own_place}
 use Rattle.scan_world.proofs.Begun.{job_stays, party_stays}
 use Rattle.scan_world.proofs.Pages.{HasDevice, IsOfOne, name_there}
@@ -45,7 +45,7 @@ use Rattle.scan_world.proofs.moments.Entries.{own_party, unsome}
 use Rattle.scan_world.proofs.moments.Judged.{Front, asked_open, here_then, infos_there, judged_by}
 use Rattle.scan_world.proofs.moments.Moments.{AnsweredSo}
 use Rattle.scan_world.proofs.moments.Requests.{IsOpening}
-use Rattle.scan_world.proofs.moments.Stands.{has_holds, table_of}
+use Rattle.scan_world.proofs.moments.Stands.{has_holds, stranger_holds, table_of}
 
 -- ---- what an opening comes from
 
@@ -174,6 +174,12 @@ none_has t w name k h free named j d has =
     let same : m.place ≡ k = h.is_of.apart m.place k name m.named named in
     let clash : None ≡ Some j = sym free ∙ (ap (λ (n : ℕ). (t.system.device n).holder) (sym same) ∙ ap (λ (dev : AbstractDevice). dev.holder) m.is) in cc
 
+none_shares : (t : Ghost) (w : WorldCore) (name : List ℕ) (k : ℕ) → WorldRefines t w → (t.system.device k).holder ≡ None → name_at t.infos k ≡ Some name → StrangerHas w name → ⊥
+none_shares t w name k h free named x =
+    let m = stranger_holds t w name h x in
+    let same : m.place ≡ k = h.is_of.apart m.place k name m.named named in
+    let clash : None ≡ Some (stranger_of w m.number) = sym free ∙ (ap (λ (n : ℕ). (t.system.device n).holder) (sym same) ∙ m.held) in cc
+
 permitted_by : (h : History) (w : WorldCore) (i : ℕ) (job : Job) (s : SystemState) → Here h i job s → IsUnderWay (s.job i).client.stage → (s.job i).served ≡ true → (a : Front h w job s i) → ((s.job i).session.job.guarded ≡ false) ⊎ ((c : Challenge) × ((s.job i).session.awaited ≡ Some c) × ((s.job i).session.job.allows c ≡ true)) → (is_guarded h.users (backend_of job.device) ≡ false) ⊎ HasPassed h a.1.at.before i job true
 permitted_by h w i job s e on served a (inl unguarded) = inl (ap (λ (j : AbstractJob). j.guarded) (sym e.is) ∙ unguarded)
 permitted_by h w i job s e on served a (inr (c, awaited, allows)) = inr (judged_by h w i job s true e on served a c awaited allows)
@@ -198,6 +204,7 @@ opened_by h w i job s x q rest e on served a todo guards allows g =
       asked = asked_open h w i job s on a (q, rest, todo, g.opens);
       listed = listed_found t a.1.at.before job.device (wanted_place s i) a.1.stands (ap (λ (dev : AbstractDevice). dev.listed) same ∙ g.listed) named;
       free = none_has t a.1.at.before job.device (wanted_place s i) a.1.stands (ap (λ (dev : AbstractDevice). dev.holder) same ∙ g.free) named;
+      unshared = none_shares t a.1.at.before job.device (wanted_place s i) a.1.stands (ap (λ (dev : AbstractDevice). dev.holder) same ∙ g.free) named;
       permitted = permitted_by h w i job s e on served a may;
     } in
     (opened, there)

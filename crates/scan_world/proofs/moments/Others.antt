@@ -22,9 +22,10 @@ use Rattle.event_world.specs.declared.event.JobEvent.{JobEvent}
 use Rattle.event_world.specs.declared.event.JobEvent.TheVariants.{Connect, ToDaemon, ToClient, DataConnect, DataTurn, DataToClient, LoseControl, LoseImage, Cancel}
 use Rattle.event_world.specs.JobEvents.{job_event_of}
 use Rattle.event_world.specs.Worlds.{AtEndpoint, Leads, Runs, WorldCore}
-use Rattle.world_refines.specs.MainTheorem.{AllIsKept, AreTrueLoads}
+use Rattle.world_refines.specs.MainTheorem.{AreTrueLoads}
 use Rattle.world_refines.specs.WorldRefinement.{WorldRefines}
 use Rattle.world_refines.proofs.job_events.LeftAlone.{Kept, happens_kept}
+use Rattle.strangers.specs.Together.{AllIsKeptAmongStrangers}
 use Rattle.scan_world.specs.Histories.{History, LedTo, and_then}
 use Rattle.scan_world.proofs.Scanned.{kept_by}
 use Rattle.scan_world.specs.Calls.{ScansStay, SessionsStay}
@@ -64,7 +65,7 @@ stays_at t w v i j x s h other at a =
     ] in
     record { endpoint = a.endpoint; is_there = there ∙ a.is_there; id = a.id; linked = a.linked; stands = ap session_in slot ∙ a.stands }
 
-by_jobs : AllIsKept → (h : History) (w v : WorldCore) (i j : ℕ) (x : JobEvent) (s : Session DeviceState) (l : LedTo h w) → j ≢ i → AtEndpoint w j x v → SessionAt w i s → (jobs : List Job) → h.jobs ≡ jobs → SessionAt v i s
+by_jobs : AllIsKeptAmongStrangers → (h : History) (w v : WorldCore) (i j : ℕ) (x : JobEvent) (s : Session DeviceState) (l : LedTo h w) → j ≢ i → AtEndpoint w j x v → SessionAt w i s → (jobs : List Job) → h.jobs ≡ jobs → SessionAt v i s
 by_jobs all h w v i j x s l other at a [] is = absurd (let clash : None ≡ Some a.endpoint = ap (λ (ps : List Endpoint). slice_get ps i) (sym (no_endpoints h w l is)) ∙ a.is_there in cc)
 by_jobs all h w v i j x s l other at a (job ∷ jobs) is =
     let k = kept_by all h w job l in
@@ -144,13 +145,13 @@ NotLoad e = (name : List ℕ) (source : Source) → e ≡ events.Load name sourc
 unplugged : (w v : WorldCore) (i : ℕ) (name : List ℕ) (s : Session DeviceState) → v ≡ record w { daemon = record w.daemon { registry = after_unplug w.daemon.registry name } } → SessionAt w i s → SessionAt v i s
 unplugged w v i name s same a = record { endpoint = a.endpoint; is_there = ap (λ (y : WorldCore). slice_get y.endpoints i) same ∙ a.is_there; id = a.id; linked = a.linked; stands = ap (λ (y : WorldCore). session_of y.daemon a.id.number) same ∙ a.stands }
 
-of_another : AllIsKept → (h : History) (w u : WorldCore) (i j : ℕ) (x : JobEvent) (s : Session DeviceState) → LedTo h w → AtEndpoint w j x u → NotOf (job_event_of j x) i → SessionAt w i s → SessionAt u i s
+of_another : AllIsKeptAmongStrangers → (h : History) (w u : WorldCore) (i j : ℕ) (x : JobEvent) (s : Session DeviceState) → LedTo h w → AtEndpoint w j x u → NotOf (job_event_of j x) i → SessionAt w i s → SessionAt u i s
 of_another all h w u i j x s l at none a = elim (decide j i) [
   | inl same ↦ absurd (none x (ap (λ (n : ℕ). job_event_of n x) same))
   | inr other ↦ by_jobs all h w u i j x s l other at a h.jobs refl
 ]
 
-event_leaves : AllIsKept → (h : History) (w u : WorldCore) (i : ℕ) (e : Event) (s : Session DeviceState) → LedTo h w → Leads source_state e w u → NotOf e i → NotLoad e → SessionAt w i s → SessionAt u i s
+event_leaves : AllIsKeptAmongStrangers → (h : History) (w u : WorldCore) (i : ℕ) (e : Event) (s : Session DeviceState) → LedTo h w → Leads source_state e w u → NotOf e i → NotLoad e → SessionAt w i s → SessionAt u i s
 event_leaves all h w u i (events.Connect j) s l at none loads a = of_another all h w u i j Connect s l at none a
 event_leaves all h w u i (events.ToDaemon j n) s l at none loads a = of_another all h w u i j (ToDaemon n) s l at none a
 event_leaves all h w u i (events.ToClient j n) s l at none loads a = of_another all h w u i j (ToClient n) s l at none a
@@ -169,7 +170,7 @@ first_of e y es same = (0, omega arith, same)
 later_of : (e y : Event) (es : List Event) → Contains es y → Contains (e ∷ es) y
 later_of e y es there = (suc there.0, omega (arith, there.1), there.2)
 
-pub sessions_stay : AllIsKept → (h : History) (es : List Event) (w v : WorldCore) → LedTo h w → AreTrueLoads source_state es → Runs source_state es w v → SessionsStay es w v
+pub sessions_stay : AllIsKeptAmongStrangers → (h : History) (es : List Event) (w v : WorldCore) → LedTo h w → AreTrueLoads source_state es → Runs source_state es w v → SessionsStay es w v
 sessions_stay all h [] w v l loads run i s others none a = subst (λ (x : WorldCore). SessionAt x i s) (sym run) a
 sessions_stay all h (e ∷ es) w v l loads (u, one, rest) i s others none a =
     let led = led_then h (e ∷ []) w u l (loads.0, tt) (u, one, refl) in
@@ -177,11 +178,11 @@ sessions_stay all h (e ∷ es) w v l loads (u, one, rest) i s others none a =
     (event_leaves all h w u i e s l one (λ own is. others own (first_of e (job_event_of i own) es is)) (λ name source is. none name source (first_of e (events.Load name source) es is)) a)
 
 -- of one event, a page that is laid in among them
-scan_leaves : AllIsKept → (h : History) (w u : WorldCore) (i : ℕ) (e : Event) (name : List ℕ) (d : DeviceState) → LedTo h w → Leads source_state e w u → NotOf e i → is_at_rest d.phase ≡ false → Has w i name d → Has u i name d
+scan_leaves : AllIsKeptAmongStrangers → (h : History) (w u : WorldCore) (i : ℕ) (e : Event) (name : List ℕ) (d : DeviceState) → LedTo h w → Leads source_state e w u → NotOf e i → is_at_rest d.phase ≡ false → Has w i name d → Has u i name d
 scan_leaves all h w u i (events.Load other source) name d l at none busy x = still_has w u i other name (source_state source) d at busy x
 scan_leaves all h w u i e name d l at none busy x = record { session = x.session; at = event_leaves all h w u i e x.session l at none (λ other source is. (let clash : e ≡ events.Load other source = is in cc)) x.at; word = x.word; lease = x.lease; held = x.held; is = x.is; named = x.named }
 
-pub scans_stay : AllIsKept → (h : History) (es : List Event) (w v : WorldCore) → LedTo h w → AreTrueLoads source_state es → Runs source_state es w v → ScansStay es w v
+pub scans_stay : AllIsKeptAmongStrangers → (h : History) (es : List Event) (w v : WorldCore) → LedTo h w → AreTrueLoads source_state es → Runs source_state es w v → ScansStay es w v
 scans_stay all h [] w v l loads run i name d others busy x = subst (λ (y : WorldCore). Has y i name d) (sym run) x
 scans_stay all h (e ∷ es) w v l loads (u, one, rest) i name d others busy x =
     let led = led_then h (e ∷ []) w u l (loads.0, tt) (u, one, refl) in

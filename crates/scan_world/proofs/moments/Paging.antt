@@ -9,6 +9,8 @@ use Rattle.saned_core.specs.DaemonStates.{Core, after_connected, after_lost, aft
 use Rattle.scan_job.specs.declared.job.Job.{Job}
 use Rattle.event_world.specs.declared.endpoint.Endpoint.{Endpoint}
 use Rattle.event_world.specs.declared.event.Event.{Event}
+use Rattle.strangers.specs.Together.{AllIsKeptAmongStrangers}
+use Rattle.strangers.specs.Together.JointEvent.{OfJobs}
 use Rattle.scan_world.specs.Histories.{history_up_to}
 use Rattle.event_world.specs.declared.event.JobEvent.{JobEvent}
 use Rattle.event_world.specs.declared.event.JobEvent.TheVariants.{Connect, ToDaemon, ToClient, DataConnect, DataTurn, DataToClient, LoseControl, LoseImage, Cancel}
@@ -16,7 +18,6 @@ use Rattle.event_world.specs.Endpoints.{after_move, laid_by}
 use Rattle.event_world.specs.JobEvents.{Can, Does, Happens, HeedsPiece, IfLinked, SendsRecord, SendsStep, TakesDataPiece, is_done, with_last_page, image_lost}
 use Rattle.event_world.specs.Worlds.{AtEndpoint, Leads, Runs, WorldCore}
 use Rattle.event_world.proofs.Deciding.{can_or_not}
-use Rattle.world_refines.specs.MainTheorem.{AllIsKept}
 use Rattle.scan_world.specs.Histories.{History, LedTo}
 use Rattle.scan_world.proofs.Scanned.{kept_by}
 use Rattle.scan_world.specs.Sessions.{Has}
@@ -273,12 +274,12 @@ event_page t u w v i (events.Unplug other) name a b h g at not_asked x y was bus
     let still : Has v i name a = record { session = x.session; at = record { endpoint = x.at.endpoint; is_there = ap (λ (z : WorldCore). slice_get z.endpoints i) at ∙ x.at.is_there; id = x.at.id; linked = x.at.linked; stands = ap (λ (z : WorldCore). session_of z.daemon x.at.id.number) at ∙ x.at.stands }; word = x.word; lease = x.lease; held = x.held; is = x.is; named = x.named } in
     ap page_of (one_lease u v i name b a g y still).0
 
-by_jobs : AllIsKept → (h : History) (w v : WorldCore) (i : ℕ) (name : List ℕ) (a b : DeviceState) (e : Event) (l : LedTo h w) → LedTo (history_up_to h (h.events ++ e ∷ [])) v → NotAsked e i → Leads source_state e w v → Has w i name a → Has v i name b → is_at_rest a.phase ≡ false → is_at_rest b.phase ≡ false → (jobs : List Job) → h.jobs ≡ jobs → page_of b ≡ page_of a
+by_jobs : AllIsKeptAmongStrangers → (h : History) (w v : WorldCore) (i : ℕ) (name : List ℕ) (a b : DeviceState) (e : Event) (l : LedTo h w) → LedTo (history_up_to h (h.events ++ OfJobs e ∷ [])) v → NotAsked e i → Leads source_state e w v → Has w i name a → Has v i name b → is_at_rest a.phase ≡ false → is_at_rest b.phase ≡ false → (jobs : List Job) → h.jobs ≡ jobs → page_of b ≡ page_of a
 by_jobs all h w v i name a b e l lv not_asked lead x y was busy [] is = absurd (let clash : None ≡ Some x.at.endpoint = ap (λ (ps : List Endpoint). slice_get ps i) (sym (no_endpoints h w l is)) ∙ x.at.is_there in cc)
 by_jobs all h w v i name a b e l lv not_asked lead x y was busy (job ∷ jobs) is =
     let k = kept_by all h w job l in
-    let m = kept_by all (history_up_to h (h.events ++ e ∷ [])) v job lv in
+    let m = kept_by all (history_up_to h (h.events ++ OfJobs e ∷ [])) v job lv in
     event_page k.run.ghost_then m.run.ghost_then w v i e name a b k.run.stands m.run.stands lead not_asked x y was busy
 
-pub unasked_page : AllIsKept → (h : History) (w v : WorldCore) (i : ℕ) (name : List ℕ) (a b : DeviceState) (e : Event) → LedTo h w → LedTo (history_up_to h (h.events ++ e ∷ [])) v → NotAsked e i → Runs source_state (e ∷ []) w v → Has w i name a → Has v i name b → is_at_rest a.phase ≡ false → is_at_rest b.phase ≡ false → page_of b ≡ page_of a
+pub unasked_page : AllIsKeptAmongStrangers → (h : History) (w v : WorldCore) (i : ℕ) (name : List ℕ) (a b : DeviceState) (e : Event) → LedTo h w → LedTo (history_up_to h (h.events ++ OfJobs e ∷ [])) v → NotAsked e i → Runs source_state (e ∷ []) w v → Has w i name a → Has v i name b → is_at_rest a.phase ≡ false → is_at_rest b.phase ≡ false → page_of b ≡ page_of a
 unasked_page all h w v i name a b e l lv not_asked run x y was busy = by_jobs all h w v i name a b e l lv not_asked (subst (Leads source_state e w) (sym run.2) run.1) x y was busy h.jobs refl

@@ -25,8 +25,8 @@ use Rattle.event_world.specs.JobEvents.{job_event_of}
 use Rattle.event_world.specs.JobMoves.{moves_left_of}
 use Rattle.event_world.specs.Worlds.{Runs, WorldCore}
 use Rattle.world_refines.specs.GhostStates.{Ghost, place_of_info}
-use Rattle.world_refines.specs.MainTheorem.{AllIsKept}
 use Rattle.world_refines.specs.WorldRefinement.{WorldRefines, client_at_greeting}
+use Rattle.strangers.specs.Together.{AllIsKeptAmongStrangers}
 use Rattle.scan_world.specs.Calls.{left_at, moves_answered}
 use Rattle.scan_world.specs.Histories.{History, LedTo}
 use Rattle.scan_world.specs.Sessions.{CameAsItRan, CanAt}
@@ -63,7 +63,7 @@ some_left (suc n) none = omega arith
 not_less : (n : ℕ) → n < n → ⊥
 not_less n h = omega (arith, h)
 
-pub came_there : AllIsKept → (h : History) (other : Job) (u v : WorldCore) (i : ℕ) (x : JobEvent) → LedTo h u → Runs source_state (job_event_of i x ∷ []) u v → CanAt u i x → RunsAt u i → CameAsItRan i u v
+pub came_there : AllIsKeptAmongStrangers → (h : History) (other : Job) (u v : WorldCore) (i : ℕ) (x : JobEvent) → LedTo h u → Runs source_state (job_event_of i x ∷ []) u v → CanAt u i x → RunsAt u i → CameAsItRan i u v
 came_there all h other u v i x l run can ran =
     let k = kept_by all h u other l in
     let left : left_at u i ≡ moves_left_of ran.0 = ap moves_answered ran.1 in

@@ -1,6 +1,6 @@
 -- What a session holds by the model it holds in the world, and the other way round.
-use Rattle.std.specs.Prelude.{slice_get}
-use Rattle.std.proofs.Common.{◌≡◌, ◌∙◌, ◌⊎◌, ℕ, List, [], Bool, true, false, Option, Some, None, refl, sym, ap, subst, inl, inr}
+use Rattle.std.specs.Prelude.{slice_get, length, ◌≤◌}
+use Rattle.std.proofs.Common.{◌≡◌, ◌∙◌, ◌⊎◌, ℕ, arith, List, [], Bool, true, false, Option, Some, None, refl, sym, ap, subst, inl, inr}
 use Rattle.sane_fixed.specs.declared.device_info.DeviceInfo.{DeviceInfo}
 use Rattle.device_api.specs.State.{DeviceState}
 use Rattle.dispatch.specs.declared.table.place.Lease.{Lease}
@@ -25,15 +25,15 @@ use Rattle.event_world.specs.declared.endpoint.Endpoint.{Endpoint}
 use Rattle.event_world.specs.Worlds.{WorldCore}
 use Rattle.world_refines.specs.GhostStates.{Ghost, name_at, place_named}
 use Rattle.world_refines.specs.Speaks.{Awaits, Speaks}
-use Rattle.world_refines.specs.WorldRefinement.{HasNoStrangers, IsServed, WorldRefines, session_by, slot_of_link}
+use Rattle.world_refines.specs.WorldRefinement.{HasNoStrangers, IsLinked, IsNobodys, IsServed, WorldRefines, session_by, slot_of_link, stranger_of}
 use Rattle.world_refines.proofs.state.CoreCallsKeep.{holds_wanted}
 use Rattle.world_refines.proofs.state.Finding.{found_place, names_at}
 use Rattle.world_refines.proofs.state.Infos.{place_is}
-use Rattle.world_refines.proofs.state.Strangers.{far_nothing, far_table}
+use Rattle.world_refines.proofs.state.Strangers.{far_from, far_nothing, far_table, whose_is}
 use Rattle.world_refines.proofs.state.Taking.{served_table}
 use Rattle.scan_laws.specs.Passes.{IsInScan}
-use Rattle.scan_world.specs.Sessions.{Has, SessionAt}
-use Rattle.scan_world.proofs.moments.Entries.{past_end}
+use Rattle.scan_world.specs.Sessions.{Has, SessionAt, StrangerHas}
+use Rattle.scan_world.proofs.moments.Entries.{end_at, past_end}
 
 -- ---- a device that is held by the model is lent
 
@@ -83,9 +83,8 @@ lease_name t w l h o =
 abbrev pub HasIt : Ghost → WorldCore → ℕ → ℕ → List ℕ → Type 0
 HasIt t w k j name = (d : DeviceState) × Has w j name d × (t.system.device k ≡ abstract_device (Some j) d) × IsInScan d
 
-has_by : (t : Ghost) (w : WorldCore) (k j : ℕ) (name : List ℕ) (o : Option Endpoint) → slice_get w.endpoints j ≡ o → WorldRefines t w → HasNoStrangers w → (t.system.device k).holder ≡ Some j → name_at t.infos k ≡ Some name → HasIt t w k j name
-has_by t w k j name None at h alone is named = absurd (nothing_held k (table_holds j t.system.make [] w.daemon.registry t.system.device (far_nothing t w j h alone (past_end w.endpoints j at)) k is))
-has_by t w k j name (Some p) at h alone is named =
+pub job_has : (t : Ghost) (w : WorldCore) (k j : ℕ) (name : List ℕ) (p : Endpoint) → slice_get w.endpoints j ≡ Some p → WorldRefines t w → (t.system.device k).holder ≡ Some j → name_at t.infos k ≡ Some name → HasIt t w k j name
+job_has t w k j name p at h is named =
     let l = lends j t.system.make w.daemon p.link (t.system.job j).served t.system.device (session_by j t.system.device (t.system.job j)) (h.endpoints j p at).served k is in
     let there : Some l.lease.device.info.name ≡ Some name = sym (lease_name t w l.lease h l.lent.own) ∙ (ap (name_at t.infos) l.place ∙ named) in (
       l.lease.device,
@@ -102,8 +101,56 @@ has_by t w k j name (Some p) at h alone is named =
       l.lent.made.in_scan,
     )
 
-pub holder_has : (t : Ghost) (w : WorldCore) (k j : ℕ) (name : List ℕ) → WorldRefines t w → HasNoStrangers w → (t.system.device k).holder ≡ Some j → name_at t.infos k ≡ Some name → HasIt t w k j name
-holder_has t w k j name h alone is named = has_by t w k j name (slice_get w.endpoints j) refl h alone is named
+-- a client behind all jobs that holds it is a stranger, whose session has it
+not_empty : (t : Ghost) (w : WorldCore) (k i : ℕ) → TableRefines i t.system.make [] w.daemon.registry t.system.device → (t.system.device k).holder ≡ Some i → ⊥
+not_empty t w k i table is = nothing_held k (table_holds i t.system.make [] w.daemon.registry t.system.device table k is)
+
+stranger_by : (t : Ghost) (w : WorldCore) (k n : ℕ) (name : List ℕ) → WorldRefines t w → (t.system.device k).holder ≡ Some (stranger_of w n) → name_at t.infos k ≡ Some name → (o : Option (Session DeviceState)) → session_of w.daemon n ≡ o → IsLinked w.endpoints n ⊎ IsNobodys w n → StrangerHas w name
+stranger_by t w k n name h is named None none whose = absurd (not_empty t w k (stranger_of w n) ((h.strangers n).rests (inl none)) is)
+stranger_by t w k n name h is named (Some session) sat (inl linked) = absurd (not_empty t w k (stranger_of w n) ((h.strangers n).rests (inr linked)) is)
+stranger_by t w k n name h is named (Some session) sat (inr nobodys) =
+    let r = ((h.strangers n).sits session sat nobodys).1 in
+    let p = table_holds (stranger_of w n) t.system.make r.session.held w.daemon.registry t.system.device r.shows.devices k is in
+    let l = r.shows.devices.leases p.word p.lease p.stands in
+    let there : Some p.lease.device.info.name ≡ Some name = sym (lease_name t w p.lease h l.own) ∙ (ap (name_at t.infos) p.place ∙ named) in
+    record { number = n; nobodys = nobodys; leases = record { session = r.session; stands = r.stands; word = p.word; lease = p.lease; held = p.stands; named = (let same : Some p.lease.device.info.name ≡ Some name = there in cc) } }
+
+far_has : (t : Ghost) (w : WorldCore) (k j : ℕ) (name : List ℕ) → WorldRefines t w → length w.endpoints ≤ j → (t.system.device k).holder ≡ Some j → name_at t.infos k ≡ Some name → StrangerHas w name
+far_has t w k j name h high is named =
+    let far = far_from (length w.endpoints) j high in
+    stranger_by t w k far.0 name h (is ∙ ap (λ (n : ℕ). Some n) far.1) named (session_of w.daemon far.0) refl (whose_is w far.0)
+
+-- so a job's session has it, or a stranger's
+pub holder_has : (t : Ghost) (w : WorldCore) (k j : ℕ) (name : List ℕ) → WorldRefines t w → (t.system.device k).holder ≡ Some j → name_at t.infos k ≡ Some name → HasIt t w k j name ⊎ StrangerHas w name
+holder_has t w k j name h is named = elim (end_at (slice_get w.endpoints j)) [
+  | inl none ↦ inr (far_has t w k j name h (past_end w.endpoints j none) is named)
+  | inr there ↦ inl (job_has t w k j name there.0 there.1 h is named)
+]
+
+-- what a stranger's session has is held by the model
+pub record StrangerHolds (t : Ghost) (w : WorldCore) (name : List ℕ) : Type 0 where
+  pub place : ℕ
+  pub number : ℕ
+  pub held : (t.system.device place).holder ≡ Some (stranger_of w number)
+  pub named : name_at t.infos place ≡ Some name
+
+pub stranger_holds : (t : Ghost) (w : WorldCore) (name : List ℕ) → WorldRefines t w → StrangerHas w name → StrangerHolds t w name
+stranger_holds t w name h x =
+    let r = ((h.strangers x.number).sits x.leases.session x.leases.stands x.nobodys).1 in
+    let same : r.session ≡ x.leases.session = (let both : Some r.session ≡ Some x.leases.session = sym r.stands ∙ x.leases.stands in cc) in
+    let l = r.shows.devices.leases x.leases.word x.leases.lease (subst (λ (s : Session DeviceState). held_by s.held x.leases.word ≡ Some x.leases.lease) (sym same) x.leases.held) in
+    record {
+      place = x.leases.lease.place;
+      number = x.number;
+      held = ap (λ (dev : AbstractDevice). dev.holder) l.device;
+      named = lease_name t w x.leases.lease h l.own ∙ ap (λ (n : List ℕ). Some n) x.leases.named;
+    }
+
+-- which none has where no session is a stranger's
+pub none_alone : (t : Ghost) (w : WorldCore) (name : List ℕ) → WorldRefines t w → HasNoStrangers w → StrangerHas w name → ⊥
+none_alone t w name h alone x =
+    let s = stranger_holds t w name h x in
+    not_empty t w s.place (stranger_of w s.number) (far_nothing t w (stranger_of w s.number) h alone (omega arith)) s.held
 
 -- ---- what is had is held by the model
 

@@ -21,6 +21,8 @@ use Rattle.event_world.specs.Endpoints.{after_move, laid_by, shut_out, with_imag
 use Rattle.event_world.specs.JobEvents.{Connects, Does, Happens, HeedsPiece, IfLinked, SendsRecord, SendsStep, TakesDataPiece, after_fed, is_done, with_last_page, without_sent}
 use Rattle.event_world.specs.Worlds.{AreNew, AtEndpoint, Leads, Runs, WorldCore}
 use Rattle.event_world.proofs.Deciding.{can_or_not}
+use Rattle.strangers.specs.Together.{JointEvent, RunsAmong}
+use Rattle.strangers.specs.Together.JointEvent.{OfJobs, OfStranger}
 use Rattle.scan_world.specs.Histories.{History, LedTo}
 use Rattle.scan_world.proofs.moments.Linked.{goes}
 
@@ -133,9 +135,10 @@ lead_none (events.Cancel j) w u i a n = at_none w u j _ i a n
 lead_none (events.Load name source) w u i a n = same_none w u i (ap (λ (y : WorldCore). y.endpoints) a) n
 lead_none (events.Unplug name) w u i a n = same_none w u i (ap (λ (y : WorldCore). y.endpoints) a) n
 
-runs_none : (es : List Event) (w v : WorldCore) (i : ℕ) → Runs source_state es w v → HasNone w i → HasNone v i
+runs_none : (es : List JointEvent) (w v : WorldCore) (i : ℕ) → RunsAmong source_state es w v → HasNone w i → HasNone v i
 runs_none [] w v i run n = same_none w v i (ap (λ (y : WorldCore). y.endpoints) run) n
-runs_none (e ∷ es) w v i (u, leads, rest) n = runs_none es u v i rest (lead_none e w u i leads n)
+runs_none (OfJobs e ∷ es) w v i (u, leads, rest) n = runs_none es u v i rest (lead_none e w u i leads n)
+runs_none (OfStranger a ∷ es) w v i (u, acts, rest) n = runs_none es u v i rest (same_none w u i acts.rest n)
 
 first_none : (jobs : List Job) (endpoints : List Endpoint) (i : ℕ) (p : Endpoint) → AreNew jobs endpoints → slice_get endpoints i ≡ Some p → p.file ≡ Some []
 first_none [] [] i p new at = absurd (let clash : None ≡ Some p = at in cc)
