@@ -3,7 +3,7 @@
 //! No clause of `Write` tells that a write failed, and none of `Shelf` that an output was refused, where the shelf tells
 //! nothing of itself. So the methods below, of which each makes one call and notes its result, are the only ones that a job
 //! calls an output by; that it ends for its output is bound to these notes by the contracts above.
-ghost use Rattle.std.specs.Prelude.{◌≡◌, ◌+◌, ◌^◌, ◌||◌, not, true, false, IfOk};
+ghost use Rattle.std.specs.Prelude.{◌≡◌, ◌<◌, ◌+◌, ◌^◌, ◌||◌, not, true, false, length, IfOk};
 ghost use Rattle.std.specs.Result.{is_err};
 ghost use Rattle.std.specs.Io.{WritesAtMost};
 ghost use Rattle.std.specs.Io.KnownBytes.{WriteAppends};
@@ -61,6 +61,8 @@ impl OutputTally {
 
     /// Writes once.
     pub fn write<W: Write>(&mut self, to: &mut W, bytes: &[u8]) -> io::Result<usize>
+        // Of nothing a writer takes nothing, which would be noted as a failure.
+        requires { 0 < length bytes.now }
         // As the one call.
         ensures bound { WritesAtMost result bytes.now }
         ensures bytes { WriteAppends (W.contents to.old) (W.contents to.new) result bytes.now }

@@ -257,7 +257,8 @@ impl<D: Device> EventWorld<D> {
         }
     }
 
-    /// Whether a growth was refused on a connection of job i, in its session or for a file of it.
+    /// Whether a growth was refused on a connection of job i, in its session or for a file of it, or no session was free
+    /// for it.
     pub fn starved(&self, i: usize) -> bool
         ensures is { (p : Endpoint)
             → slice_get self.now.endpoints i ≡ Some p → result ≡ p.out_of_memory }

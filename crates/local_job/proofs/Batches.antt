@@ -172,7 +172,7 @@ last_refused s now new n count before stock next stop run filed rests few is =
     }
 
 -- a page was not scanned
-pub page_ended : (s now new : DeviceState) (n count : ℕ) (before stock next : Option Stock) (stop : Stop) → HasRun s now n before stock → n ≤ count → LeavesPage (n + 1) stock next
+pub page_ended : (s now new : DeviceState) (n count : ℕ) (before stock next : Option Stock) (stop : Stop) → HasRun s now n before stock → n < count → LeavesPage (n + 1) stock next
     → EndsPage now n new stop → StopsAt count (record { device = s; stock = before }) (record { device = new; stock = next }) stop
 page_ended s now new n count before stock next stop run few left ends =
     let number : n ≡ length run.files = sym run.count in
@@ -180,7 +180,7 @@ page_ended s now new n count before stock next stop run few left ends =
       files = run.files;
       pages = run.pages;
       few = omega (arith, run.count, few);
-      ended = inr (record {
+      ended = inr (omega (arith, run.count, few), record {
         text = left.text;
         not_whole = left.not_whole;
         left = left.left;
@@ -191,6 +191,6 @@ page_ended s now new n count before stock next stop run few left ends =
     }
 
 -- there is no memory for the first
-pub no_memory_first : (s : DeviceState) (count : ℕ) (before : Option Stock) (stop : Stop) → stop ≡ no_memory → StopsAt count (record { device = s; stock = before }) (record { device = s; stock = before }) stop
-no_memory_first s count before stop is = page_ended s s s 0 count before before before stop (none_run s before) (omega arith) (record { text = []; not_whole = nothing_is_not_whole; left = []; is_left = refl; outputs = takes_none before })
+pub no_memory_first : (s : DeviceState) (count : ℕ) (before : Option Stock) (stop : Stop) → 0 < count → stop ≡ no_memory → StopsAt count (record { device = s; stock = before }) (record { device = s; stock = before }) stop
+no_memory_first s count before stop some is = page_ended s s s 0 count before before before stop (none_run s before) some (record { text = []; not_whole = nothing_is_not_whole; left = []; is_left = refl; outputs = takes_none before })
     (record { no_page = λ _. (refl, inl is); no_picture = λ _ _. inl is; cause = λ _ _. subst (λ (t : Stop). ScanHasCause t s s) (sym is) refl; same = of_nothing s s refl })

@@ -88,9 +88,9 @@ pub record EndsBehind (files : List (List ℕ)) (was now : DeviceAndShelf) (stop
   pub cause : EndsPage (after_pages (length files) was.device) (length files) now.device stop
 
 -- Some pages were scanned, and each has its file. What ended them is a refusal of the shelf to take back the last one's
--- output, or what ended the scan of the page behind them.
+-- output, or what ended the scan of the page behind them, which is one of those that were asked for.
 pub record StopsAt (count : ℕ) (was now : DeviceAndShelf) (stop : Stop) : Type 0 where
   pub files : List (List ℕ)
   pub pages : ArePageFiles was.device files
   pub few : length files ≤ count
-  pub ended : RefusesLast files was now stop ⊎ EndsBehind files was now stop
+  pub ended : RefusesLast files was now stop ⊎ ((length files < count) × EndsBehind files was now stop)

@@ -3,7 +3,7 @@
 //! No clause of `Read` and `Write` tells that a call failed. So the methods below, of which each makes one call and notes its
 //! result, are the only ones that call a connection of a job, or ask for one; what the loop tells its client of a loss is
 //! bound to these notes by its contracts.
-ghost use Rattle.std.specs.Prelude.{◌≡◌, ◌+◌, ◌^◌, true, false, None, Some, IfOk, OnErr};
+ghost use Rattle.std.specs.Prelude.{◌≡◌, ◌<◌, ◌+◌, ◌^◌, true, false, length, None, Some, IfOk, OnErr};
 ghost use Rattle.std.specs.Io.{ReadsAtMost, WritesAtMost};
 ghost use Rattle.std.specs.Io.KnownBytes.{ReadConsumes, WriteAppends};
 ghost use Rattle.net_jobs.specs.Inside.{loss_by_read};
@@ -130,7 +130,9 @@ impl CallTally {
 
     /// Reads once, of a connection of which no read has failed yet.
     pub fn read<R: Read>(&mut self, stream: &mut R, piece: &mut [u8]) -> io::Result<usize>
-        requires { self.old.loss ≡ None }
+        requires held { self.old.loss ≡ None }
+        // Into no room nothing is read, which would be noted as the stream's end.
+        requires room { 0 < length piece.old }
         ensures bound { ReadsAtMost result piece.new }
         ensures bytes { ReadConsumes
             (R.remaining stream.old) (R.remaining stream.new) result piece.new }
@@ -143,7 +145,9 @@ impl CallTally {
 
     /// Writes once, where no write has failed yet.
     pub fn write<W: Write>(&mut self, stream: &mut W, bytes: &[u8]) -> io::Result<usize>
-        requires { self.old.write_failed ≡ false }
+        requires up { self.old.write_failed ≡ false }
+        // Of nothing a stream takes nothing, which would be noted as a failure.
+        requires some { 0 < length bytes.now }
         ensures bound { WritesAtMost result bytes.now }
         ensures bytes { WriteAppends
             (W.contents stream.old) (W.contents stream.new) result bytes.now }

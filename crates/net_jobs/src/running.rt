@@ -138,7 +138,8 @@ fn write_out<C: Write>(
 
 /// Reads once, and makes an interrupted read again; none where the stream fails or ends, or the reads are used up.
 fn read_piece<R: Read>(stream: &mut R, piece: &mut [u8], tally: &mut CallTally) -> usize
-    requires { tally.old.loss ≡ None }
+    requires held { tally.old.loss ≡ None }
+    requires room { 0 < length piece.old }
     ensures count { result ≤ length piece.old }
     ensures room { length piece.new ≡ length piece.old }
     ensures bytes { Consumes (R.remaining stream.old)
@@ -159,6 +160,7 @@ fn read_piece<R: Read>(stream: &mut R, piece: &mut [u8], tally: &mut CallTally) 
 
 /// Reads the control connection once.
 fn hear<C: Read>(client: &mut Client, control: &mut C, piece: &mut [u8], tally: &mut CallTally)
+    requires room { 0 < length piece.old }
     requires few { length piece.old ≤ 4096 }
     requires running { is_running client.old.outcome ≡ true }
     requires quiet { is_receiving client.old.outcome client.old.progress ≡ false }
@@ -180,6 +182,7 @@ fn read_on<R: Read + Drop>(
     room: &mut [u8],
     tally: &mut CallTally,
 ) -> bool
+    requires room { 0 < length room.old }
     requires within { LiesWithin stream.old room.old }
     requires held { tally.old.loss ≡ None }
     ensures room { length room.new ≡ length room.old }
@@ -206,6 +209,7 @@ fn see<R: Read + Drop>(
     room: &mut [u8],
     tally: &mut CallTally,
 ) -> Option<DataStream<R>>
+    requires room { 0 < length room.old }
     requires receiving { is_receiving client.old.outcome client.old.progress ≡ true }
     requires within { LiesWithin stream room.old }
     requires held { tally.old.loss ≡ None }
@@ -348,6 +352,7 @@ fn go_on<C: Read + Write, D: Dial>(
     has_looked: &mut bool,
     tally: &mut CallTally,
 ) -> bool
+    requires ahead { 0 < length ahead.old }
     requires room { 4096 ≤ length room.old }
     requires within { IfOpenLiesWithin stream.old ahead.old }
     requires running { is_running client.old.outcome ≡ true }
@@ -517,6 +522,7 @@ where
     K: FileSink<T>,
     U: Drop,
     F: FnOnce(&Reports) -> Result<U, NoMem> + Drop,
+    requires ahead { 0 < length ahead.old }
     requires room { 4096 ≤ length room.old }
     requires new { notes_of tally.old ≡ no_notes }
     requires tell { F.IsAlwaysCallable tell }

@@ -9,7 +9,7 @@ use strangers::all_is_kept_among_strangers;
 pub fn programs_are_a_world_among_strangers()
     /// Where strangers speak to the server as well, events of connections and acts of strangers, each for a session
     /// that no job has, lead to a world whose daemon is the server's, but for replies that are on their way; and from
-    /// there losses alone to where each job is as its loop has it.
+    /// there losses alone to where each job that is over is as its loop has it.
     /// Carried by: `programs_are_a_world_among_strangers`: `ComeToAWorldAmong`, `HasDaemonAmong`
     ensures { ProgramsAreAWorldAmongStrangers }
 {}
@@ -18,9 +18,9 @@ pub fn programs_are_a_world_among_strangers()
 pub fn runs_are_among_strangers()
     /// A run over connections is one among strangers, in which none speaks.
     ensures over_connections { RunsAreAmongStrangers }
-    /// Acts in which the journal of a server that has served and loops of jobs are interleaved are one, with what is
-    /// assumed of connections: that the control connections hand on among strangers, and that the other end of each
-    /// data connection is the daemon.
+    /// Acts in which the journal of a server that has served from its first session on and loops of jobs, whose batches
+    /// have 1 to 16 pages, are interleaved are one, with what is assumed of connections: that the control connections
+    /// hand on among strangers, and that the other end of each data connection is the daemon.
     ensures led { LoopsLeadIntoRunsAmong }
 {}
 
@@ -38,11 +38,11 @@ pub fn worlds_keep_turn_among_strangers()
 #[tactic(none)]
 pub fn programs_keep_among_strangers()
     /// So where strangers speak to the server, a job whose loop is over has an outcome by the model: a scan that is
-    /// done the picture of its start, where the sources of its device are steady; any other no whole file.
+    /// done the picture of its start, where the sources of its device are steady; one that is not no whole file.
     /// Carried by: `programs_keep_among_strangers`: `LoopIsKeptAmong`
     ///
     /// Of a job that is stopped while it runs no whole file went out but of pages that were turned, each of which is
-    /// that of its start.
+    /// that of its start, where its sources are steady.
     /// Carried by: `programs_keep_among_strangers`: `StoppedIsKeptAmong`
     ensures { ProgramsKeepAmongStrangers }
 {
@@ -57,7 +57,8 @@ pub fn strangers_complete_no_loop()
 
 #[tactic(none)]
 pub fn turned_pages_are_scanned()
-    /// Each page that a loop turned is that of the start of its number, whatever became of its job.
+    /// Each page that a loop turned is that of the start of its number, where its sources are steady, whatever became of
+    /// its job.
     ensures { TurnedPagesAreScanned }
 {}
 

@@ -17,8 +17,8 @@ pub fn loops_lead<L>()
 
 #[tactic(none)]
 pub fn loops_lead_into_runs()
-    /// Acts in which the journal of a server that has served and such loops of jobs are interleaved are a run, with
-    /// what is assumed of connections: that the control connections hand on, and that the other end of each data
-    /// connection is the daemon.
+    /// Acts in which the journal of a server that has served from its first session on and such loops of jobs, whose
+    /// batches have 1 to 16 pages, are interleaved are a run, with what is assumed of connections: that the control
+    /// connections hand on, and that the other end of each data connection is the daemon.
     ensures { LoopsLeadIntoRuns }
 {}

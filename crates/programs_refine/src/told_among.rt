@@ -10,7 +10,7 @@ use strangers::all_is_kept_among_strangers;
 pub fn programs_keep_all_among_strangers()
     /// Of each job whose loop is over holds all that a world promises of its outcome and files, by a history of events and
     /// strangers' acts: done, the picture that its settings mean on the page of its start, where the pages that came are
-    /// steady; else a status, an event that explains it, and no whole file.
+    /// steady; else a status, what explains it, and no whole file.
     /// Carried by: `programs_keep_all_among_strangers`: `AllLoopsAreToldAmong`, `LoopIsKept`
     ///
     /// Of a job that is stopped while it runs no whole file went out but those of a batch's pages that were turned, and

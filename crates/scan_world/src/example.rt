@@ -143,7 +143,7 @@ pub fn scan_with_another(
 }
 
 /// Two clients want one flatbed with this page, and the second asks while the first one has it. Answers the file of the first
-/// one's scan, and whether the second ended as told that the device is busy: then that is so since another job names it.
+/// one's scan, and whether the second ended as told that the device is busy: then its cause is in the table.
 pub fn scan_beside(
     alloc: Global,
     name: Text,

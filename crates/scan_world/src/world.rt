@@ -213,13 +213,13 @@ impl World {
         /// a device that it scans is so that a scan ends well; and no stranger did anything.
         /// Carried by: `clear` of `World::run_all`: `IsClear`
         ///
-        /// Such a device cannot fail, has a picture on each page, and as a feeder one page at least at first.
+        /// Such a device cannot fail, has a picture on each page, and as a feeder a page at first and none laid in.
         /// Carried by: `clear` of `World::run_all`: `IsClear`
         ensures clear { let w = seen_world ⟦<Box<dyn Device> as Device>⟧.state self.old.inner in
             let v = seen_world ⟦<Box<dyn Device> as Device>⟧.state self.new.inner in
             ClearsUp w v }
-        /// Of two jobs that name one device, where else nothing stood in the way of either, each comes to the same, or was
-        /// answered DEVICE_BUSY; and one at most was.
+        /// Of two jobs that name one device, no feeder that one of them scans, where else nothing stood in the way of either,
+        /// each comes to the same, or was answered DEVICE_BUSY; and one at most was.
         /// Carried by: `shared` of `World::run_all`: `SharesClear`
         ensures shared { let w = seen_world ⟦<Box<dyn Device> as Device>⟧.state self.old.inner in
             let v = seen_world ⟦<Box<dyn Device> as Device>⟧.state self.new.inner in
@@ -251,9 +251,9 @@ impl World {
         /// that can be read, as the job's settings left them.
         /// Carried by: `kept` of `World::outcome`: `shown` of `JobIsDone`
         ///
-        /// As it asked for its device that was listed, no session had it, no job's and no stranger's, and the job was
-        /// permitted: no line of the users
-        /// names its backend, or its user and password are allowed for the challenge that its session had sent.
+        /// As a job that is done, but for a list, asked for its device, that was listed, no session had it, no job's and no
+        /// stranger's, and the job was permitted: no line of the users names its backend, or its user and password are
+        /// allowed for the challenge that its session had sent.
         /// Carried by: `kept` of `World::outcome`: `opened` of `JobIsDone`: `WasOpened`
         ///
         /// A list that is done tells the devices that were listed as the last bytes of its request were delivered: all,
@@ -322,7 +322,7 @@ impl World {
         ensures is { let w = seen_world ⟦<Box<dyn Device> as Device>⟧.state self.now.inner in
             option_map (λ f. f.now) result ≡ file_answered w i }
         /// The file of a scan that is done denotes exactly the picture that the job's settings mean on a page that came
-        /// for its device, where all that did as it ran, and changed the world, are steady; one that is not takes this
+        /// for its device, where all that did until it was over, and changed the world, are steady; one that is not takes this
         /// from the jobs of that device alone, and none that comes later takes it.
         /// Carried by: `kept` of `World::file`: `scanned` of `FileIsKept`
         ///
@@ -384,7 +384,8 @@ impl World {
         self.inner.finished(i)
     }
 
-    /// Whether a growth was refused on a connection of job i, in its session or for a file of it: no file is missing else.
+    /// Whether a growth was refused on a connection of job i, in its session or for a file of it, or strangers left it no
+    /// session: no file is missing else.
     pub fn starved(&self, i: usize) -> bool
         ensures is { let w = seen_world ⟦<Box<dyn Device> as Device>⟧.state self.now.inner in
             result ≡ starved_at w i }
@@ -416,7 +417,7 @@ impl World {
         self.inner.next_move(i)
     }
 
-    /// More moves than job i may still take: 0 just where it does not run, or there is no such job.
+    /// At least as many moves as job i may still take: 0 just where it does not run, or there is no such job.
     pub fn moves_left(&self, i: usize) -> u64
         /// What these calls answer is, exactly, what `event_world` says.
         /// Carried by: `is` of `World::outcome`, `file`, `file_at`, `finished`, `starved`, `next_move`, `moves_left`

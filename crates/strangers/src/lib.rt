@@ -66,8 +66,8 @@ pub fn jobs_go_on_among_strangers()
 #[tactic(none)]
 pub fn all_is_kept_among_strangers()
     /// From a new world on, behind any events and acts of strangers, each job keeps what it keeps among jobs alone: a
-    /// scan that is done its picture, where its device's sources are steady; any other no whole file, and a cause by
-    /// the model; and one without moves is over.
+    /// scan that is done its picture, where its device's sources are steady; one that is not done no whole file, and a
+    /// cause by the model; and one without moves is over.
     ensures { AllIsKeptAmongStrangers }
 {}
 

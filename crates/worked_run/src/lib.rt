@@ -1,5 +1,5 @@
 //! A run of one job over connections, made call by call: a daemon and a client of the job in turn. What they do stands for acts of a
-//! server and steps of a job's loop, which meet every premise of the laws on programs.
+//! server and steps of a job's loop, which meet every premise of the laws on loops.
 #![tactic(auto)]
 
 mod turns;

@@ -10,6 +10,7 @@ use Rattle.net_jobs.proofs.running.run_client.Given as goal
 
 abbrev pub invariant-loop-client : goal.invariant-loop-client
 invariant-loop-client g l = record {
+  ahead : length l.ahead ≡ length l.initial.ahead;
   room : length l.room ≡ length l.initial.room;
   within : IfOpenLiesWithin l.stream l.ahead;
   held : is_running l.client.outcome ≡ true → l.tally.loss ≡ None;
