@@ -180,14 +180,17 @@ page_ended s now new n count before stock next stop run few left ends =
       files = run.files;
       pages = run.pages;
       few = omega (arith, run.count, few);
-      ended = inr (omega (arith, run.count, few), record {
-        text = left.text;
-        not_whole = left.not_whole;
-        left = left.left;
-        is_left = subst (λ (m : ℕ). AreLeft (m + 1) left.text left.left) number left.is_left;
-        outputs = takes_then before stock next (outputs_from 1 run.files) left.left run.outputs left.outputs;
-        cause = subst (λ (m : ℕ). EndsPage (after_pages m s) m new stop) number (subst (λ (t : DeviceState). EndsPage t n new stop) run.left ends);
-      });
+      ended = inr (
+        omega (arith, run.count, few),
+        record {
+          text = left.text;
+          not_whole = left.not_whole;
+          left = left.left;
+          is_left = subst (λ (m : ℕ). AreLeft (m + 1) left.text left.left) number left.is_left;
+          outputs = takes_then before stock next (outputs_from 1 run.files) left.left run.outputs left.outputs;
+          cause = subst (λ (m : ℕ). EndsPage (after_pages m s) m new stop) number (subst (λ (t : DeviceState). EndsPage t n new stop) run.left ends);
+        },
+      );
     }
 
 -- there is no memory for the first

@@ -6,7 +6,7 @@ ghost use Rattle.std.specs.Process.{exit_status as code_of};
 ghost use Rattle.saned_core.specs.DaemonStates.{core};
 ghost use Rattle.config_pages.specs.InputTexts.{input_texts};
 ghost use Rattle.config_pages.specs.ScannerStates.{scanner_state};
-ghost use Rattle.saned_cli.specs.DaemonEndings.{IsDaemonFailure, daemon_exit_status};
+ghost use Rattle.saned_cli.specs.DaemonEndings.{IsDaemonFailure, IsServeFailure, daemon_exit_status};
 ghost use Rattle.saned_cli.specs.WholeDaemon.{HasServedFor, IsServedBy};
 ghost use Rattle.saned_cli.specs.declared.daemon_ending.DaemonEnding.{DaemonEnding as AnEnding};
 
@@ -20,7 +20,7 @@ use saned_cli::{
 };
 use saned_core::Daemon;
 use std::fs::File;
-use std::io::{ErrorKind, Write};
+use std::io::Write;
 use std::process::ExitCode;
 
 /// A directory can be opened for reading, and neither be read nor written.
@@ -33,13 +33,12 @@ fn serve_at(
     daemon: &mut Daemon<Scanner>,
 ) -> Result<(), DaemonEnding>
     ensures served { OnOk result (IsServedBy plan.now (core scanner_state daemon.old)) }
-    ensures failed { IfErr result IsDaemonFailure }
+    ensures failed { IfErr result IsServeFailure }
 {
     let options = &plan.options;
     let mut net = match LocalNet::bind(*rt, rt.alloc(), options.port) {
         Ok(net) => net.with_data_ports(options.data_ports),
-        Err(e) if e.kind() == ErrorKind::OutOfMemory => return Err(DaemonEnding::NoMemory),
-        Err(_) => return Err(DaemonEnding::CannotListen),
+        Err(fault) => return Err(DaemonEnding::of_bind(&fault)),
     };
     let Ok(port) = net.port() else {
         return Err(DaemonEnding::CannotListen);
@@ -96,8 +95,8 @@ fn exit_code<I: Inputs, E: Write>(
     err: &mut E,
 ) -> ExitCode
     /// Where the exit status is 0, a daemon of the scanners of the config's lines, with the users of the file that the words name,
-    /// their seed and size of strings, has served as `serve` says, with their limits of sessions and idle turns; of both files
-    /// where the inputs tell their texts.
+    /// their seed and size of strings, has served as `serve` says, with their limits of sessions and idle turns, and there was
+    /// memory to begin; of both files where the inputs tell their texts.
     /// Carried by: `well` of the private `exit_code`, `done` of the private `run`: `HasServedFor`
     ensures well { code_of result ≡ 0 → HasServedFor
         (input_texts (I.standard_text inputs.now) (I.file_text inputs.now))
@@ -114,7 +113,7 @@ fn exit_code<I: Inputs, E: Write>(
 }
 
 fn main(rt: HostRuntime) -> ExitCode {
-    // It stands in for each standard descriptor that is closed, so that no socket or file of the job becomes one.
+    // It stands in for each standard descriptor that is closed, so that no socket or file of the daemon becomes one.
     let _standing_in = [
         File::open(&rt, ROOT),
         File::open(&rt, ROOT),

@@ -1,5 +1,5 @@
 -- The exit statuses of saned.
-use Rattle.std.specs.Prelude.{ℕ, ◌≢◌}
+use Rattle.std.specs.Prelude.{ℕ, ◌≡◌, ◌≢◌, ◌⊎◌}
 use Rattle.config_pages.specs.declared.devices.DeviceFault.{DeviceFault}
 use Rattle.config_pages.specs.declared.devices.DeviceFault.TheVariants.{NoPage, NoMem}
 use Rattle.saned_cli.specs.declared.daemon_ending.DaemonEnding.{DaemonEnding}
@@ -23,6 +23,10 @@ daemon_exit_status NoMemory = 10
 -- an ending whose exit status is not 0
 abbrev pub IsDaemonFailure : DaemonEnding → Type 0
 IsDaemonFailure ending = daemon_exit_status ending ≢ 0
+
+-- as the program begins to serve its port cannot be had, or there is no memory
+abbrev pub IsServeFailure : DaemonEnding → Type 0
+IsServeFailure ending = (ending ≡ CannotListen) ⊎ (ending ≡ NoMemory)
 
 -- the words of the command line are no options, or there is no memory
 abbrev pub daemon_ended_by_options : DaemonOptionsFault → DaemonEnding

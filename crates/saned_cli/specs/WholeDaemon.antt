@@ -1,5 +1,5 @@
 -- What the program saned does, from the words of its command line to the calls of its daemon.
-use Rattle.std.specs.Prelude.{ℕ, ◌≡◌, None, Option, List, [], ◌∷◌}
+use Rattle.std.specs.Prelude.{ℕ, ◌≡◌, ◌≢◌, None, Option, List, [], ◌∷◌}
 use Rattle.device_api.specs.State.{DeviceState}
 use Rattle.dispatch.specs.Table.{fresh_table}
 use Rattle.dispatch.specs.declared.config_line.ConfigLine.{ConfigLine}
@@ -11,6 +11,7 @@ use Rattle.saned_core.specs.DaemonStates.{Core}
 use Rattle.saned_serve.specs.ListenerTraces.{ListenerTrace}
 use Rattle.saned_serve.specs.Serving.{HasServed}
 use Rattle.saned_serve.specs.declared.serving.ServeEnd.{ServeEnd}
+use Rattle.saned_serve.specs.declared.serving.ServeEnd.TheVariants.{NoMem}
 use Rattle.saned_cli.specs.DaemonInputs.{AreUsersIn, config_text}
 use Rattle.saned_cli.specs.DaemonPlans.{IsDaemonPlanOf}
 use Rattle.saned_cli.specs.declared.daemon_plan.DaemonPlan.{DaemonPlan}
@@ -24,19 +25,21 @@ pub record IsDaemonOf (plan : DaemonPlan) (devices : List DeviceState) (users : 
   pub seed : HasGiven plan.seed 0 daemon.stream
   pub none : daemon.slots ≡ None ∷ None ∷ None ∷ None ∷ None ∷ None ∷ None ∷ None ∷ []
 
--- a daemon has served as many sessions, or as long, as the plan says
+-- a daemon has served as many sessions, or as long, as the plan says, or in all turns that a server takes; that there
+-- was no memory to begin is no such end
 pub record IsServedBy (plan : DaemonPlan) (daemon : Core) : Type 0 where
   pub last : Core
   pub began : Option ListenerTrace
   pub listened : Option ListenerTrace
   pub end : ServeEnd
+  pub begun : end ≢ NoMem
   pub served
       : HasServed (record { sessions = plan.options.sessions; idle_turns = plan.options.idle_turns })
       (record { daemon = daemon; listeners = began }) (record { daemon = last; listeners = listened }) end
 
 -- **has served for its words (`HasServedFor`, `IsDaemonOf`, `IsServedBy`)**: the words have a plan, and the daemon of
 -- it, of the scanners of the config's lines and of the users in the file that is named, has served to the plan's end of
--- sessions or idle turns.
+-- sessions or idle turns, or in all turns that a server takes.
 pub record HasServedFor (texts : InputTexts) (words : List (List ℕ)) : Type 0 where
   pub plan : DaemonPlan
   pub is_plan : IsDaemonPlanOf words plan

@@ -3,7 +3,7 @@ use config_pages::{DeviceFault, NoPage};
 use dispatch::ConfigFault;
 use md5_auth::LineFault;
 use std::io;
-use std::io::Write;
+use std::io::{ErrorKind, Write};
 
 /// How the program ends where it serves nobody.
 #[derive(Drop)]
@@ -26,6 +26,7 @@ pub enum DaemonEnding {
 
 impl DaemonEnding {
     ghost use Rattle.std.specs.Prelude.{◌≡◌};
+    ghost use Rattle.std.specs.IoError.{error_kind};
     ghost use Rattle.saned_cli.specs.DaemonEndings.{daemon_exit_status, daemon_ended_by_device, daemon_ended_by_options};
 
     /// The words of the command line are no options.
@@ -47,6 +48,22 @@ impl DaemonEnding {
         match fault {
             DeviceFault::NoPage(why) => DaemonEnding::Page(line, why),
             DeviceFault::NoMem => DaemonEnding::NoMemory,
+        }
+    }
+
+    /// The port to listen at could not be had, for this.
+    pub fn of_bind(fault: &io::Error) -> DaemonEnding
+        /// Want of memory for the port ends the program as that, and any other refusal as a port that cannot be had.
+        /// Carried by: `memory`, `port` of `DaemonEnding::of_bind`
+        ensures memory { error_kind fault.now ≡ ErrorKind.OutOfMemory
+            → result ≡ DaemonEnding.NoMemory }
+        ensures port { ¬ (error_kind fault.now ≡ ErrorKind.OutOfMemory)
+            → result ≡ DaemonEnding.CannotListen }
+    {
+        if fault.kind() == ErrorKind::OutOfMemory {
+            DaemonEnding::NoMemory
+        } else {
+            DaemonEnding::CannotListen
         }
     }
 

@@ -1,7 +1,8 @@
-ghost use Rattle.std.specs.Prelude.{◌≡◌, ◌≤◌, ◌<◌, ◌^◌, ℕ, Option, IfErr, IfOk, map, option_map, string_bytes};
+ghost use Rattle.std.specs.Prelude.{◌≡◌, ◌≢◌, ◌≤◌, ◌<◌, ◌^◌, ℕ, Option, IfErr, IfOk, map, option_map, string_bytes};
 ghost use Rattle.saned_cli.specs.OptionsOfDaemon.{AreNamed, IsNumberOf, AreDaemonOptions, IsOrderOf, has_pad_strings, string_size_by};
 ghost use Rattle.saned_cli.specs.OptionWords.{value_behind, option_value_of};
 ghost use Rattle.saned_cli.specs.DataPorts.{ArePortsOf};
+ghost use Rattle.sane_fixed.specs.declared.byte_order.ByteOrder.{ByteOrder as AnOrder};
 ghost use Rattle.saned_cli.specs.declared.data_ports.PortRange.{PortRange as APortRange};
 
 use crate::daemon_words::{is_pad_strings, plain_number, words_joined};
@@ -146,8 +147,12 @@ fn agreed<'a>(
     start: &[u8],
     options: &[String],
 ) -> Result<Option<&'a str>, DaemonOptionsFault>
-    ensures { IfOk result (λ value. option_map (λ text. text.now) value
+    ensures ok { IfOk result (λ value. option_map (λ text. text.now) value
         ≡ option_value_of start.now (map string_bytes options.now)) }
+    // It is refused only where `clap` reads another one.
+    ensures err { IfErr result (λ fault. (fault ≡ DaemonOptionsFault.Bad)
+        × (option_map (λ text. text.now) found.entry
+        ≢ option_value_of start.now (map string_bytes options.now))) }
 {
     match (found, option_value_of(start, options)) {
         (None, None) => Ok(None),
@@ -167,7 +172,9 @@ fn text(alloc: Global, found: Option<&str>) -> Result<Option<String>, DaemonOpti
 }
 
 fn byte_order(found: Option<&str>) -> Result<ByteOrder, DaemonOptionsFault>
-    ensures { IfOk result (IsOrderOf (option_map (λ text. text.now) found.entry)) }
+    ensures ok { IfOk result (IsOrderOf (option_map (λ text. text.now) found.entry)) }
+    ensures err { IfErr result (λ fault. (fault ≡ DaemonOptionsFault.Bad) × ((order : AnOrder)
+        → ¬ IsOrderOf (option_map (λ text. text.now) found.entry) order)) }
 {
     match found {
         None | Some("little") => Ok(ByteOrder::Little),
@@ -190,8 +197,10 @@ fn has_pad_strings(options: &[String]) -> bool
 
 /// How string values are sent, where `clap` reads the same.
 fn strings(found: bool, options: &[String]) -> Result<StringSize, DaemonOptionsFault>
-    ensures { IfOk result (λ strings. strings
+    ensures ok { IfOk result (λ strings. strings
         ≡ string_size_by (has_pad_strings (map string_bytes options.now))) }
+    ensures err { IfErr result (λ fault. (fault ≡ DaemonOptionsFault.Bad)
+        × (found ≢ has_pad_strings (map string_bytes options.now))) }
 {
     match (found, has_pad_strings(options)) {
         (true, true) => Ok(StringSize::OfOption),

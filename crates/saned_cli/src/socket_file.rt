@@ -1,4 +1,4 @@
-use crate::socket_table::owner_of;
+use crate::socket_table::{is_between, owner_of};
 use std::alloc::Global;
 use std::fs::{Files, OpenOptions};
 use std::io::{self, BufRead, BufReader, Read};
@@ -68,21 +68,29 @@ impl<F: FileExt + Drop> SocketFile<F> {
         })
     }
 
-    /// The user who owns the peer's end of a connection, where the table tells him.
-    pub fn owner_of(&self, peer: SocketAddrV4, ours: SocketAddrV4) -> Option<u32> {
+    /// The first lines of the table that are of the peer's end of a connection, two at most, one below the other; none where
+    /// there is no memory for them.
+    fn lines_between(&self, peer: SocketAddrV4, ours: SocketAddrV4) -> Option<Vec<u8>> {
         let mut lines = self.lines()?;
-        let mut owner = None;
+        let (mut found, mut count) = (Vec::new(self.alloc), 0);
         for _ in 0..MOST_LINES {
             let Some(line) = lines.next() else {
-                return owner;
+                break;
             };
-            if let Some(user) = owner_of(line, peer, ours) {
-                if owner.is_some() {
-                    return None;
+            if is_between(line, peer, ours) {
+                found.extend_from_slice(line).ok()?;
+                count += 1;
+                if count == 2 {
+                    break;
                 }
-                owner = Some(user);
             }
         }
-        owner
+        Some(found)
+    }
+
+    /// The user who owns the peer's end of a connection, where the table tells him.
+    pub fn owner_of(&self, peer: SocketAddrV4, ours: SocketAddrV4) -> Option<u32> {
+        let lines = self.lines_between(peer, ours)?;
+        owner_of(lines.as_slice(), peer, ours)
     }
 }

@@ -55,6 +55,14 @@ fn is_socket_between(own: &[u8], peer: &[u8], line: &[u8]) -> bool
     field_at(line, OWN_END) == Some(own) && field_at(line, PEER_END) == Some(peer)
 }
 
+/// Whether a line is of the peer's end of a connection whose ends are `peer` and `ours`.
+pub fn is_between(line: &[u8], peer: SocketAddrV4, ours: SocketAddrV4) -> bool
+    /// A line is of the peer's end of a connection just where its socket has that end, and ours as its peer's.
+    ensures { result ≡ is_socket_between (end_text peer) (end_text ours) line.now }
+{
+    is_socket_between(&end_text(peer), &end_text(ours), line)
+}
+
 /// The first line of a socket that has these ends, and the text behind it.
 fn next_between<'a>(own: &[u8], peer: &[u8], text: &'a [u8]) -> Option<(&'a [u8], &'a [u8])>
     ensures { MatchOption result (sockets_between own.now peer.now text.now ≡ [])

@@ -2,13 +2,14 @@
 use Rattle.std.proofs.Common.{ℕ, ◌≡◌, ◌≢◌, ap, subst, IsOk, slice_get, Bool, true, false, Option, List, [], ◌∷◌, Result, Ok, Err, IfOk, OnOk, OnErr, Some, None, refl, sym, ◌∙◌}
 use Rattle.std.specs.Prelude.{⊤}
 use Rattle.std.specs.Io.KnownBytes.{Appends}
+use Rattle.std.proofs.lemmas.List.{append-nil}
 use Rattle.sane_fixed.specs.declared.device_info.DeviceInfo.{DeviceInfo}
 use Rattle.scan_job.specs.FileOutputs.{StopsShort}
 use Rattle.scan_job.specs.declared.job.Job.{Job}
 use Rattle.scan_job.specs.declared.job.Task.TheVariants.{List as ListTask, Scan}
 use Rattle.dispatch.specs.Table.{Table, listed_infos}
 use Rattle.local_job.specs.LocalRun.{DeviceAndOutput}
-use Rattle.scanimage_cli.specs.DeviceList.{device_lines}
+use Rattle.scanimage_cli.specs.DeviceList.{device_lines, net_prefix}
 use Rattle.scanimage_cli.specs.Plans.{IsComplete, IsPlanned, IsPlanOf}
 use Rattle.scanimage_cli.specs.Printing.{printed_table}
 use Rattle.scanimage_cli.specs.ScanimageOptions.{AreScanimageOptions}
@@ -43,6 +44,10 @@ on_err (Err fault) is = is
 -- where nothing was written there is no file
 pub nothing_leaves_no_file : (held : Option (List ℕ)) → LeavesNoFile held held
 nothing_leaves_no_file held = λ first taken. record { text = []; taken = taken; not_whole = nothing_is_not_whole }
+
+pub nothing_stops_short : (held : Option (List ℕ)) → StopsShort held held
+nothing_stops_short None = record { text = []; taken = tt; not_whole = nothing_is_not_whole }
+nothing_stops_short (Some bytes) = record { text = []; taken = sym (append-nil bytes); not_whole = nothing_is_not_whole }
 
 -- what a job over the net did with its file at standard output
 pub ran_to_output : {L : Type 0} (views : LinkViews L) (job : Job) (host : List ℕ) (was now : SeenStreams L (Option (List ℕ))) (result : Result Printout Ending)
@@ -95,6 +100,10 @@ pub scan_prints_none : (destination : Destination) (job : Job) (was now : Device
 scan_prints_none destination job was now printed is (ToOutput there x) = x.prints.table ∙ ap (λ t. printed_table t [] job.device x.reports) is
 scan_prints_none destination job was now printed is (ToPath path there x kept) = x.prints.table ∙ ap (λ t. printed_table t [] job.device x.reports) is
 scan_prints_none destination job was now printed is (ToFolder there x kept) = x.prints.table ∙ ap (λ t. printed_table t [] job.device x.reports) is
+
+-- nor does one over the net
+pub scan_there_prints_none : (destination : Destination) (job : Job) (host : List ℕ) (was now : Option (List ℕ)) (printed : Printout) → job.task ≡ Scan → RanThere job host destination was now printed → printed.table.items ≡ []
+scan_there_prints_none destination job host was now printed is x = x.prints.table ∙ ap (λ t. printed_table t (net_prefix host) job.device x.reports) is
 
 abbrev IsNot : Bool → Type 0
 IsNot false = ⊤

@@ -1,4 +1,4 @@
-ghost use Rattle.std.specs.Prelude.{◌≡◌, Some, IfOk, List, ℕ, option_map, decimal};
+ghost use Rattle.std.specs.Prelude.{◌≡◌, ◌≢◌, Some, IfOk, IfErr, List, ℕ, option_map, decimal};
 ghost use Rattle.scanimage_cli.specs.WordCut.{long_word};
 ghost use Rattle.scanimage_cli.specs.ScanimageOptions.{value_after, program_option_value, has_flag, count_named, AreScanimageOptions};
 
@@ -152,7 +152,10 @@ fn agreed_value(
     option: ProgramOption,
     words: &[Text],
 ) -> Result<Option<Text>, OptionsFault>
-    ensures { IfOk result (λ value. value ≡ program_option_value option words.now) }
+    ensures ok { IfOk result (λ value. value ≡ program_option_value option words.now) }
+    // It is bad only where `clap` reads another one.
+    ensures err { IfErr result (λ fault. fault ≡ OptionsFault.Bad
+        → option_map (λ text. text.now) found.entry ≢ program_option_value option words.now) }
 {
     match (found, program_option_value(option, words)) {
         (None, None) => Ok(None),
@@ -168,7 +171,9 @@ fn agreed_value(
 
 /// Whether a flag is among the words, where `clap` reads the same.
 fn agreed_flag(found: bool, option: ProgramOption, words: &[Text]) -> Result<bool, OptionsFault>
-    ensures { IfOk result (λ flag. flag ≡ has_flag option words.now) }
+    ensures ok { IfOk result (λ flag. flag ≡ has_flag option words.now) }
+    ensures err { IfErr result
+        (λ fault. (fault ≡ OptionsFault.Bad) × (found ≢ has_flag option words.now)) }
 {
     if found == has_flag(option, words) {
         Ok(found)
@@ -183,8 +188,10 @@ fn agreed_port(
     found: Option<u16>,
     words: &[Text],
 ) -> Result<Option<u16>, OptionsFault>
-    ensures { IfOk result (λ port. program_option_value ProgramOption.Port words.now
+    ensures ok { IfOk result (λ port. program_option_value ProgramOption.Port words.now
         ≡ option_map decimal port) }
+    ensures err { IfErr result (λ fault. fault ≡ OptionsFault.Bad
+        → program_option_value ProgramOption.Port words.now ≢ option_map decimal found) }
 {
     match (found, program_option_value(ProgramOption::Port, words)) {
         (None, None) => Ok(None),
@@ -213,9 +220,12 @@ fn count_named(text: &[u8]) -> Option<u32>
 
 /// The count of a batch's pages, which `clap` has read as a number.
 fn agreed_count(found: Option<u32>, words: &[Text]) -> Result<Option<u32>, OptionsFault>
-    ensures { IfOk result
+    ensures ok { IfOk result
         (λ count. option_map count_named (program_option_value ProgramOption.BatchCount words.now)
         ≡ option_map (λ n. Some n) count) }
+    ensures err { IfErr result (λ fault. (fault ≡ OptionsFault.Bad)
+        × (option_map count_named (program_option_value ProgramOption.BatchCount words.now)
+        ≢ option_map (λ n. Some n) found)) }
 {
     match (
         found,

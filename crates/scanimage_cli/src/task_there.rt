@@ -1,4 +1,6 @@
 ghost use Rattle.std.specs.Prelude.{◌≡◌, true, IfOk, IfErr, OnOk, OnErr};
+ghost use Rattle.scan_job.specs.declared.job.Task.TheVariants.{Scan};
+ghost use Rattle.scan_job.specs.FileOutputs.{StopsShort};
 ghost use Rattle.scanimage_cli.specs.Programs.{EndsWellThere, IsConnectedTo, RanThere, asked_there};
 ghost use Rattle.scanimage_cli.specs.CallStreams.{held};
 ghost use Rattle.scanimage_cli.specs.Ending.{IsFailure, IsOfOutput};
@@ -46,6 +48,7 @@ fn run_job<O: Write>(
 ) -> Result<Printout, Ending>
     ensures ran { IfOk result
         (RanThere job host.now destination (O.contents out.old) (O.contents out.new)) }
+    ensures no_file { OnErr result (StopsShort (O.contents out.old) (O.contents out.new)) }
     ensures output { IfErr result (λ ending. IsOfOutput ending → outputs.new.failed ≡ true) }
     ensures failed { IfErr result IsFailure }
 {
@@ -84,6 +87,9 @@ pub fn run_net_task<O: Write, E: Write>(
     ensures done { OnOk result (EndsWellThere (asked_there remote plan password)
         (held O.contents out.old out.new) (held E.contents err.old err.new)
         (outputs.old.failed, outputs.new.failed)) }
+    /// Where a scan over the net does not, a standard output that tells its bytes took no whole file.
+    ensures no_file { plan.task ≡ Scan
+        → OnErr result (StopsShort (O.contents out.old) (O.contents out.new)) }
     ensures output { IfErr result (λ ending. IsOfOutput ending → outputs.new.failed ≡ true) }
     // Nothing is printed on standard error then.
     ensures silent { OnErr result (E.contents err.new ≡ E.contents err.old) }

@@ -16,6 +16,7 @@ use Rattle.net_jobs.proofs.running.run_client.Goals as goal
 
 pub loop-client-init : goal.loop-client-init
 loop-client-init g c = record {
+  ahead = refl;
   room = refl;
   within = tt;
   held = λ e. ap (λ (n : CallNotes). n.loss) c.requires.new;
@@ -35,6 +36,7 @@ returns-then-not-fill-clause-came g c = λ job fresh count scanning none.
 
 pub loop-client-preserved : goal.loop-client-preserved
 loop-client-preserved g c = record {
+  ahead = search rules;
   room = search rules;
   within = c.go_on-came.ensures.within;
   held = elim c.else-came.branch [

@@ -1,7 +1,7 @@
 use Rattle.std.proofs.Common.{rules, ◌≡◌, refl, subst}
 use Rattle.scan_job.specs.declared.job.Job.{Job}
 use Rattle.scanimage_cli.specs.Programs.{RanThere}
-use Rattle.scanimage_cli.proofs.Carried.{on_ok_of_two}
+use Rattle.scanimage_cli.proofs.Carried.{on_ok_of_two, scan_there_prints_none, well_is_no_end}
 use Rattle.scanimage_cli.proofs.task_there.run_net_task.Goals as goal
 
 pub returns-clause-done : goal.returns-clause-done
@@ -21,3 +21,7 @@ returns-clause-done g c =
       printed_out = printed;
       rounded = rounded;
     }) c.print_all.ensures.table c.print_all.ensures.rounded
+
+pub returns-clause-no_file : goal.returns-clause-no_file
+returns-clause-no_file g c scan =
+    well_is_no_end _ c.print_all.result (c.print_all.ensures.nothing (scan_there_prints_none c.args.plan.destination _ _ _ _ c.in_ok-printed.printed scan c.in_ok-printed.ensures.ran))
