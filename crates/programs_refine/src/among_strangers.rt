@@ -34,7 +34,7 @@ pub fn worlds_keep_turn_among_strangers()
     all_is_kept_among_strangers();
 }
 
-/// THE HEADLINE, OF LOOPS AMONG STRANGERS. What is promised of jobs among strangers holds of what their loops come to.
+/// What is promised of jobs among strangers, in the model's words, holds of what their loops come to.
 #[tactic(none)]
 pub fn programs_keep_among_strangers()
     /// So where strangers speak to the server, a job whose loop is over has an outcome by the model: a scan that is

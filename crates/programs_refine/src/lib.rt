@@ -59,8 +59,7 @@ pub fn worlds_want_before_it_flows()
 /// In such a world no reply comes to a job before the request that it answers was taken.
 #[tactic(none)]
 pub fn worlds_hear_in_turn()
-    /// And no reply comes to a job before the request that it answers was taken; there it is so, so a loop never
-    /// looks again at what came too soon.
+    /// And no reply comes to a job before the request that it answers was taken.
     ensures { WorldsHearInTurn }
 {
     a_new_world_refines();

@@ -17,8 +17,8 @@ pub fn programs_keep_each()
 
 #[tactic(none)]
 pub fn programs_keep_each_among_strangers()
-    /// Where strangers speak to the server, and the loops of some jobs stop within a step, all that is kept of loops
-    /// among strangers is kept of each other job.
+    /// Where strangers speak to the server, and the loops of some jobs stop within a step, what is kept of loops among
+    /// strangers in the model's words is kept of each other job.
     /// Carried by: `programs_keep_each_among_strangers`: `StopsWithin`, `WholeLoopsAreKeptAmong`
     ensures { ProgramsKeepEachAmongStrangers }
 {

@@ -59,9 +59,9 @@ pub fn a_report_is_no_lie()
 /// A file is of the page of its start, whole no sooner than it is done, and there.
 #[tactic(none)]
 pub fn a_file_is_no_lie()
-    /// Where the pages are steady, each file of a scan that is done denotes what the settings mean on a page which the
-    /// device had first in front of one of the job's requests, and none that came in mid-scan; that of a batch's page k
-    /// on one of those that it had while k - 1 pages were finished, and not the first page again.
+    /// Where the pages are steady, each file of a scan that is done denotes what the settings mean on a page that the
+    /// device had first in front of one of the job's requests; that of a batch's page k on one of those that it had
+    /// while k - 1 pages were finished.
     /// Carried by: `filed`, `paged` of `a_file_is_no_lie`
     ensures filed { FileIsNoLie }
     ensures paged { PageIsNoLie }
