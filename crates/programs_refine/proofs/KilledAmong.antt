@@ -1,17 +1,25 @@
 -- A run in which a stranger speaks, and the loop of one job is killed within a step.
-use Rattle.std.proofs.Common.{◌≡◌, ◌∙◌, inl, inr, ℕ, zero, suc, false, true, Some, None, [], ◌∷◌, slice_get, refl, sym, ap, subst, arith}
+use Rattle.std.proofs.Common.{◌≡◌, ◌∙◌, inl, inr, ℕ, zero, suc, false, true, Some, None, List, [], ◌∷◌, All, slice_get, refl, sym, ap, subst, arith}
 use Rattle.std.proofs.lemmas.List.Elements.{All-from_recursion}
+use Rattle.rand_chacha.specs.ChaCha.{ChaCha}
+use Rattle.md5_auth.specs.declared.users.Entry.{Entry}
+use Rattle.device_api.specs.ScannerLimits.{HasLimits}
+use Rattle.device_api.specs.State.{DeviceState}
+use Rattle.dispatch.specs.RegistryFault.{HaveOwnNames}
 use Rattle.dispatch.specs.Table.{fresh_table}
 use Rattle.scan_job.specs.declared.job.Job.{Job}
 use Rattle.scan_job.specs.JobSize.{HasCount}
 use Rattle.net_client.specs.ClientStates.{ClientState, IsNewClient}
 use Rattle.net_jobs.specs.JobSteps.{StepsLead}
+use Rattle.saned_requests.specs.declared.session.StringSize.{StringSize}
 use Rattle.interleaving.specs.Interleavings.{job_journal, server_journal}
 use Rattle.interleaving.specs.AmongStrangers.{owned_by_none}
 use Rattle.interleaving.specs.Parts.{ControlHandsOnAmong, DataIsFromDaemon}
 use Rattle.event_world.specs.Worlds.{IsFitJob}
+use Rattle.programs_refine.specs.Keeping.{AreFit}
 use Rattle.programs_refine.specs.StoppedLoops.{StopsWithin}
 use Rattle.programs_refine.specs.StoppedAmong.{KilledAmongIsARun, KilledAmongIsKept, ProgramsKeepEachAmongStrangers, but_the_second, killed_acts, looks_once_more, lost_or_killed}
+use Rattle.programs_refine.specs.ToldOfEach.{KilledAmongIsTold, ProgramsTellEachAmongStrangers}
 use Rattle.programs_refine.specs.WorkedRuns.{lost_client, new_core}
 use Rattle.programs_refine.proofs.StrangerComes.{stranger_comes}
 use Rattle.programs_refine.proofs.WorkedRuns.{loses_leads, none_owned}
@@ -67,9 +75,18 @@ killed_run one two c b registry users strings stream port byte new newer count m
       λ last r. never_looks two (r.loops.first 1) (last 1) port byte (r.loops.fresh 1 two refl) (r.loops.loops 1 two refl),
     )
 
+-- what a world takes of devices and jobs it takes of these
+killed_is_fit : (devices : List DeviceState) (one two : Job) (users : List Entry) (strings : StringSize) (stream : ChaCha) → HaveOwnNames devices → All HasLimits devices → IsFitJob one → IsFitJob two → AreFit devices (one ∷ two ∷ []) (new_core (fresh_table devices) users strings stream)
+killed_is_fit devices one two users strings stream names limits fit fitter = record { daemon = record { registry = refl; slots = refl; opened = refl }; names = names; limits = limits; fit = All-from_recursion (λ (j : Job). IsFitJob j) (one ∷ two ∷ []) (fit, (fitter, tt)) }
+
+pub killed_told : ProgramsTellEachAmongStrangers → KilledAmongIsTold
+killed_told all devices one two c b users strings stream port byte names limits fit fitter new newer =
+    all devices (one ∷ two ∷ []) owned_by_none (new_core (fresh_table devices) users strings stream) but_the_second (killed_acts port byte) (lost_or_killed c b)
+    (killed_is_fit devices one two users strings stream names limits fit fitter) (killed_run one two c b (fresh_table devices) users strings stream port byte new newer fit.1 fitter.1).0
+
 pub killed_kept : ProgramsKeepEachAmongStrangers → KilledAmongIsKept
 killed_kept all sources other devices one two c b users strings stream port byte names limits fit fitter new newer known =
     all sources other devices (one ∷ two ∷ []) owned_by_none (new_core (fresh_table devices) users strings stream) but_the_second (killed_acts port byte) (lost_or_killed c b)
-    (record { daemon = record { registry = refl; slots = refl; opened = refl }; names = names; limits = limits; fit = All-from_recursion (λ (j : Job). IsFitJob j) (one ∷ two ∷ []) (fit, (fitter, tt)) })
+    (killed_is_fit devices one two users strings stream names limits fit fitter)
     known
     (killed_run one two c b (fresh_table devices) users strings stream port byte new newer fit.1 fitter.1).0

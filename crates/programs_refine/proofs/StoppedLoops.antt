@@ -33,9 +33,12 @@ use Rattle.programs_refine.specs.Keeping.{LoopIsKept, ProgramsKeepAll, StoppedIs
 use Rattle.programs_refine.specs.AmongStrangers.{RunAmongStrangers}
 use Rattle.programs_refine.specs.KeepingAmong.{LoopIsKeptAmong, ProgramsKeepAmongStrangers, StoppedIsKeptAmong}
 use Rattle.programs_refine.specs.StoppedLoops.{LoopsLeadOrStop, ProgramsKeepEach, RunOfAnyLoops}
+use Rattle.programs_refine.specs.ToldAmong.{ProgramsKeepAllAmongStrangers, joint_history}
+use Rattle.programs_refine.specs.ToldOfEach.{NoOtherIsToldWhole, ProgramsTellEachAmongStrangers}
 use Rattle.programs_refine.specs.StoppedAmong.{ProgramsKeepEachAmongStrangers, RunOfAnyLoopsAmong, StoppedLoopsCompleteNone}
 use Rattle.programs_refine.proofs.KeepingAmong.{completes_none}
 use Rattle.programs_refine.proofs.Outgoing.{never_both}
+use Rattle.programs_refine.proofs.ToldAmong.{kept_completes_none}
 use Rattle.programs_refine.proofs.Passed.{own_journal}
 
 -- ---- each job's newest step is left out, if it did not do whole steps
@@ -372,6 +375,24 @@ keeps_each_among all sources other devices jobs owner d whole acts last fit know
       each = λ i job at on over. ends_same_among k.kept.all.ghost_then k.v i job acts left (last i) (same_steps whole acts i on) (k.each i job at over);
       stopped = λ i job at on runs. stops_same_among k.kept.all.ghost_then k.v i job acts left (same_steps whole acts i on) (k.stopped i job at runs);
     }
+
+pub tells_each_among : ProgramsKeepAllAmongStrangers → ProgramsTellEachAmongStrangers
+tells_each_among all devices jobs owner d whole acts last fit r =
+    let left = cut whole acts in
+    let k = all devices jobs owner d left last fit (cut_run jobs owner d whole acts last r) in
+    let h = joint_history devices jobs d k.events in
+    record {
+      events = k.events;
+      are = k.are;
+      strangers = k.strangers;
+      v = k.v;
+      led = k.led;
+      each = λ i job at on over. ends_same h k.v i job acts left (last i) (same_steps whole acts i on) (k.each i job at over);
+      stopped = λ i job at on runs. stops_same h k.v i job acts left (same_steps whole acts i on) (k.stopped i job at runs);
+    }
+
+pub no_other_whole : NoOtherIsToldWhole
+no_other_whole devices jobs owner d whole acts last k i job at on undone whole_file = kept_completes_none _ k.v i job acts (last i) (λ over. k.each i job at on over) (λ runs. k.stopped i job at on runs) undone whole_file
 
 pub stopped_complete_none : StoppedLoopsCompleteNone
 stopped_complete_none sources other devices jobs owner d whole acts last k i job at on undone whole_file =

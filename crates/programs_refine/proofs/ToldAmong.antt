@@ -17,7 +17,7 @@ use Rattle.event_world.specs.JobEvents.{is_done}
 use Rattle.event_world.specs.Worlds.{WorldCore}
 use Rattle.world_refines.specs.NewWorlds.{IsNewDaemon}
 use Rattle.strangers.specs.Together.{AllIsKeptAmongStrangers, JointEvent, events_among}
-use Rattle.scan_world.specs.Histories.{LedTo, of_jobs}
+use Rattle.scan_world.specs.Histories.{History, LedTo, of_jobs}
 use Rattle.scan_world.specs.Laws.{AllIsRight}
 use Rattle.scan_world.proofs.Elsewhere.{elsewhere, unnamed}
 use Rattle.programs_refine.specs.AmongStrangers.{LeadsAmong, RunAmongStrangers}
@@ -89,16 +89,20 @@ all_told kept right devices (job ∷ jobs) owner d acts last fit r =
 
 -- ---- the lie
 
-pub none_whole : NoneIsToldWhole
-none_whole devices jobs owner d acts last k i job at undone whole = by (is_running (last i).outcome) refl
+pub kept_completes_none : (h : History) (v : WorldCore) (i : ℕ) (job : Job) (acts : Acts) (last : ClientState) → (is_running last.outcome ≡ false → LoopIsKept h v i job acts last) → (is_running last.outcome ≡ true → StoppedIsKept h v i job acts)
+    → is_done last.outcome ≡ false → IsWhole (given_by_steps (job_journal i acts)) → ⊥
+kept_completes_none h v i job acts last each stopped undone whole = by (is_running last.outcome) refl
   where
-    by : (b : Bool) → is_running (last i).outcome ≡ b → ⊥
-    by true runs = (k.stopped i job at runs).not_whole whole
+    by : (b : Bool) → is_running last.outcome ≡ b → ⊥
+    by true runs = (stopped runs).not_whole whole
     by false over =
-        let x = k.each i job at over in
-        let went = undone_went_out _ _ _ _ _ (λ done. never_both (is_done (last i).outcome) done.1 undone) x.ends.went_out in
+        let x = each over in
+        let went = undone_went_out _ _ _ _ _ (λ done. never_both (is_done last.outcome) done.1 undone) x.ends.went_out in
         let told = x.file.whole x.ends.text refl (subst IsWhole (sym went) whole) in
-        never_both (is_done (last i).outcome) (ap is_done told.2) undone
+        never_both (is_done last.outcome) (ap is_done told.2) undone
+
+pub none_whole : NoneIsToldWhole
+none_whole devices jobs owner d acts last k i job at undone whole = kept_completes_none _ k.v i job acts (last i) (k.each i job at) (k.stopped i job at) undone whole
 
 -- ---- a run
 

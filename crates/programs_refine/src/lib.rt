@@ -19,8 +19,10 @@ pub use among_strangers::{
 pub use led_into::{loops_lead, loops_lead_into_runs};
 use scan_world::all_is_right;
 pub use stopped_loops::{
-    one_may_be_killed_among_strangers, programs_keep_each, programs_keep_each_among_strangers,
+    no_other_is_told_whole, one_may_be_killed_among_strangers, programs_keep_each,
+    programs_keep_each_among_strangers, programs_tell_each_among_strangers,
     stopped_loops_complete_none, the_other_is_kept_among_strangers,
+    the_other_is_told_among_strangers,
 };
 pub use told_among::{
     a_run_among_strangers_is_told, devices_are_known, none_is_told_whole,

@@ -2,8 +2,9 @@
 
 ghost use Rattle.programs_refine.specs.StoppedAmong.{KilledAmongIsARun, KilledAmongIsKept, ProgramsKeepEachAmongStrangers, StoppedLoopsCompleteNone};
 ghost use Rattle.programs_refine.specs.StoppedLoops.{ProgramsKeepEach};
+ghost use Rattle.programs_refine.specs.ToldOfEach.{KilledAmongIsTold, NoOtherIsToldWhole, ProgramsTellEachAmongStrangers};
 
-use crate::{programs_keep_all, programs_keep_among_strangers};
+use crate::{programs_keep_all, programs_keep_all_among_strangers, programs_keep_among_strangers};
 
 #[tactic(none)]
 pub fn programs_keep_each()
@@ -23,6 +24,32 @@ pub fn programs_keep_each_among_strangers()
     ensures { ProgramsKeepEachAmongStrangers }
 {
     programs_keep_among_strangers();
+}
+
+#[tactic(none)]
+pub fn programs_tell_each_among_strangers()
+    /// Where strangers speak to the server, and the loops of some jobs stop within a step, all that a world promises is
+    /// kept of each other job, by a history of events and strangers' acts.
+    /// Carried by: `programs_tell_each_among_strangers`: `StopsWithin`, `WholeLoopsAreToldAmong`
+    ensures { ProgramsTellEachAmongStrangers }
+{
+    programs_keep_all_among_strangers();
+}
+
+#[tactic(none)]
+pub fn no_other_is_told_whole()
+    /// The smallest lie against that is refuted: that strangers and loops that stopped made the file whole of another
+    /// job, which is not done.
+    ensures { NoOtherIsToldWhole }
+{}
+
+#[tactic(none)]
+pub fn the_other_is_told_among_strangers()
+    /// Of a run in which the loop of a second job is killed among strangers all of that is told of the first, over any
+    /// devices of which a world is made.
+    ensures { KilledAmongIsTold }
+{
+    programs_tell_each_among_strangers();
 }
 
 #[tactic(none)]
