@@ -72,15 +72,15 @@ impl<F: FileExt + Drop> SocketFile<F> {
     /// there is no memory for them.
     fn lines_between(&self, peer: SocketAddrV4, ours: SocketAddrV4) -> Option<Vec<u8>> {
         let mut lines = self.lines()?;
-        let (mut found, mut count) = (Vec::new(self.alloc), 0);
+        let mut found = Vec::new(self.alloc);
         for _ in 0..MOST_LINES {
             let Some(line) = lines.next() else {
                 break;
             };
             if is_between(line, peer, ours) {
+                let is_second = !found.is_empty();
                 found.extend_from_slice(line).ok()?;
-                count += 1;
-                if count == 2 {
+                if is_second {
                     break;
                 }
             }

@@ -44,12 +44,22 @@ const _: () = prove!(OptionsFault::Bad as u32 == 1);
 const _: () = prove!(OptionsFault::NoMem as u32 == 2);
 
 impl From<AllocError> for OptionsFault {
+    ghost use Rattle.std.specs.Prelude.{◌≡◌};
+    ghost use Rattle.scanimage_cli.specs.declared.options.OptionsFault.TheVariants.{NoMem as Wanting};
+
+    ghost from_gives = { λ _ fault. fault ≡ Wanting };
+
     fn from(_: AllocError) -> Self {
         OptionsFault::NoMem
     }
 }
 
 impl From<NoMem> for OptionsFault {
+    ghost use Rattle.std.specs.Prelude.{◌≡◌};
+    ghost use Rattle.scanimage_cli.specs.declared.options.OptionsFault.TheVariants.{NoMem as Wanting};
+
+    ghost from_gives = { λ _ fault. fault ≡ Wanting };
+
     fn from(_: NoMem) -> Self {
         OptionsFault::NoMem
     }

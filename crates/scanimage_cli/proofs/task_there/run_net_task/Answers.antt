@@ -1,7 +1,7 @@
 use Rattle.std.proofs.Common.{rules, ◌≡◌, refl, subst}
 use Rattle.scan_job.specs.declared.job.Job.{Job}
 use Rattle.scanimage_cli.specs.Programs.{RanThere}
-use Rattle.scanimage_cli.proofs.Carried.{on_ok_of_two, scan_there_prints_none, well_is_no_end}
+use Rattle.scanimage_cli.proofs.Carried.{nothing_stops_short, on_err, on_ok_of_two, scan_there_prints_none, well_is_no_end}
 use Rattle.scanimage_cli.proofs.task_there.run_net_task.Goals as goal
 
 pub returns-clause-done : goal.returns-clause-done
@@ -21,6 +21,9 @@ returns-clause-done g c =
       printed_out = printed;
       rounded = rounded;
     }) c.print_all.ensures.table c.print_all.ensures.rounded
+
+pub returns-in_err-made-clause-no_file : goal.returns-in_err-made-clause-no_file
+returns-in_err-made-clause-no_file g c scan = on_err _ (nothing_stops_short (g.O.Write.contents c.args.out.now))
 
 pub returns-clause-no_file : goal.returns-clause-no_file
 returns-clause-no_file g c scan =
