@@ -9,3 +9,4 @@ pub mod AmongStrangers
 pub mod KeepingAmong
 pub mod StoppedAmong
 pub mod ToldAmong
+pub mod ToldOfEach
