@@ -27,32 +27,6 @@ pub fn programs_keep_each_among_strangers()
 }
 
 #[tactic(none)]
-pub fn programs_tell_each_among_strangers()
-    /// Where strangers speak to the server, and the loops of some jobs stop within a step, all that a world promises is
-    /// kept of each other job, by a history of events and strangers' acts.
-    /// Carried by: `programs_tell_each_among_strangers`: `StopsWithin`, `WholeLoopsAreToldAmong`
-    ensures { ProgramsTellEachAmongStrangers }
-{
-    programs_keep_all_among_strangers();
-}
-
-#[tactic(none)]
-pub fn no_other_is_told_whole()
-    /// The smallest lie against that is refuted: that strangers and loops that stopped made the file whole of another
-    /// job, which is not done.
-    ensures { NoOtherIsToldWhole }
-{}
-
-#[tactic(none)]
-pub fn the_other_is_told_among_strangers()
-    /// Of a run in which the loop of a second job is killed among strangers all of that is told of the first, over any
-    /// devices of which a world is made.
-    ensures { KilledAmongIsTold }
-{
-    programs_tell_each_among_strangers();
-}
-
-#[tactic(none)]
 pub fn stopped_loops_complete_none()
     /// The smallest lie against it is refuted: that strangers and loops that stopped made the file whole of another
     /// job, which is not done.
@@ -72,4 +46,29 @@ pub fn the_other_is_kept_among_strangers()
     ensures { KilledAmongIsKept }
 {
     programs_keep_each_among_strangers();
+}
+
+#[tactic(none)]
+pub fn programs_tell_each_among_strangers()
+    /// Where strangers speak to the server, and the loops of some jobs stop within a step, all that is told of loops
+    /// among strangers is told of each other job, by a history of events and strangers' acts.
+    /// Carried by: `programs_tell_each_among_strangers`: `StopsWithin`, `WholeLoopsAreToldAmong`
+    ensures { ProgramsTellEachAmongStrangers }
+{
+    programs_keep_all_among_strangers();
+}
+
+#[tactic(none)]
+pub fn no_other_is_told_whole()
+    /// The smallest lie against that is refuted: that it told a whole file of another job, which is not done.
+    ensures { NoOtherIsToldWhole }
+{}
+
+#[tactic(none)]
+pub fn the_other_is_told_among_strangers()
+    /// Of the run in which a second one is killed all of that is told of the first job, over any devices of which a
+    /// world is made.
+    ensures { KilledAmongIsTold }
+{
+    programs_tell_each_among_strangers();
 }

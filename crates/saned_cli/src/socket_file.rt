@@ -68,8 +68,8 @@ impl<F: FileExt + Drop> SocketFile<F> {
         })
     }
 
-    /// The first lines of the table that are of the peer's end of a connection, two at most, one below the other; none where
-    /// there is no memory for them.
+    /// The first lines of the table that are of the peer's end of a connection, two at most, one below the other; none where the
+    /// system tells no table, or there is no memory for them. A line that cannot be read ends the table.
     fn lines_between(&self, peer: SocketAddrV4, ours: SocketAddrV4) -> Option<Vec<u8>> {
         let mut lines = self.lines()?;
         let mut found = Vec::new(self.alloc);

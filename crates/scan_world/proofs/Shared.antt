@@ -16,7 +16,7 @@ use Rattle.strangers.specs.Among.{StrangerActs}
 use Rattle.strangers.specs.Together.JointEvent.{OfJobs, OfStranger}
 use Rattle.scan_world.specs.Histories.{History, LedTo, begun, history_up_to}
 use Rattle.scan_world.specs.Laws.{Below}
-use Rattle.scan_world.specs.Shared.{ActsLeaveSessions, BusyIsByJobs, EventsAreNoActs, HoldersStandApart, LedAlone, NoneSharesAlone, TakenIsNoLie, TheirPageIsNoLie, AnotherMayCome}
+use Rattle.scan_world.specs.Shared.{ActsLeaveSessions, BusyIsByJobs, EventsAreNoActs, HoldersStandApart, LedAlone, NoneSharesAlone, TakenIsNoLie, TheirPageIsNoLie, AStrangerMayCome}
 use Rattle.scan_world.proofs.Clear.{came_ever}
 use Rattle.scan_world.proofs.Joint.{plain_runs}
 use Rattle.scan_world.proofs.Led.{led_on}
@@ -28,7 +28,7 @@ use Rattle.scan_world.proofs.moments.Stands.{has_holds, stranger_holds}
 not_next : (opened n : ℕ) → n < opened → n ≡ opened → ⊥
 not_next opened n less same = omega (arith, less, same)
 
-pub strangers_may_come : Below → AnotherMayCome
+pub strangers_may_come : Below → AStrangerMayCome
 strangers_may_come below h w i port job at room =
     let k = kept_by below.kept h w job at.led in
     let links = k.run.stands.links in

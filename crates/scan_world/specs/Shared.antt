@@ -28,19 +28,19 @@ use Rattle.scan_world.specs.Page.{CameFor, IsScan, Settled}
 use Rattle.scan_world.specs.Promise.{JobIsDone}
 use Rattle.scan_world.specs.Sessions.{Asked, Has, IsAtOpen, SessionAt, StrangerHas}
 
--- **shared (`with_another`, `AnotherCame`, `AnotherMayCome`)**: whatever led to a world that has a job, a stranger may
--- come to it, where a place for a session is free; that is such a history too, and the session is no job's.
-abbrev pub with_another : History → WorldCore → ℕ → List JointEvent
-with_another h w port = h.events ++ OfStranger (record { session = w.daemon.opened; act = Opens port }) ∷ []
+-- **shared (`with_stranger`, `AStrangerCame`, `AStrangerMayCome`)**: whatever led to a world that has a job, a stranger
+-- may come to it, where a place for a session is free; that is such a history too, and the session is no job's.
+abbrev pub with_stranger : History → WorldCore → ℕ → List JointEvent
+with_stranger h w port = h.events ++ OfStranger (record { session = w.daemon.opened; act = Opens port }) ∷ []
 
-pub record AnotherCame (h : History) (w : WorldCore) (port : ℕ) : Type 0 where
+pub record AStrangerCame (h : History) (w : WorldCore) (port : ℕ) : Type 0 where
   pub world_then : WorldCore
-  pub led : LedTo (history_up_to h (with_another h w port)) world_then
+  pub led : LedTo (history_up_to h (with_stranger h w port)) world_then
   pub nobodys : IsNobodys world_then w.daemon.opened
 
-abbrev pub AnotherMayCome : Type 0
-AnotherMayCome = (h : History) (w : WorldCore) (i port : ℕ) (job : Job) → IsJobAt h w i job
-    → is_closed w.daemon ≡ false → AnotherCame h w port
+abbrev pub AStrangerMayCome : Type 0
+AStrangerMayCome = (h : History) (w : WorldCore) (i port : ℕ) (job : Job) → IsJobAt h w i job
+    → is_closed w.daemon ≡ false → AStrangerCame h w port
 
 -- **apart (`HoldersStandApart`, `ActsLeaveSessions`)**: no job and no stranger have devices of one name; and whatever a
 -- stranger does, the session of each job stands as it stood, with all that it has, so its device, its settings and the

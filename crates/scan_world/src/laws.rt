@@ -7,7 +7,7 @@ ghost use Rattle.event_world.specs.Worlds.{Runs, WorldCore};
 ghost use Rattle.scan_world.specs.Calls.{CancelEnds, MoveLowers, MovesFall, OthersStay, OverStays, StarvedStays};
 ghost use Rattle.scan_world.specs.Clear.{AllAreListed, ClearsBy, FeederIsClear, PlainIsClear};
 ghost use Rattle.scan_world.specs.Laws.{AllFollow, AllIsRight, Below};
-ghost use Rattle.scan_world.specs.Shared.{ActsLeaveSessions, BusyIsByJobs, EventsAreNoActs, HoldersStandApart, LedAlone, NoneSharesAlone, AnotherMayCome};
+ghost use Rattle.scan_world.specs.Shared.{ActsLeaveSessions, BusyIsByJobs, EventsAreNoActs, HoldersStandApart, LedAlone, NoneSharesAlone, AStrangerMayCome};
 ghost use Rattle.scan_world.specs.Trays.{TraysAreTaken};
 
 use strangers::{all_is_kept_among_strangers, jobs_go_on_among_strangers};
@@ -117,7 +117,7 @@ pub fn strangers_act_among_jobs()
     /// What led to a world may be events of jobs and acts of strangers, in any order, and all is promised as before: to
     /// any world that has a job a stranger may come, where a place for a session is free, and that is such a history.
     /// Carried by: `come` of `strangers_act_among_jobs`; `LedTo`
-    ensures come { AnotherMayCome }
+    ensures come { AStrangerMayCome }
     /// No job and no stranger have devices of one name; and whatever a stranger does, each job's session stands as it
     /// stood, with its device, its settings and the pages there.
     /// Carried by: `apart`, `leave` of `strangers_act_among_jobs`

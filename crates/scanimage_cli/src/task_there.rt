@@ -88,6 +88,7 @@ pub fn run_net_task<O: Write, E: Write>(
         (held O.contents out.old out.new) (held E.contents err.old err.new)
         (outputs.old.failed, outputs.new.failed)) }
     /// Where a scan over the net does not, a standard output that tells its bytes took no whole file.
+    /// Carried by: `no_file` of `run_net_task`
     ensures no_file { plan.task ≡ Scan
         → OnErr result (StopsShort (O.contents out.old) (O.contents out.new)) }
     ensures output { IfErr result (λ ending. IsOfOutput ending → outputs.new.failed ≡ true) }

@@ -76,8 +76,8 @@ fn was_busy(world: &EventWorld<Flatbed>) -> bool
     }
 }
 
-/// Scans on a flatbed with this page, behind strangers who came and went, and answers the file: one says garbage, another one
-/// takes the flatbed and is lost, and a third one stays to the end.
+/// Scans on a flatbed with this page, behind strangers who came, and answers the file: one says garbage, another one takes the
+/// flatbed and is lost, and a third one stays to the end.
 pub fn scan_among_strangers(
     alloc: Global,
     name: Text,
