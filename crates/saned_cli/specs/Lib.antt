@@ -6,3 +6,4 @@ pub mod SocketTable
 pub mod DaemonPlans
 pub mod DaemonInputs
 pub mod WholeDaemon
+pub mod DaemonLines

@@ -1,4 +1,5 @@
 use crate::daemon_options::DaemonOptionsFault;
+use crate::ending_lines::{write_line, write_refusal};
 use config_pages::{DeviceFault, NoPage};
 use dispatch::ConfigFault;
 use md5_auth::LineFault;
@@ -25,9 +26,11 @@ pub enum DaemonEnding {
 }
 
 impl DaemonEnding {
-    ghost use Rattle.std.specs.Prelude.{◌≡◌};
+    ghost use Rattle.std.specs.Prelude.{◌≡◌, OnOk};
+    ghost use Rattle.std.specs.Io.KnownBytes.{Appends};
     ghost use Rattle.std.specs.IoError.{error_kind};
     ghost use Rattle.saned_cli.specs.DaemonEndings.{daemon_exit_status, daemon_ended_by_device, daemon_ended_by_options};
+    ghost use Rattle.saned_cli.specs.DaemonLines.{daemon_ending_line};
 
     /// The words of the command line are no options.
     pub fn of_options(fault: DaemonOptionsFault) -> DaemonEnding
@@ -85,26 +88,25 @@ impl DaemonEnding {
     }
 
     /// Writes the line that says how the program ended.
-    pub fn tell<W: Write>(&self, to: &mut W) -> io::Result<()> {
+    pub fn tell<W: Write>(&self, to: &mut W) -> io::Result<()>
+        /// The line of each ending is written whole, unless the writer fails.
+        ensures { OnOk result (Appends (W.contents to.old) (W.contents to.new)
+            (daemon_ending_line self.now)) }
+    {
         match self {
             DaemonEnding::BadCommandLine => to.write_all(b"saned: bad command line\n"),
             DaemonEnding::BadSeed => to.write_all(b"saned: bad seed\n"),
             DaemonEnding::CannotRead(path) => {
-                to.write_all(b"saned: cannot read ")?;
-                to.write_all(path.as_str().as_bytes())?;
-                to.write_all(b"\n")
+                write_line(to, b"saned: cannot read ", path.as_str().as_bytes())
             }
-            DaemonEnding::Config(ConfigFault { line, reason }) => {
-                let (line, reason) = (*line, *reason);
-                writeln!(to, "saned: config line {line}: {reason}")
+            DaemonEnding::Config(fault) => {
+                write_refusal(to, b"saned: config line ", fault.line, fault.reason.text())
             }
             DaemonEnding::Page(line, why) => {
-                let (line, why) = (*line, *why);
-                writeln!(to, "saned: config line {line}: {why}")
+                write_refusal(to, b"saned: config line ", *line, why.text())
             }
-            DaemonEnding::Users(LineFault { line, reason }) => {
-                let (line, reason) = (*line, *reason);
-                writeln!(to, "saned: users line {line}: {reason}")
+            DaemonEnding::Users(fault) => {
+                write_refusal(to, b"saned: users line ", fault.line, fault.reason.text())
             }
             DaemonEnding::CannotListen => to.write_all(b"saned: cannot listen\n"),
             DaemonEnding::NoMemory => to.write_all(b"saned: out of memory\n"),

@@ -9,6 +9,7 @@ mod daemon_plan;
 mod daemon_words;
 mod data_port;
 mod data_ports;
+mod ending_lines;
 mod local;
 mod pace;
 mod seed;
