@@ -1,5 +1,5 @@
 -- The exit statuses of scanimage, and the lines that tell its endings.
-use Rattle.std.specs.Prelude.{ℕ, ◌≡◌, ◌≢◌, ◌⊎◌, ◌∷◌, [], List, Option, Some, None, codes, decimal}
+use Rattle.std.specs.Prelude.{ℕ, ◌≡◌, ◌≢◌, ◌⊎◌, ◌∷◌, [], ⊤, List, Option, Some, None, codes, decimal}
 use Rattle.std.specs.List.{concat}
 use Rattle.sane_fixed.specs.Status.{status_code, status_name}
 use Rattle.sane_fixed.specs.declared.status.Status.TheVariants.{Inval, NoMem}
@@ -42,6 +42,15 @@ IsOfOutput (CannotRead path) = ⊥
 IsOfOutput (Config fault) = ⊥
 IsOfOutput (Page line why) = ⊥
 IsOfOutput (Ended status why) = why ≡ Sink
+
+-- **told of a job (`IsOfJob`)**: an ending is a status and its cause, and none of the command line or of a file that it
+-- names.
+abbrev pub IsOfJob : Ending → Type 0
+IsOfJob BadCommandLine = ⊥
+IsOfJob (CannotRead path) = ⊥
+IsOfJob (Config fault) = ⊥
+IsOfJob (Page line why) = ⊥
+IsOfJob (Ended status why) = ⊤
 
 -- a line of the config has no scanner: its page is not there, or there is no memory
 abbrev pub ended_by_device : ℕ → DeviceFault → Ending

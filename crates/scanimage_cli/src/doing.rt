@@ -1,7 +1,7 @@
 ghost use Rattle.std.specs.Prelude.{◌≡◌, true, IfOk, IfErr, OnErr};
 ghost use Rattle.device_api.specs.State.{is_at_rest};
 ghost use Rattle.scanimage_cli.specs.Doing.{DoesJob, EndsJob, DoesBatch, EndsBatch};
-ghost use Rattle.scanimage_cli.specs.Ending.{IsFailure, IsOfOutput};
+ghost use Rattle.scanimage_cli.specs.Ending.{IsFailure, IsOfJob, IsOfOutput};
 ghost use Rattle.local_job.specs.LocalPages.{with_shelf};
 ghost use Rattle.local_job.specs.LocalRun.{LeavesNoFile, ChangesDevice, with_file};
 
@@ -45,6 +45,8 @@ pub fn do_job<W: Write>(
     ensures output { IfErr result (λ ending. IsOfOutput ending → outputs.new.failed ≡ true) }
     // Its exit status is not 0.
     ensures failed { IfErr result IsFailure }
+    // It is a status and its cause.
+    ensures told { IfErr result IsOfJob }
     // Of the scanner only options, phase and count of failures changed, and a feeder let go of a page.
     ensures runs { ChangesDevice (state device.old) (state device.new) }
     ensures rest { is_at_rest (state device.new).phase ≡ true }
@@ -81,6 +83,8 @@ pub fn do_batch<S: Shelf>(
     ensures output { IfErr result (λ ending. IsOfOutput ending → outputs.new.failed ≡ true) }
     // Its exit status is not 0.
     ensures failed { IfErr result IsFailure }
+    // It is a status and its cause.
+    ensures told { IfErr result IsOfJob }
     ensures rest { is_at_rest (state device.new).phase ≡ true }
 {
     let name = job.device.as_bytes();

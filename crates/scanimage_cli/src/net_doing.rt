@@ -3,7 +3,7 @@ ghost use Rattle.scan_job.specs.FileOutputs.{StopsShort};
 ghost use Rattle.scanimage_cli.specs.CallStreams.{dialled, held, passed};
 ghost use Rattle.scanimage_cli.specs.DeviceList.{net_prefix};
 ghost use Rattle.scanimage_cli.specs.NetDoing.{NetBatchEnds, NetBatchIsDone, NetJobEnds, NetJobIsDone};
-ghost use Rattle.scanimage_cli.specs.Ending.{IsFailure, IsOfOutput};
+ghost use Rattle.scanimage_cli.specs.Ending.{IsFailure, IsOfJob, IsOfOutput};
 
 use crate::device_listing::net_prefix;
 use crate::ending::Ending;
@@ -56,6 +56,8 @@ pub fn do_net_job<C: Read + Write, D: Dial, W: Write>(
     ensures output { IfErr result (λ ending. IsOfOutput ending → outputs.new.failed ≡ true) }
     // Its exit status is not 0.
     ensures failed { IfErr result IsFailure }
+    // It is a status and its cause.
+    ensures told { IfErr result IsOfJob }
 {
     let Ok((prefix, device)) = names_answered(alloc, host, &job) else {
         return Err(Ending::no_memory());
@@ -94,6 +96,8 @@ pub fn do_net_batch<C: Read + Write, D: Dial, S: Shelf>(
     ensures output { IfErr result (λ ending. IsOfOutput ending → outputs.new.failed ≡ true) }
     // Its exit status is not 0.
     ensures failed { IfErr result IsFailure }
+    // It is a status and its cause.
+    ensures told { IfErr result IsOfJob }
 {
     let Ok((prefix, device)) = names_answered(alloc, host, &job) else {
         return Err(Ending::no_memory());

@@ -3,7 +3,7 @@ ghost use Rattle.dispatch.specs.Table.{listed_infos};
 ghost use Rattle.local_job.specs.LocalRun.{LeavesNoFile, with_file};
 ghost use Rattle.scanimage_cli.specs.Programs.{DoesPlanned, EndsWellHere, IsDeviceNamed, asked_here, scanner_table};
 ghost use Rattle.scanimage_cli.specs.CallStreams.{held};
-ghost use Rattle.scanimage_cli.specs.Ending.{IsFailure, IsOfOutput};
+ghost use Rattle.scanimage_cli.specs.Ending.{IsFailure, IsOfJob, IsOfOutput};
 
 use crate::device_listing::device_list;
 use crate::doing::{do_batch, do_job};
@@ -36,6 +36,8 @@ fn run_job<O: Write>(
     ensures no_file { OnErr result (LeavesNoFile (O.contents out.old) (O.contents out.new)) }
     ensures output { IfErr result (λ ending. IsOfOutput ending → outputs.new.failed ≡ true) }
     ensures failed { IfErr result IsFailure }
+    // It is a status and its cause.
+    ensures told { IfErr result IsOfJob }
 {
     match destination {
         Destination::StandardOutput => do_job(rt.alloc(), device, job, out, outputs),
@@ -57,6 +59,8 @@ fn device_name(
         (IsDeviceNamed named (listed_infos (scanner_table registry.now))) }
     ensures spares { IfErr result (λ ending. ¬ IsOfOutput ending) }
     ensures failed { IfErr result IsFailure }
+    // It is a status and its cause.
+    ensures told { IfErr result IsOfJob }
 {
     if let Some(name) = named {
         return Ok(name);
@@ -102,6 +106,9 @@ pub fn run_task<O: Write, E: Write>(
     ensures silent { OnErr result (E.contents err.new ≡ E.contents err.old) }
     /// No ending of any of its parts has the exit status 0.
     ensures failed { IfErr result IsFailure }
+    /// What is asked for that does not end well is told by a status and its cause, and not as a bad command line.
+    /// Carried by: `told` of `run_task`, `run_net_task`
+    ensures told { IfErr result IsOfJob }
 {
     if plan.task == Task::List {
         let Ok(devices) = registry.list(rt.alloc()) else {

@@ -3,7 +3,7 @@ ghost use Rattle.scan_job.specs.declared.job.Task.TheVariants.{Scan};
 ghost use Rattle.scan_job.specs.FileOutputs.{StopsShort};
 ghost use Rattle.scanimage_cli.specs.Programs.{EndsWellThere, IsConnectedTo, RanThere, asked_there};
 ghost use Rattle.scanimage_cli.specs.CallStreams.{held};
-ghost use Rattle.scanimage_cli.specs.Ending.{IsFailure, IsOfOutput};
+ghost use Rattle.scanimage_cli.specs.Ending.{IsFailure, IsOfJob, IsOfOutput};
 
 use crate::ending::Ending;
 use crate::folder::Folder;
@@ -26,6 +26,8 @@ fn connections<'a>(
     ensures connected { IfOk result (λ made. IsConnectedTo remote.now made.1) }
     ensures spares { IfErr result (λ ending. ¬ IsOfOutput ending) }
     ensures failed { IfErr result IsFailure }
+    // It is a status and its cause.
+    ensures told { IfErr result IsOfJob }
 {
     let Some(dial) = HostDial::new(rt, remote.host.as_bytes(), remote.dial_first) else {
         return Err(Ending::ending_of_loss());
@@ -51,6 +53,8 @@ fn run_job<O: Write>(
     ensures no_file { OnErr result (StopsShort (O.contents out.old) (O.contents out.new)) }
     ensures output { IfErr result (λ ending. IsOfOutput ending → outputs.new.failed ≡ true) }
     ensures failed { IfErr result IsFailure }
+    // It is a status and its cause.
+    ensures told { IfErr result IsOfJob }
 {
     let (mut dial, mut control) = made;
     let stream = &mut control.stream;
@@ -96,6 +100,8 @@ pub fn run_net_task<O: Write, E: Write>(
     ensures silent { OnErr result (E.contents err.new ≡ E.contents err.old) }
     /// No ending of any of its parts has the exit status 0.
     ensures failed { IfErr result IsFailure }
+    // It is a status and its cause.
+    ensures told { IfErr result IsOfJob }
 {
     let JobPlan {
         user,
