@@ -60,7 +60,7 @@ impl OutputTally {
     }
 
     /// Writes once.
-    pub fn write<W: Write>(&mut self, to: &mut W, bytes: &[u8]) -> io::Result<usize>
+    pub(crate) fn write<W: Write>(&mut self, to: &mut W, bytes: &[u8]) -> io::Result<usize>
         // Of nothing a writer takes nothing, which would be noted as a failure.
         requires { 0 < length bytes.now }
         // As the one call.

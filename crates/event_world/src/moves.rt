@@ -99,7 +99,7 @@ impl<D: Device> EventWorld<D> {
         }
     }
 
-    /// More moves than job i may still take; 0 where it does not run, or there is no such job.
+    /// At least as many moves as job i may still take; 0 where it does not run, or there is no such job.
     pub fn moves_left(&self, i: usize) -> u64
         /// `moves_left` is at first 2^34, or 2^36 for a batch, falls by one with each event of the job that happens,
         /// and no event raises it.

@@ -20,7 +20,7 @@ use std::alloc::Global;
 
 /// Scans the page that a scanner at rest has first, to the shelf's output of that number. Says whether the shelf kept
 /// the output; the page is scanned all the same. A scan that ends otherwise leaves no whole file, and what the
-/// shelf says then is not asked.
+/// shelf says then is noted and not heeded.
 fn scan_page<S: Shelf>(
     alloc: Global,
     device: &mut dyn Device,

@@ -32,7 +32,7 @@ pub record IsServedBy (plan : DaemonPlan) (daemon : Core) : Type 0 where
   pub began : Option ListenerTrace
   pub listened : Option ListenerTrace
   pub end : ServeEnd
-  pub begun : end ≢ NoMem
+  pub had_memory : end ≢ NoMem
   pub served
       : HasServed (record { sessions = plan.options.sessions; idle_turns = plan.options.idle_turns })
       (record { daemon = daemon; listeners = began }) (record { daemon = last; listeners = listened }) end

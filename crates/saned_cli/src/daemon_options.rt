@@ -173,6 +173,7 @@ fn text(alloc: Global, found: Option<&str>) -> Result<Option<String>, DaemonOpti
 
 fn byte_order(found: Option<&str>) -> Result<ByteOrder, DaemonOptionsFault>
     ensures ok { IfOk result (IsOrderOf (option_map (λ text. text.now) found.entry)) }
+    // It is refused only where it names neither order.
     ensures err { IfErr result (λ fault. (fault ≡ DaemonOptionsFault.Bad) × ((order : AnOrder)
         → ¬ IsOrderOf (option_map (λ text. text.now) found.entry) order)) }
 {
@@ -199,6 +200,7 @@ fn has_pad_strings(options: &[String]) -> bool
 fn strings(found: bool, options: &[String]) -> Result<StringSize, DaemonOptionsFault>
     ensures ok { IfOk result (λ strings. strings
         ≡ string_size_by (has_pad_strings (map string_bytes options.now))) }
+    // They are refused only where `clap` reads the flag otherwise.
     ensures err { IfErr result (λ fault. (fault ≡ DaemonOptionsFault.Bad)
         × (found ≢ has_pad_strings (map string_bytes options.now))) }
 {

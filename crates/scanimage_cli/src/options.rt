@@ -182,6 +182,7 @@ fn agreed_value(
 /// Whether a flag is among the words, where `clap` reads the same.
 fn agreed_flag(found: bool, option: ProgramOption, words: &[Text]) -> Result<bool, OptionsFault>
     ensures ok { IfOk result (λ flag. flag ≡ has_flag option words.now) }
+    // It is bad only where `clap` reads the flag otherwise.
     ensures err { IfErr result
         (λ fault. (fault ≡ OptionsFault.Bad) × (found ≢ has_flag option words.now)) }
 {
@@ -200,6 +201,7 @@ fn agreed_port(
 ) -> Result<Option<u16>, OptionsFault>
     ensures ok { IfOk result (λ port. program_option_value ProgramOption.Port words.now
         ≡ option_map decimal port) }
+    // It is bad only where the words have another port, or write it otherwise.
     ensures err { IfErr result (λ fault. fault ≡ OptionsFault.Bad
         → program_option_value ProgramOption.Port words.now ≢ option_map decimal found) }
 {
@@ -233,6 +235,7 @@ fn agreed_count(found: Option<u32>, words: &[Text]) -> Result<Option<u32>, Optio
     ensures ok { IfOk result
         (λ count. option_map count_named (program_option_value ProgramOption.BatchCount words.now)
         ≡ option_map (λ n. Some n) count) }
+    // It is bad only where the words have another count, or write it otherwise.
     ensures err { IfErr result (λ fault. (fault ≡ OptionsFault.Bad)
         × (option_map count_named (program_option_value ProgramOption.BatchCount words.now)
         ≢ option_map (λ n. Some n) found)) }
