@@ -31,6 +31,12 @@ def sane_programs():
     return (scanimage, saned) if scanimage and saned else None
 
 
+def can_be_others():
+    """Whether this process can run programs as another user: it is root, and not by a map of its own user alone."""
+    with open("/proc/self/uid_map", encoding="ascii") as file:
+        return os.geteuid() == 0 and sum(int(line.split()[2]) for line in file) > 65534
+
+
 def enter_own_network():
     """Begins again in a network of its own, so that the port is free in it; where the system grants none it stays here."""
     if os.environ.get(INSIDE):

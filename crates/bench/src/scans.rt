@@ -5,7 +5,8 @@ ghost use Rattle.std.specs.Prelude.{◌≡◌, ◌≤◌, ◌<◌, length, IfOk}
 use device_api::Device;
 use flatbed_dev::Flatbed;
 use option_desc::Value;
-use page_picture::{MemoryPage, Page, PageSource, PnmPage, Source};
+use page_picture::{Page, PageSource};
+use page_sources::{MemoryPage, PnmPage, Source};
 use sane_fixed::{ByteOrder, Fixed, Text};
 use std::alloc::{AllocError, Global};
 use std::fs::File;

@@ -1,6 +1,5 @@
 pub mod Pages
 pub mod Texts
 pub mod Devices
-pub mod ScannerStates
 pub mod InputTexts
 pub mod ConfigReading

@@ -3,10 +3,10 @@ use Rattle.std.specs.Prelude.{ℕ, ◌≡◌, ◌⊎◌, if◌then◌else◌, na
 use Rattle.std.specs.Prelude.{codes}
 use Rattle.std.specs.List.{starts_with}
 use Rattle.hex.specs.Hex.{decode_of}
-use Rattle.page_picture.specs.PageFile.{TellsPage, HasPageFault}
+use Rattle.page_sources.specs.PageFile.{TellsPage, HasPageFault}
 use Rattle.page_picture.specs.Source.{SourceState}
-use Rattle.page_picture.specs.declared.page_file.PageFault.{PageFault}
-use Rattle.page_picture.specs.declared.page_file.PageFault.TheVariants.{BadMagic, NoMem}
+use Rattle.page_sources.specs.declared.page_file.PageFault.{PageFault}
+use Rattle.page_sources.specs.declared.page_file.PageFault.TheVariants.{BadMagic, NoMem}
 use Rattle.config_pages.specs.declared.no_page.PageSourceFault.{PageSourceFault}
 use Rattle.config_pages.specs.Texts.{source_fault}
 

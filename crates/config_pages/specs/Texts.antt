@@ -1,7 +1,7 @@
 -- Why a page is not there, and the texts of that.
 use Rattle.std.specs.Prelude.{ℕ, List, codes}
-use Rattle.page_picture.specs.declared.page_file.PageFault.{PageFault}
-use Rattle.page_picture.specs.declared.page_file.PageFault.TheVariants as faults
+use Rattle.page_sources.specs.declared.page_file.PageFault.{PageFault}
+use Rattle.page_sources.specs.declared.page_file.PageFault.TheVariants as faults
 use Rattle.config_pages.specs.declared.no_page.NoPage.{NoPage}
 use Rattle.config_pages.specs.declared.no_page.NoPage.TheVariants.{CannotRead, BadMagic, BadHeader, SampleTooLarge}
 use Rattle.config_pages.specs.declared.no_page.NoPage.TheVariants.{Short, Trailing}

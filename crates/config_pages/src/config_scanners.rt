@@ -1,14 +1,13 @@
 ghost use Rattle.std.specs.Prelude.{◌≡◌, IfErr, IfOk, Contains, map};
 ghost use Rattle.dispatch.specs.declared.config_line.ConfigLine.{ConfigLine as ALine};
-ghost use Rattle.config_pages.specs.Devices.{AreDevicesOf, IsDeviceOfKind};
-ghost use Rattle.config_pages.specs.ScannerStates.{scanner_state};
+ghost use Rattle.config_pages.specs.Devices.{AreDevicesOf};
+ghost use Rattle.virtual_scanner.specs.Scanners.{scanner_state};
 
-use crate::devices::{DeviceFault, feeder, flatbed, hand_scanner, three_pass};
-use crate::scanner::Scanner;
+use crate::devices::{DeviceFault, scanner_of};
 use dispatch::ConfigLine;
-use page_picture::DeviceKind;
 use sane_fixed::ByteOrder;
 use thiserror::Error;
+use virtual_scanner::Scanner;
 
 /// The line of a config, by its number, that has no scanner.
 #[derive(Clone, Copy, Debug, PartialEq, Eq, Error)]
@@ -16,19 +15,6 @@ use thiserror::Error;
 pub struct ScannerFault {
     pub line: u32,
     pub fault: DeviceFault,
-}
-
-/// The scanner of a config line, of the line's kind.
-fn scanner_of(rt: &HostRuntime, line: &ConfigLine, order: ByteOrder) -> Result<Scanner, DeviceFault>
-    ensures { IfOk result
-        (λ scanner. IsDeviceOfKind line.now.kind line.now order (scanner_state scanner)) }
-{
-    match line.kind {
-        DeviceKind::Flatbed => Ok(Scanner::Flatbed(flatbed(rt, line, order)?)),
-        DeviceKind::Hand => Ok(Scanner::Hand(hand_scanner(rt, line, order)?)),
-        DeviceKind::ThreePass => Ok(Scanner::ThreePass(three_pass(rt, line, order)?)),
-        DeviceKind::Feeder => Ok(Scanner::Feeder(feeder(rt, line, order)?)),
-    }
 }
 
 /// That a line has no scanner.
@@ -47,7 +33,9 @@ pub fn scanners(
     lines: &[ConfigLine],
     order: ByteOrder,
 ) -> Result<Vec<Scanner>, ScannerFault>
-    /// The scanners of a config are one of each of its lines, in their order, of the line's kind.
+    /// The scanners of a config are one of each of its lines, in their order, of the line's kind. Each is new, has the
+    /// line's name and gives samples in the order asked for; on it is the line's first page, and in a feeder's tray all
+    /// its pages in their order, each at the line's dots per inch.
     /// Carried by: `ok` of `scanners`: `AreDevicesOf`
     ensures ok { IfOk result
         (λ scanners. AreDevicesOf order lines.now (map scanner_state scanners.items)) }

@@ -1,18 +1,18 @@
-ghost use Rattle.std.specs.Prelude.{◌≡◌, IfOk, map};
-ghost use Rattle.page_picture.specs.SourceView.{source_state};
-ghost use Rattle.page_picture.specs.declared.scene.DeviceKind.TheVariants as kinds;
+ghost use Rattle.std.specs.Prelude.{◌≡◌, IfOk, false, map};
+ghost use Rattle.page_sources.specs.SourceView.{source_state};
+ghost use Rattle.device_api.specs.Kinds.{is_feeder};
 ghost use Rattle.dispatch.specs.ConfigLines.{device_name};
-ghost use Rattle.config_pages.specs.Devices.{HasFirstPage, HasPageSources, IsFeederOfLine, IsPageOfText, IsScannerOfLine};
+ghost use Rattle.config_pages.specs.Devices.{HasFirstPage, HasPageSources, IsDeviceOfKind, IsFeederOfLine, IsPageOfText, IsScannerOfLine};
+ghost use Rattle.virtual_scanner.specs.Scanners.{scanner_state};
 
 use crate::no_page::{NoPage, PageSourceFault};
 use crate::opening::page_source;
 use dispatch::ConfigLine;
-use flatbed_dev::{Feeder, Flatbed};
-use hand_dev::HandScanner;
-use page_picture::Source;
-use sane_fixed::{ByteOrder, Text};
+use page_picture::DeviceKind;
+use page_sources::Source;
+use sane_fixed::{ByteOrder, NoMem, Text};
 use thiserror::Error;
-use threepass_dev::ThreePass;
+use virtual_scanner::{Scanner, TRAY_ROOM, VirtualScanner};
 
 /// Why there is no scanner for a line of a config.
 #[derive(Clone, Copy, Debug, PartialEq, Eq, Error)]
@@ -67,66 +67,70 @@ fn pages(rt: &HostRuntime, line: &ConfigLine) -> Result<Vec<Source>, DeviceFault
     Ok(sources)
 }
 
-/// The flatbed of a config line, new, on its page.
-pub fn flatbed(
+/// A scanner of that kind, new, on the first page of a config line.
+fn on_first_page(
     rt: &HostRuntime,
     line: &ConfigLine,
+    kind: DeviceKind,
     order: ByteOrder,
-) -> Result<Box<Flatbed>, DeviceFault>
-    /// The scanner of a config line is new, of the kind asked for, has the line's name and gives samples in the order
-    /// asked for; on it is the line's first page, and in a feeder's tray all its pages in their order, each at the
-    /// line's dots per inch.
-    /// Carried by: `flatbed`, `hand_scanner`, `three_pass`, `feeder`
-    ensures { IfOk result (λ device. IsScannerOfLine kinds.Flatbed line.now order device.value) }
+) -> Result<VirtualScanner, DeviceFault>
+    requires { is_feeder kind ≡ false }
+    ensures { IfOk result (IsScannerOfLine kind line.now order) }
 {
     let source = first_page(rt, line)?;
-    match Flatbed::new(rt.alloc(), name(rt, line)?, source, order) {
-        Ok(device) => Box::new(rt.alloc(), device).map_err(|_| DeviceFault::NoMem),
+    match VirtualScanner::new(rt.alloc(), kind, name(rt, line)?, source, order) {
+        Ok(scanner) => Ok(scanner),
         Err(_) => Err(DeviceFault::NoMem),
     }
 }
 
-/// The hand scanner of a config line, new, on its page.
-pub fn hand_scanner(
+/// A feeder, new, with all pages of a config line in its tray.
+fn feeder(
     rt: &HostRuntime,
     line: &ConfigLine,
     order: ByteOrder,
-) -> Result<Box<HandScanner>, DeviceFault>
-    ensures { IfOk result (λ device. IsScannerOfLine kinds.Hand line.now order device.value) }
-{
-    let source = first_page(rt, line)?;
-    match HandScanner::new(rt.alloc(), name(rt, line)?, source, order) {
-        Ok(device) => Box::new(rt.alloc(), device).map_err(|_| DeviceFault::NoMem),
-        Err(_) => Err(DeviceFault::NoMem),
-    }
-}
-
-/// The three-pass scanner of a config line, new, on its page.
-pub fn three_pass(
-    rt: &HostRuntime,
-    line: &ConfigLine,
-    order: ByteOrder,
-) -> Result<Box<ThreePass>, DeviceFault>
-    ensures { IfOk result (λ device. IsScannerOfLine kinds.ThreePass line.now order device.value) }
-{
-    let source = first_page(rt, line)?;
-    match ThreePass::new(rt.alloc(), name(rt, line)?, source, order) {
-        Ok(device) => Box::new(rt.alloc(), device).map_err(|_| DeviceFault::NoMem),
-        Err(_) => Err(DeviceFault::NoMem),
-    }
-}
-
-/// The page feeder of a config line, new, with its pages in the tray.
-pub fn feeder(
-    rt: &HostRuntime,
-    line: &ConfigLine,
-    order: ByteOrder,
-) -> Result<Box<Feeder>, DeviceFault>
-    ensures { IfOk result (λ device. IsFeederOfLine line.now order device.value) }
+) -> Result<VirtualScanner, DeviceFault>
+    ensures { IfOk result (IsFeederOfLine line.now order) }
 {
     let sources = pages(rt, line)?;
-    match Feeder::new(rt.alloc(), name(rt, line)?, sources, order) {
-        Ok(device) => Box::new(rt.alloc(), device).map_err(|_| DeviceFault::NoMem),
+    // A line of a config has no more.
+    if sources.len() > TRAY_ROOM {
+        return Err(DeviceFault::NoMem);
+    }
+    match VirtualScanner::feeder(rt.alloc(), name(rt, line)?, sources, order) {
+        Ok(scanner) => Ok(scanner),
         Err(_) => Err(DeviceFault::NoMem),
+    }
+}
+
+/// The scanner of a config line, of the line's kind.
+fn device_of(
+    rt: &HostRuntime,
+    line: &ConfigLine,
+    order: ByteOrder,
+) -> Result<VirtualScanner, DeviceFault>
+    ensures { IfOk result (IsDeviceOfKind line.now.kind line.now order) }
+{
+    match line.kind {
+        DeviceKind::Flatbed => on_first_page(rt, line, DeviceKind::Flatbed, order),
+        DeviceKind::Hand => on_first_page(rt, line, DeviceKind::Hand, order),
+        DeviceKind::ThreePass => on_first_page(rt, line, DeviceKind::ThreePass, order),
+        DeviceKind::Feeder => feeder(rt, line, order),
+    }
+}
+
+/// The scanner of a config line, of the line's kind, behind a pointer.
+pub(crate) fn scanner_of(
+    rt: &HostRuntime,
+    line: &ConfigLine,
+    order: ByteOrder,
+) -> Result<Scanner, DeviceFault>
+    ensures { IfOk result (λ scanner.
+        IsDeviceOfKind line.now.kind line.now order (scanner_state scanner)) }
+{
+    let device = device_of(rt, line, order)?;
+    match Scanner::new(rt.alloc(), device) {
+        Ok(scanner) => Ok(scanner),
+        Err(NoMem) => Err(DeviceFault::NoMem),
     }
 }

@@ -8,14 +8,12 @@ mod inputs;
 mod limited_reading;
 mod no_page;
 mod opening;
-mod scanner;
 mod spelled;
 
 pub use config_reading::{ConfigFailure, read_config};
 pub use config_scanners::{ScannerFault, scanners};
-pub use devices::{DeviceFault, feeder, flatbed, hand_scanner, three_pass};
+pub use devices::DeviceFault;
 pub use inputs::{HostInputs, HostReader, Inputs};
 pub use limited_reading::text_of;
 pub use no_page::{NoPage, PageSourceFault};
 pub use opening::page_source;
-pub use scanner::Scanner;

@@ -1,7 +1,7 @@
 ghost use Rattle.std.specs.Prelude.{◌≡◌};
 ghost use Rattle.config_pages.specs.Texts.{source_fault};
 
-use page_picture::PageFault;
+use page_sources::PageFault;
 use thiserror::Error;
 
 /// Why a page that a config names is not there.

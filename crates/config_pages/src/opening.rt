@@ -1,10 +1,10 @@
 ghost use Rattle.std.specs.Prelude.{◌≡◌, Some, IfOk, IfErr, IfSome, OnErr, List, ℕ};
-ghost use Rattle.page_picture.specs.SourceView.{source_state};
+ghost use Rattle.page_sources.specs.SourceView.{source_state};
 ghost use Rattle.config_pages.specs.Pages.{hex_digits, GivesSpelled, IsSpelledFault};
 
 use crate::no_page::{NoPage, PageSourceFault, source_fault};
 use crate::spelled::{hex_digits, hex_page};
-use page_picture::{OpenFault, PnmPage, Source};
+use page_sources::{OpenFault, PnmPage, Source};
 use std::fs::File;
 
 /// The page in the file of that path, relative to the current folder.

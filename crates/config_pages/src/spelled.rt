@@ -2,7 +2,7 @@ ghost use Rattle.std.specs.Prelude.{◌≡◌, IfOk, IfErr, option_map};
 ghost use Rattle.config_pages.specs.Pages.{hex_digits, GivesSpelled, HasSpelledFault};
 
 use hex::FromHexError;
-use page_picture::{MemoryPage, PageFault, read_page};
+use page_sources::{MemoryPage, PageFault, read_page};
 use std::alloc::Global;
 
 /// The digits of a page that stands in its line.

@@ -6,6 +6,7 @@ use Rattle.sane_fixed.specs.declared.status.Status.TheVariants.{Good, Eof}
 use Rattle.sane_fixed.specs.declared.status.Status.{Status}
 use Rattle.sane_fixed.specs.declared.status.Status.TheVariants as code
 use Rattle.page_picture.specs.Shows.{Frame}
+use Rattle.daemon_refines.specs.Failures.{HasBytesLeft}
 use Rattle.scan_frames.specs.Frames.{frame_of, frames_of, pass_length, payload}
 use Rattle.scan_frames.specs.declared.setup.Setup.{Setup}
 use Rattle.device_api.specs.ScannerLimits.{IsAllowed}
@@ -177,15 +178,15 @@ gives_turn i k listed p s after pass given n window f rest more is told g made =
       counted = tt;
     }
 
-failed_turn : (i : ℕ) (k : Make) (listed : List ℕ) (p : JobState) (s after : DeviceState) (window : List ℕ) (pass given : ℕ) (f : Frame) (rest : List ℕ) (more : List Frame) → IsRead k p s pass given f rest more → HasStopped s after → IsMade k after → TurnServed i k listed p s (Err code.IoError) after window
-failed_turn i k listed p s after window pass given f rest more is h made =
+failed_turn : (i : ℕ) (k : Make) (listed : List ℕ) (p : JobState) (s after : DeviceState) (window : List ℕ) (pass given : ℕ) (f : Frame) (rest : List ℕ) (more : List Frame) → IsRead k p s pass given f rest more → given < pass_length s.setup (page_of s) pass → s.setup.told ≡ None → HasStopped s after → IsMade k after → TurnServed i k listed p s (Err code.IoError) after window
+failed_turn i k listed p s after window pass given f rest more is some told h made =
     record {
       action = TurnsFault (record { before = failures_of s; after = h.failures });
       is = refl;
       may = (f, rest, more, streaming i k p s pass given f rest more is, (failing_is_fallible k s is.made (is.made.in_scan.page (ap is_at_rest is.at)) h.can_fail, is_fault (failures_of s) h.failures h.counted));
       device = failed_is (Some i) s after h;
       made = made;
-      counted = record { stopped = h; before = refl; after = refl };
+      counted = record { stopped = h; left = subst (HasBytesLeft s) (sym is.at) (some, told); before = refl; after = refl };
     }
 
 -- an end, with the phase behind it
@@ -247,7 +248,7 @@ turn_on i k listed p s after pass given (Ok n) window f rest more is told r h =
     gives_turn i k listed p s after pass given n window f rest more is told h (made_read k s after (Ok n) window is.made r)
 turn_on i k listed p s after pass given (Err code.Eof) window f rest more is told r h =
     last_turn i k listed p s after window pass given f rest more (after_pass s.setup pass) is told h.1 (made_read k s after (Err code.Eof) window is.made r) (ended_by k p s after window pass given f rest more is r)
-turn_on i k listed p s after pass given (Err code.IoError) window f rest more is told r h = failed_turn i k listed p s after window pass given f rest more is h.1 (made_read k s after (Err code.IoError) window is.made r)
+turn_on i k listed p s after pass given (Err code.IoError) window f rest more is told r h = failed_turn i k listed p s after window pass given f rest more is h.0 told h.1 (made_read k s after (Err code.IoError) window is.made r)
 turn_on i k listed p s after pass given (Err code.Good) window f rest more is told r h = absurd h
 turn_on i k listed p s after pass given (Err code.Unsupported) window f rest more is told r h = absurd h
 turn_on i k listed p s after pass given (Err code.Cancelled) window f rest more is told r h = absurd h

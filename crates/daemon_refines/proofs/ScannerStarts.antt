@@ -24,7 +24,7 @@ use Rattle.system_model.specs.AbstractDevices.{Resting, Reading, put_down}
 use Rattle.system_model.specs.Transitions.{IsFault, MayFail}
 use Rattle.system_model.specs.Daemon.{TransferState, Quiet, Waiting, FailureCounts, AnswerEffect, begin_page, begin_pass, start_at, start_or_fail, start_page}
 use Rattle.daemon_refines.specs.ContextRefinement.{IsMade, pages_to_come, phase_at, abstract_device, abstract_device_as, page_views, tray_of}
-use Rattle.daemon_refines.specs.Failures.{IsFailureIn}
+use Rattle.daemon_refines.specs.Failures.{HasBytesLeft, IsFailureIn}
 use Rattle.daemon_refines.proofs.Sources.{failing_is_fallible, start_sources}
 use Rattle.daemon_refines.proofs.Scanning.{reads_at, waits_at}
 
@@ -99,12 +99,12 @@ pub is_fault : (old new : ℕ) → CountsFailure old new → IsFault (record { b
 is_fault old new (inl e) = inl (omega arith)
 is_fault old new (inr e) = inr e.0
 
-failed : (k : Make) (s after : DeviceState) (holder : Option ℕ) → IsMade k s → s.pages ≢ [] → HasStopped s after → StartServed k s (Err code.IoError) after holder
-failed k s after holder made some h =
+failed : (k : Make) (s after : DeviceState) (holder : Option ℕ) → IsMade k s → s.pages ≢ [] → HasBytesLeft s s.phase → HasStopped s after → StartServed k s (Err code.IoError) after holder
+failed k s after holder made some left h =
     record {
       fault = Some (record { before = failures_of s; after = h.failures });
       may = (failing_is_fallible k s made some h.can_fail, is_fault (failures_of s) h.failures h.counted);
-      counted = record { stopped = h; before = refl; after = refl };
+      counted = record { stopped = h; left = left; before = refl; after = refl };
       serves = λ again. record { told = refl; on = refl; device = failed_is holder s after h; transfer = refl };
     }
 
@@ -195,7 +195,7 @@ page_starts k s after holder c (Ok u) held pages made at e h n =
     }
 page_starts k s after holder c (Err code.Inval) held pages made at e h n =
     record { fault = None; may = tt; counted = tt; serves = λ again. at_rest k s after holder c (Err code.Inval) again (page_of s ∷ page_views pages) at (first_sheet s held pages e) (page_refused k s after holder c at h.0 h.1) }
-page_starts k s after holder c (Err code.IoError) held pages made at e h n = failed k s after holder made (λ none. let clash : held ∷ pages ≡ [] = sym e ∙ none in cc) h.1
+page_starts k s after holder c (Err code.IoError) held pages made at e h n = failed k s after holder made (λ none. let clash : held ∷ pages ≡ [] = sym e ∙ none in cc) (subst (HasBytesLeft s) (sym at) tt) h.1
 page_starts k s after holder c (Err code.NoMem) held pages made at e h n = absurd (n refl)
 page_starts k s after holder c (Err code.Good) held pages made at e h n = absurd h
 page_starts k s after holder c (Err code.Unsupported) held pages made at e h n = absurd h
@@ -229,7 +229,7 @@ amid_starts k s after holder ended (Ok u) made some at in_scan h n =
           (pass_begun k s after holder ended at in_scan.2 (h.1 ∙ ap (λ (p : AnyPhase). with_phase s (Read (next_pass p) 0)) at));
     }
 amid_starts k s after holder ended (Err code.Inval) made some at in_scan h n = absurd (let clash : true ≡ false = sym in_scan.0 ∙ h.0 in cc)
-amid_starts k s after holder ended (Err code.IoError) made some at in_scan h n = failed k s after holder made some h.1
+amid_starts k s after holder ended (Err code.IoError) made some at in_scan h n = failed k s after holder made some (subst (HasBytesLeft s) (sym at) tt) h.1
 amid_starts k s after holder ended (Err code.NoMem) made some at in_scan h n = absurd (n refl)
 amid_starts k s after holder ended (Err code.Good) made some at in_scan h n = absurd h
 amid_starts k s after holder ended (Err code.Unsupported) made some at in_scan h n = absurd h

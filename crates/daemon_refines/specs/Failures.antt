@@ -1,6 +1,8 @@
 -- A failure by the model is one of the device: the source of its page failed in this very call, and counted that.
-use Rattle.std.specs.Prelude.{ℕ, ◌≡◌, Option, Some, None, List}
-use Rattle.device_api.specs.State.{DeviceState, HasStopped, failures_of}
+use Rattle.std.specs.Prelude.{ℕ, ◌≡◌, ◌<◌, Option, Some, None, List}
+use Rattle.scan_frames.specs.Frames.{pass_length}
+use Rattle.device_api.specs.State.{DeviceState, HasStopped, Phase, failures_of, page_of}
+use Rattle.device_api.specs.State.Phase.{AtRest, Between, Reading}
 use Rattle.dispatch.specs.declared.table.place.Lease.{Lease}
 use Rattle.saned_requests.specs.Holding.{held_by}
 use Rattle.system_model.specs.Daemon.{FailureCounts}
@@ -10,8 +12,16 @@ use Rattle.system_model.specs.Actions.{Action, TurnsFault}
 -- model is one of the device: the source of its first page, one that can fail, did so in this very call, and the
 -- model's two numbers are its counts before and behind it; so did that of the device of a word, which the session held
 -- before and holds behind; of a START, and of a turn.
+--
+-- where a pass is read, bytes of it are still to be given, and no option ends it
+abbrev pub HasBytesLeft : DeviceState → Phase → Type 0
+HasBytesLeft s (AtRest cancelled) = Unit {0}
+HasBytesLeft s (Between ended) = Unit {0}
+HasBytesLeft s (Reading pass given) = (given < pass_length s.setup (page_of s) pass) × (s.setup.told ≡ None)
+
 pub record IsFailureOf (old new : DeviceState) (f : FailureCounts) : Type 0 where
   pub stopped : HasStopped old new
+  pub left : HasBytesLeft old old.phase
   pub before : f.before ≡ failures_of old
   pub after : f.after ≡ stopped.failures
 

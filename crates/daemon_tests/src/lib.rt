@@ -1,7 +1,5 @@
-//! Tests of the daemon's request context and of its core.
+//! Tests of the daemon's core, and by it of its request context.
 #![tactic(auto)]
 
 #[cfg(test)]
 mod daemon;
-#[cfg(test)]
-mod test_context;

@@ -1,6 +1,6 @@
 use crate::device::Device;
 use option_desc::{Descriptor, Value};
-use page_picture::Source;
+use page_sources::Source;
 use sane_fixed::{ByteOrder, DeviceInfo, Info, Params, Status};
 use std::alloc::Global;
 

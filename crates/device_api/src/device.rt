@@ -4,7 +4,8 @@ ghost use Rattle.device_api.specs.Options.{descriptors_of};
 ghost use Rattle.device_api.specs.State.{DeviceState, is_at_rest, get_answer, set_answer, after_set, params_of, Starts, Reads, after_cancel, after_reset, takes_page, after_load};
 
 use option_desc::{Descriptor, Value};
-use page_picture::{PageSource, Source};
+use page_picture::PageSource;
+use page_sources::Source;
 use sane_fixed::{ByteOrder, DeviceInfo, Info, Params, Status};
 use std::alloc::Global;
 

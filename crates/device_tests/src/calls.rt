@@ -2,18 +2,16 @@
 
 use device_api::Device;
 use option_desc::{Value, Words};
-use page_picture::{MemoryPage, Source, read_page};
-use sane_fixed::{ByteOrder, Fixed, FrameFormat, Info, Params, Status, Text};
+use sane_fixed::{Fixed, FrameFormat, Info, Params, Status};
 use std::alloc::Global;
 use std::process::Abort;
+use testing::{source, text};
 
-/// The number of the option `mode`.
+/// The number of the option `mode`, which each kind of scanner has, as the two that follow.
 pub const MODE: u32 = 1;
 
-/// The number of the option `depth`.
 pub const DEPTH: u32 = 2;
 
-/// The number of the option `resolution`.
 pub const RESOLUTION: u32 = 3;
 
 /// The number of the option `br-x`.
@@ -36,22 +34,20 @@ pub enum Fill {
     Halves,
     /// 0 below 128, else 255.
     Steps,
-    /// 7.
-    Sevens,
 }
 
 /// A value as the tables name it.
 #[derive(Clone, Copy)]
-pub enum Plain<'a> {
+pub enum Plain {
     Flag(bool),
     Int(i32),
     /// So many 65,536ths.
     Fixed(i32),
-    Text(&'a [u8]),
+    Text(&'static [u8]),
     /// A table of so many words.
     Table(Fill, i32),
-    /// A table of so many words, of which the one at this place is that.
-    But(Fill, i32, usize, i32),
+    /// A table of 256 words, of which the one at this place is that.
+    But(Fill, usize, i32),
 }
 
 fn word(fill: Fill, i: i32) -> i32 {
@@ -61,7 +57,6 @@ fn word(fill: Fill, i: i32) -> i32 {
         Fill::Halves => i / 2,
         Fill::Steps if i < 128 => 0,
         Fill::Steps => 255,
-        Fill::Sevens => 7,
     }
 }
 
@@ -74,101 +69,66 @@ fn table(alloc: Global, fill: Fill, count: i32) -> Option<Vec<i32>> {
 }
 
 /// The value of an option that a row tells plainly.
-pub fn value(alloc: Global, plain: Plain) -> Option<Value> {
+fn value(alloc: Global, plain: Plain) -> Option<Value> {
     Some(match plain {
         Plain::Flag(flag) => Value::Flag(flag),
         Plain::Int(word) => Value::Int(word),
         Plain::Fixed(word) => Value::Fixed(Fixed(word)),
-        Plain::Text(bytes) => Value::Text(Text::new(alloc, bytes).ok()?),
+        Plain::Text(bytes) => Value::Text(text(alloc, bytes)?),
         Plain::Table(fill, count) => Value::Words(Words::from_vec(table(alloc, fill, count)?)),
-        Plain::But(fill, count, place, word) => {
-            let mut words = table(alloc, fill, count)?;
+        Plain::But(fill, place, word) => {
+            let mut words = table(alloc, fill, 256)?;
             *words.get_mut(place)? = word;
             Value::Words(Words::from_vec(words))
         }
     })
 }
 
-/// The page of a file of so many dots per inch, in memory.
-pub fn page(alloc: Global, file: &[u8], dpi: u32) -> Option<Source> {
-    let page = read_page(alloc, file, dpi).ok()?;
-    Some(Source::Memory(MemoryPage::new(page)))
-}
-
-/// What is told of a frame: its format, whether it is the last, its bytes and pixels per line, its lines and its depth.
-pub fn answers_of(
-    format: FrameFormat,
-    last_frame: bool,
-    bytes_per_line: u32,
-    pixels_per_line: u32,
-    lines: Option<u32>,
-    depth: u32,
-) -> Params {
-    Params {
-        format,
-        last_frame,
-        bytes_per_line,
-        pixels_per_line,
-        lines,
-        depth,
-    }
-}
-
-/// A part of what a scanner is.
-#[derive(Clone, Copy)]
-pub enum Part {
-    Name,
-    Vendor,
-    Model,
-    Class,
-}
+/// A frame's format, whether it is the last, its bytes and pixels per line, its lines and its depth.
+pub type Told = (FrameFormat, bool, u32, u32, Option<u32>, u32);
 
 /// A call of a scanner, and what it answers.
 #[derive(Clone, Copy)]
-pub enum Call<'a> {
-    Is(Part, &'a [u8]),
-    Order(ByteOrder),
-    /// It has so many options.
-    Options(usize),
+pub enum Call {
+    /// Its name, model and class; all are of one vendor.
+    Is(&'static [u8], &'static [u8], &'static [u8]),
     /// The option takes the value.
-    Set(u32, Plain<'a>),
+    Set(u32, Plain),
     /// The option is given the second value for the first, with this info.
-    Gives(u32, Plain<'a>, Plain<'a>, u32),
+    Gives(u32, Plain, Plain, u32),
     /// The option is not set.
-    Refuses(u32, Plain<'a>, Status),
-    Has(u32, Plain<'a>),
+    Refuses(u32, Plain, Status),
+    Has(u32, Plain),
     /// The option cannot be read.
     Hides(u32),
     /// At 26 dots per inch, where a mm is one dot, a window of so many from the corner.
     Window(i32, i32),
-    Told(Params),
+    Tells(Told),
     Start(Result<(), Status>),
     /// One read of at most four bytes.
     Read(Result<usize, Status>),
     /// So many reads of at most seven bytes give these bytes, and the next this status.
-    Frame(u32, &'a [u8], Status),
-    /// A start, a frame of these bytes, and the scanner is at rest.
-    Scan(&'a [u8]),
+    Frame(u32, &'static [u8], Status),
+    /// A start and a frame of these bytes; whether the scanner is at rest then.
+    Scan(&'static [u8], bool),
+    /// The same of a whole scan of so many times these runs of a byte.
+    ScanRuns(u32, &'static [(u8, usize)]),
     Cancel,
     Reset,
     AtRest(bool),
     /// A page of 26 dots per inch goes in, or not.
-    Load(&'a [u8], bool),
+    Load(&'static [u8], bool),
 }
 
-fn is<D: Device>(device: &D, part: Part, wanted: &[u8]) -> bool {
+fn is<D: Device>(device: &D, name: &[u8], model: &[u8], class: &[u8]) -> bool {
     let info = device.info();
-    let text = match part {
-        Part::Name => &info.name,
-        Part::Vendor => &info.vendor,
-        Part::Model => &info.model,
-        Part::Class => &info.class,
-    };
-    text.as_bytes() == wanted
+    let is_virtual = info.vendor.as_bytes() == b"Virtual".as_slice();
+    let is_named = info.name.as_bytes() == name && info.model.as_bytes() == model;
+    is_virtual && is_named && info.class.as_bytes() == class
 }
 
 /// The option is set to the value: what is given, and the info.
-fn set<D: Device>(
+pub fn set<D: Device>(
     alloc: Global,
     device: &mut D,
     n: u32,
@@ -201,19 +161,25 @@ fn takes_window<D: Device>(alloc: Global, device: &mut D, width: i32, height: i3
     Some(true)
 }
 
-/// What the reads of a frame give, of at most so many bytes each, how many gave some, and the status that ends them.
-pub fn read_all<D: Device>(
-    alloc: Global,
-    device: &mut D,
-    most: usize,
-) -> Option<(Vec<u8>, u32, Status)> {
+fn tells<D: Device>(device: &D, told: Told) -> bool {
+    let (format, last_frame, bytes_per_line, pixels_per_line, lines, depth) = told;
+    device.params()
+        == Params {
+            format,
+            last_frame,
+            bytes_per_line,
+            pixels_per_line,
+            lines,
+            depth,
+        }
+}
+
+/// What reads of at most seven bytes give, how many gave some, and the status that ends them.
+pub fn read_all<D: Device>(alloc: Global, device: &mut D) -> Option<(Vec<u8>, u32, Status)> {
     let mut out = Vec::new(alloc);
-    let mut buf = [0u8; 100];
-    if most == 0 || most > 100 {
-        return None;
-    }
+    let mut buf = [0u8; 7];
     for reads in 0..100_000u32 {
-        match device.read(&mut buf[..most]) {
+        match device.read(&mut buf) {
             Ok(n) => out.extend_from_slice(&buf[..n]).ok()?,
             Err(status) => return Some((out, reads, status)),
         }
@@ -221,33 +187,42 @@ pub fn read_all<D: Device>(
     None
 }
 
-/// Whether so many reads, of at most so many bytes each, give these bytes, and the next this status.
-pub fn reads<D: Device>(
+fn frame<D: Device>(
     alloc: Global,
     device: &mut D,
-    most: usize,
     count: u32,
     bytes: &[u8],
     status: Status,
 ) -> Option<bool> {
-    let (got, reads, ended) = read_all(alloc, device, most)?;
+    let (got, reads, ended) = read_all(alloc, device)?;
     Some(got.as_slice() == bytes && (reads, ended) == (count, status))
 }
 
-fn scans<D: Device>(alloc: Global, device: &mut D, bytes: &[u8]) -> Option<bool> {
+fn scan<D: Device>(alloc: Global, device: &mut D, bytes: &[u8], rests: bool) -> Option<bool> {
     device.start(alloc).ok()?;
     let is_under_way = !device.at_rest();
-    let (got, _, status) = read_all(alloc, device, 7)?;
+    let (got, _, status) = read_all(alloc, device)?;
     let is_whole = got.as_slice() == bytes && status == Status::Eof;
-    Some(is_under_way && is_whole && device.at_rest())
+    Some(is_under_way && is_whole && device.at_rest() == rests)
+}
+
+/// So many times these runs of a byte.
+fn of_runs(alloc: Global, times: u32, runs: &[(u8, usize)]) -> Option<Vec<u8>> {
+    let mut bytes = Vec::new(alloc);
+    for _ in 0..times {
+        for (byte, count) in runs {
+            for _ in 0..*count {
+                bytes.push(*byte).ok()?;
+            }
+        }
+    }
+    Some(bytes)
 }
 
 /// Whether a call is answered so; none for lack of memory.
 fn answers<D: Device>(alloc: Global, device: &mut D, call: Call) -> Option<bool> {
     match call {
-        Call::Is(part, wanted) => return Some(is(device, part, wanted)),
-        Call::Order(order) => return Some(device.order() == order),
-        Call::Options(count) => return Some(device.descriptors(alloc).ok()?.len() == count),
+        Call::Is(name, model, class) => return Some(is(device, name, model, class)),
         Call::Set(n, asked) => return Some(set(alloc, device, n, asked)?.is_ok()),
         Call::Gives(n, asked, given, info) => return gives(alloc, device, n, asked, given, info),
         Call::Refuses(n, asked, why) => {
@@ -256,24 +231,32 @@ fn answers<D: Device>(alloc: Global, device: &mut D, call: Call) -> Option<bool>
         Call::Has(n, wanted) => return Some(device.get(alloc, n).ok()? == value(alloc, wanted)?),
         Call::Hides(n) => return Some(device.get(alloc, n).err() == Some(Status::Inval)),
         Call::Window(width, height) => return takes_window(alloc, device, width, height),
-        Call::Told(params) => return Some(device.params() == params),
+        Call::Tells(told) => return Some(tells(device, told)),
         Call::Start(answer) => return Some(device.start(alloc) == answer),
         Call::Read(answer) => return Some(device.read(&mut [0; 4]) == answer),
-        Call::Frame(count, bytes, status) => return reads(alloc, device, 7, count, bytes, status),
-        Call::Scan(bytes) => return scans(alloc, device, bytes),
+        Call::Frame(count, bytes, status) => return frame(alloc, device, count, bytes, status),
+        Call::Scan(bytes, rests) => return scan(alloc, device, bytes, rests),
+        Call::ScanRuns(times, runs) => {
+            return scan(alloc, device, &of_runs(alloc, times, runs)?, true);
+        }
         Call::Cancel => device.cancel(),
         Call::Reset => device.reset(),
         Call::AtRest(is) => return Some(device.at_rest() == is),
-        Call::Load(file, is) => return Some(device.load(page(alloc, file, 26)?).is_ok() == is),
+        Call::Load(file, is) => return Some(device.load(source(alloc, file, 26)?).is_ok() == is),
     }
     Some(true)
 }
 
-/// Each call is answered so.
-pub fn expect_each<D: Device>(rt: &impl Abort, alloc: Global, device: &mut D, calls: &[Call]) {
+/// Each call of the scanner of that name is answered so.
+pub fn expect_each<D: Device>(
+    rt: &impl Abort,
+    alloc: Global,
+    device: &mut D,
+    (name, calls): (&str, &[Call]),
+) {
     for (i, call) in calls.iter().enumerate() {
         if answers(alloc, device, *call) != Some(true) {
-            panic!(rt; "call {i} is answered otherwise");
+            panic!(rt; "{name}: call {i} is answered otherwise");
         }
     }
 }

@@ -2,26 +2,16 @@
 #![tactic(auto)]
 
 #[cfg(test)]
-mod api;
-#[cfg(test)]
-mod bit_rows;
-#[cfg(test)]
-mod byte_rows;
-#[cfg(test)]
 mod calls;
 #[cfg(test)]
-mod color_passes;
+mod configs;
 #[cfg(test)]
-mod flatbed;
-#[cfg(test)]
-mod frames;
-#[cfg(test)]
-mod hand;
+mod file_scans;
 #[cfg(test)]
 mod page_files;
 #[cfg(test)]
-mod scanner;
+mod registry;
 #[cfg(test)]
-mod table;
+mod scanners;
 #[cfg(test)]
-mod threepass;
+mod tables;

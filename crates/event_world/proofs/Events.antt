@@ -3,7 +3,7 @@ use Rattle.std.proofs.Common.{◌≡◌, ◌∙◌, ℕ, zero, suc, ◌+◌, ◌
 use Rattle.std.proofs.lemmas.List.Elements.{All-get_or}
 use Rattle.std.proofs.lemmas.Option.{get_or_from_slice_get, slice_get_within}
 use Rattle.page_picture.specs.Source.{SourceState}
-use Rattle.page_picture.specs.declared.sources.kinds.Source.{Source}
+use Rattle.page_sources.specs.declared.kinds.Source.{Source}
 use Rattle.frame_join.specs.FrameHistory.{JoinHistory, IsJoined, empty_history}
 use Rattle.sane_fixed.specs.declared.status.Status.{Status}
 use Rattle.sane_fixed.specs.declared.status.Status.TheVariants as statuses

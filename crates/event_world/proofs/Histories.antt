@@ -1,7 +1,7 @@
 -- Events one after another.
 use Rattle.std.proofs.Common.{List, [], ◌∷◌, ◌++◌, refl, subst}
 use Rattle.page_picture.specs.Source.{SourceState}
-use Rattle.page_picture.specs.declared.sources.kinds.Source.{Source}
+use Rattle.page_sources.specs.declared.kinds.Source.{Source}
 use Rattle.event_world.specs.declared.event.Event.{Event}
 use Rattle.event_world.specs.Worlds.{Leads, Runs, WorldCore}
 

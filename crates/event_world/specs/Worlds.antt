@@ -1,7 +1,7 @@
 -- A daemon and the endpoints of some jobs, and what events make of them.
 use Rattle.std.specs.Prelude.{ℕ, ◌≡◌, ◌≤◌, ◌<◌, List, [], ◌∷◌, All, Some, None, length, slice_get, slice_set}
 use Rattle.page_picture.specs.Source.{SourceState}
-use Rattle.page_picture.specs.declared.sources.kinds.Source.{Source}
+use Rattle.page_sources.specs.declared.kinds.Source.{Source}
 use Rattle.device_api.specs.State.{DeviceState}
 use Rattle.dispatch.specs.RegistryFault.{HaveOwnNames, AreRegistrable}
 use Rattle.dispatch.specs.Table.{after_unplug, fresh_table}

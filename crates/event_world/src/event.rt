@@ -1,4 +1,4 @@
-use page_picture::Source;
+use page_sources::Source;
 use sane_fixed::Text;
 
 /// What may happen. A job is named by its place among the jobs. An event that cannot happen changes nothing.

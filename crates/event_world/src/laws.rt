@@ -2,7 +2,7 @@
 
 ghost use Rattle.std.specs.Prelude.{ℕ, ◌≡◌, ◌-◌, ◌<◌, ◌≤◌, List, Some, None, true, false, slice_get};
 ghost use Rattle.page_picture.specs.Source.{SourceState};
-ghost use Rattle.page_picture.specs.declared.sources.kinds.Source.{Source};
+ghost use Rattle.page_sources.specs.declared.kinds.Source.{Source};
 ghost use Rattle.netpbm.specs.Pnm.{IsWhole};
 ghost use Rattle.scan_job.specs.declared.job.Job.{Job};
 ghost use Rattle.scan_job.specs.declared.job.Task.TheVariants as tasks;

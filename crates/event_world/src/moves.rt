@@ -15,7 +15,8 @@ use crate::event::{Event, JobEvent};
 use crate::job_events::{PIECE, can};
 use crate::world::EventWorld;
 use device_api::Device;
-use page_picture::{PageSource, Source};
+use page_picture::PageSource;
+use page_sources::Source;
 use saned_core::Daemon;
 
 /// The loss of a control connection whose session the daemon has ended.

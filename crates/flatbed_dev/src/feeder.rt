@@ -1,12 +1,12 @@
 ghost use Rattle.std.specs.Prelude.{◌≡◌, map, vec_len, IfOk, IfErr};
-ghost use Rattle.page_picture.specs.SourceView.{source_state};
+ghost use Rattle.page_sources.specs.SourceView.{source_state};
 ghost use Rattle.page_picture.specs.declared.scene.DeviceKind.TheVariants.{Feeder as FeederKind};
 ghost use Rattle.virtual_scanner.specs.New.{new_device};
 ghost use Rattle.flatbed_dev.specs.FeederFault.{HasFeederFault};
 
 use device_api::{Device, DeviceInfo};
 use option_desc::{Descriptor, Value};
-use page_picture::Source;
+use page_sources::Source;
 use sane_fixed::{ByteOrder, Info, Params, Status, Text};
 use std::alloc::Global;
 use std::marker::Model;

@@ -5,9 +5,11 @@
 #[cfg(test)]
 mod client;
 #[cfg(test)]
-mod jobs;
+mod common;
 #[cfg(test)]
 mod local;
+#[cfg(test)]
+mod outputs;
 #[cfg(test)]
 mod program;
 #[cfg(test)]

@@ -1,9 +1,3 @@
 pub mod MeaningLemmas
-pub mod PageLemmas
-pub mod ScanLemmas
-pub mod RowLemmas
-pub mod ShownLemmas
-pub mod ThirdLemmas
 pub mod RunLemmas
-pub mod ScalingLemmas
-pub mod EightLemmas
+pub mod PartLemmas

@@ -4,15 +4,7 @@ pub mod Seen
 pub mod Tone
 pub mod Meaning
 pub mod Shows
-pub mod PageFile
-pub mod PageReading
-pub mod Opening
 pub mod Source
-pub mod Failing
-pub mod PnmState
-pub mod KnownBytes
-pub mod SourceView
 pub mod Columns
 pub use Rattle.netpbm.specs.Picture
 pub use Rattle.netpbm.specs.Pnm
-pub mod Inside

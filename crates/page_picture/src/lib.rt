@@ -5,8 +5,6 @@ mod column_map;
 mod extents;
 mod laws;
 mod page;
-mod page_file;
-mod rereadable;
 mod scene;
 mod sources;
 mod tones;
@@ -15,11 +13,6 @@ pub use column_map::ColumnMap;
 pub use extents::{extent, extent_at};
 pub use laws::lines_show_the_page;
 pub use page::Page;
-pub use page_file::{PageFault, read_page};
-pub use rereadable::Rereadable;
 pub use scene::{DeviceKind, Mode, Scene};
-pub use sources::{
-    ByteRows, FailingPage, MemoryPage, OpenFault, PageSource, PnmPage, SampleBytes, Source,
-    SourceFault,
-};
+pub use sources::{ByteRows, PageSource, SampleBytes, SourceFault};
 pub use tones::{greatest, in_channel, sample, toned};

@@ -4,28 +4,7 @@ ghost use Rattle.std.specs.Prelude.{◌≡◌, ◌≤◌, ◌<◌, ◌+◌, ◌*
 ghost use Rattle.page_picture.specs.Page.{IsShaped, IsPageView};
 ghost use Rattle.page_picture.specs.Source.{SourceState, GivesRow, GivesRowBytes, GivesChannel, Rewinds, byte_place, bytes_in, source_and_bytes};
 
-mod eights;
-mod failing_page;
-mod fitting;
-mod header_scan;
-mod kinds;
-mod memory_page;
-mod open_fault;
-mod pnm_page;
-mod raster_rows;
-mod read_fault;
-mod read_room;
-mod scaling;
-mod third_numbers;
-mod upper_rows;
-mod uppers_fit;
-
 use crate::scene::Mode;
-pub use failing_page::FailingPage;
-pub use kinds::Source;
-pub use memory_page::MemoryPage;
-pub use open_fault::OpenFault;
-pub use pnm_page::PnmPage;
 use thiserror::Error;
 
 /// A source failed to give a row or to go back to the first; its count of failures tells so.

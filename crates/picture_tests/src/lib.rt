@@ -4,12 +4,6 @@
 #[cfg(test)]
 mod joins;
 #[cfg(test)]
-mod pages;
-#[cfg(test)]
-mod pnm;
-#[cfg(test)]
 mod sources;
-#[cfg(test)]
-mod widths;
 #[cfg(test)]
 mod writing;

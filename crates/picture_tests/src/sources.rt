@@ -1,9 +1,7 @@
 ghost use Rattle.std.specs.Prelude.{◌≡◌};
 
-use page_picture::{
-    ColumnMap, DeviceKind, FailingPage, MemoryPage, Mode, OpenFault, Page, PageFault, PageSource,
-    PnmPage, Rereadable, Scene, Source, SourceFault, read_page,
-};
+use page_picture::{ColumnMap, DeviceKind, Mode, PageSource, Scene, SourceFault};
+use page_sources::{OpenFault, PageFault, PnmPage, Rereadable, Source, read_page};
 use sane_fixed::Fixed;
 use std::alloc::Global;
 use std::fs::File;
@@ -106,7 +104,6 @@ const REFUSED: &[(&[u8], u32, PageFault)] = &[
     (b"P4\n1 1\n\x80", 50, PageFault::BadMagic),
     (b"P", 50, PageFault::BadMagic),
     (b"", 50, PageFault::BadMagic),
-    (b"P4", 0, PageFault::BadDpi),
     (GRAYS, 0, PageFault::BadDpi),
     (GRAYS, 1201, PageFault::BadDpi),
     (b"P5\n0 1\n255\n", 50, PageFault::BadHeader),
@@ -116,17 +113,15 @@ const REFUSED: &[(&[u8], u32, PageFault)] = &[
     (b"P5\n1 1\n255", 50, PageFault::BadHeader),
     (b"P51 1\n255\n\x00", 50, PageFault::BadHeader),
     (b"P5 #1 1\r1", 50, PageFault::BadHeader),
-    (b"P5\n1 1\n255\n", 50, PageFault::Short),
     (b"P5\n3 1\n255\n\x01\x02", 50, PageFault::Short),
-    (b"P5\n2 1\n10\n\x0b", 50, PageFault::Short),
     (b"P5\n1 1\n256\n\x00", 50, PageFault::Short),
-    (b"P5\n1 1\n10\n\x0b\x00", 50, PageFault::Trailing),
     (b"P5\n1 1\n10\n\x0b", 50, PageFault::SampleTooLarge),
-    (
-        b"P5\n1 2\n256\n\x01\x01\x00\x00",
-        50,
-        PageFault::SampleTooLarge,
-    ),
+    (b"P5\n1 1\n256\n\x01\x01", 50, PageFault::SampleTooLarge),
+    // Two at once: the one that is tested first.
+    (b"P4", 0, PageFault::BadDpi),
+    (b"P7\n0 0\n255\n", 50, PageFault::BadMagic),
+    (b"P5\n2 1\n10\n\x0b", 50, PageFault::Short),
+    (b"P5\n1 1\n10\n\x0b\x00", 50, PageFault::Trailing),
 ];
 
 #[test]
@@ -270,131 +265,18 @@ fn each_call_of_the_reader_fails_in_turn(rt: HostRuntime) -> Result<(), Fail> {
     Ok(())
 }
 
-/// A page with a comment of so many bytes, and of so many columns and rows of two bytes each, all 7.
-fn sevens(rt: &impl Abort, alloc: Global, comment: usize, columns: u32, rows: u32) -> Vec<u8> {
-    let mut text = Vec::from_slice(alloc, b"P5 #").expect(rt, "memory");
-    for _ in 0..comment {
-        text.push(b'x').expect(rt, "memory");
-    }
-    let sizes = format!(in alloc; "\n{columns} {rows}\n65535\n").expect(rt, "memory");
-    text.extend_from_slice(sizes.as_bytes())
-        .expect(rt, "memory");
-    drop(sizes);
-    let samples = (columns as usize).saturating_mul(rows as usize);
-    for _ in 0..samples.saturating_mul(2) {
-        text.push(7).expect(rt, "memory");
-    }
-    text
-}
-
-/// The rows of such a page, each of whose samples is 7 * 257, and none behind them.
-fn expect_sevens<S: PageSource>(
-    rt: &impl Abort,
-    alloc: Global,
-    page: &mut S,
-    columns: u32,
-    rows: u32,
-) {
-    assert!(rt; page.size() == (columns, rows));
-    let mut row = vec![in alloc; 0u16; 3 * page.size().0 as usize].expect(rt, "memory");
-    for _ in 0..rows {
-        assert!(rt; row.len() == (3 * page.size().0 as usize));
-        assert!(rt; page.next_row(&mut row) == Ok(true));
-        assert!(rt; row.iter().all(|sample| *sample == 7 * 257));
-    }
-    assert!(rt; row.len() == (3 * page.size().0 as usize));
-    assert!(rt; page.next_row(&mut row) == Ok(false));
-    assert!(rt; page.failures() == 0);
-    drop(row);
-}
-
-/// The bytes of a comment, columns and rows.
-const MANY: &[(usize, u32, u32)] = &[(5000, 2, 2), (0, 1, 5000), (0, 10000, 1)];
-
-#[test]
-fn many_reads(rt: HostRuntime) {
-    for &(comment, columns, rows) in MANY {
-        let text = sevens(&rt, rt.alloc(), comment, columns, rows);
-        let reader = Faulty {
-            bytes: Cursor::new(text.as_slice()),
-            calls: 0,
-            fails_at: 0,
-            kind: io::ErrorKind::Other,
-        };
-        let mut page = match PnmPage::open(rt.alloc(), reader, 50) {
-            Ok(page) => page,
-            Err((fault, _)) => panic!(&rt; "{fault:?} at {columns} x {rows}"),
-        };
-        expect_sevens(&rt, rt.alloc(), &mut page, columns, rows);
-        drop(page);
-        drop(text);
-    }
-}
-
-/// So many calls of a rewind and two rows, twice over, go well before one fails.
-fn calls_before_a_failure<S: PageSource>(rt: &impl Abort, source: &mut S) -> u32 {
-    let mut calls = 0u32;
-    for _ in 0..2 {
-        let mut row = [0u16; 6];
-        if source.rewind().is_err() {
-            break;
-        }
-        calls = calls.saturating_add(1);
-        assert!(rt; source.size() == (2, 2));
-        if source.next_row(&mut row).is_err() {
-            break;
-        }
-        calls = calls.saturating_add(1);
-        assert!(rt; row == GRAY_ROWS.0);
-        assert!(rt; source.size() == (2, 2));
-        if source.next_row(&mut row).is_err() {
-            break;
-        }
-        calls = calls.saturating_add(1);
-        assert!(rt; row == GRAY_ROWS.1);
-    }
-    calls
-}
-
-/// The call that fails, and how many go well before it.
-const FAILS_AT: &[(u64, u32)] = &[(0, 6), (1, 0), (2, 1), (3, 2), (4, 3), (6, 5)];
-
-#[test]
-fn a_page_that_fails_once(rt: HostRuntime) {
-    for &(n, given) in FAILS_AT {
-        let page = read_page(rt.alloc(), GRAYS, 50).expect(&rt, "a page");
-        let mut source = Source::Failing(FailingPage::new(page, n));
-        assert!(rt; source.size() == (2, 2));
-        assert!(rt; calls_before_a_failure(&rt, &mut source) == given);
-        assert!(rt; source.failures() == u64::from(given < 6));
-        expect_twice(&rt, &mut source, &GRAY_ROWS);
-        drop(source);
-    }
-}
-
-#[test]
-fn a_page_in_memory(rt: HostRuntime) {
-    let page: Page = read_page(rt.alloc(), GRAYS, 50).expect(&rt, "a page");
-    let mut source = Source::Memory(MemoryPage::new(page));
-    assert!(rt; source.size() == (2, 2));
-    assert!(rt; source.dpi() == 50);
-    assert!(rt; both_rows(&mut source).expect(&rt, "rows") == GRAY_ROWS);
-    expect_twice(&rt, &mut source, &GRAY_ROWS);
-    assert!(rt; source.failures() == 0);
-    drop(source);
-}
-
-fn window(resolution: u32, left: i32, right: i32) -> Scene
-    ensures { result.resolution ≡ resolution }
+/// A window of four dots, from so many mm on, at 26 dots per inch, where 1 mm has one dot.
+fn window(left: i32) -> Scene
+    ensures { result.resolution ≡ 26 }
 {
     Scene {
         kind: DeviceKind::Flatbed,
         mode: Mode::Gray,
         depth: 8,
-        resolution,
-        tl_x: Fixed(left),
+        resolution: 26,
+        tl_x: Fixed(left.saturating_mul(65536)),
         tl_y: Fixed(0),
-        br_x: Fixed(right),
+        br_x: Fixed(left.saturating_add(4).saturating_mul(65536)),
         br_y: Fixed(65536),
         gamma: [0; 256],
         channel_gamma: [[0; 256]; 3],
@@ -403,19 +285,13 @@ fn window(resolution: u32, left: i32, right: i32) -> Scene
 
 #[test]
 fn columns_of_windows(rt: HostRuntime) -> Result<(), Fail> {
-    // At 26 dots per inch 1 mm has one dot, 4 mm have four.
-    for (left, right, width, dpi, columns, run) in [
-        // Each column of a page at 13 dots per inch is seen twice.
-        (0, 4, 1, 13, [Some(0), Some(0), None, None], None),
-        (0, 4, 2, 13, [Some(0), Some(0), Some(1), Some(1)], None),
-        // Every second column of a page at 52 dots per inch is seen.
-        (0, 4, 5, 52, [Some(0), Some(2), Some(4), None], None),
-        // A window that begins two dots inside.
-        (2, 6, 4, 26, [Some(2), Some(3), None, None], None),
-        (2, 6, 6, 26, [Some(2), Some(3), Some(4), Some(5)], Some(2)),
+    for (left, width, dpi, columns, run) in [
+        // Each column of a page at 13 dots per inch is seen twice, and of one at 52 every second.
+        (0, 2, 13, [Some(0), Some(0), Some(1), Some(1)], None),
+        (0, 5, 52, [Some(0), Some(2), Some(4), None], None),
+        (2, 6, 26, [Some(2), Some(3), Some(4), Some(5)], Some(2)),
     ] {
-        let scene = window(26, left * 65536, right * 65536);
-        let map = ColumnMap::new(rt.alloc(), &scene, width, dpi)?;
+        let map = ColumnMap::new(rt.alloc(), &window(left), width, dpi)?;
         assert!(rt; map.places().len() == 4);
         let seen = [map.at(0), map.at(1), map.at(2), map.at(3)];
         assert!(rt; seen == columns);

@@ -1,21 +1,29 @@
-ghost use Rattle.std.specs.Prelude.{◌≡◌, ◌<◌, pos, ◌≤ℤ◌};
+ghost use Rattle.std.specs.Prelude.{◌≡◌};
 
-use page_picture::{DeviceKind, Mode, Scene, read_page};
-use pnm_writer::{PlainFault, PnmFault, Samples, read_pnm, scan_plain};
+use page_picture::{DeviceKind, Mode, Scene};
+use page_sources::read_page;
+use pnm_writer::{PlainFault, PnmFault, read_pnm, scan_plain};
 use sane_fixed::Fixed;
+use std::alloc::{AllocError, Global};
 use std::test::Fail;
 
-fn mm(n: i32) -> Fixed
-    requires low { pos 0 ≤ℤ n }
-    requires high { n ≤ℤ pos 300 }
-{
-    Fixed(n * 65536)
+/// A file of the writer: its first line, and what follows the comment.
+pub fn written(alloc: Global, kind: &[u8], rest: &[u8]) -> Result<Vec<u8>, AllocError> {
+    let mut file = Vec::from_slice(alloc, kind)?;
+    file.extend_from_slice(b"\n# SANE data follows\n")?;
+    file.extend_from_slice(rest)?;
+    Ok(file)
 }
 
-/// A flatbed's scene with a window from the corner.
-fn scene(mode: Mode, depth: u32, resolution: u32, width: Fixed, height: Fixed) -> Scene
+fn mm(n: i32) -> Fixed {
+    Fixed(n.saturating_mul(65536))
+}
+
+/// A flatbed's scene with a window from the upper edge: its left, right and lower edge.
+fn scene(mode: Mode, depth: u32, resolution: u32, window: (i32, i32, i32)) -> Scene
     ensures { result.resolution ≡ resolution }
 {
+    let (left, right, lower) = window;
     let mut gamma = [0u8; 256];
     for i in 0..256 {
         gamma[i] = i as u8;
@@ -25,10 +33,10 @@ fn scene(mode: Mode, depth: u32, resolution: u32, width: Fixed, height: Fixed) -
         mode,
         depth,
         resolution,
-        tl_x: Fixed(0),
-        tl_y: Fixed(0),
-        br_x: width,
-        br_y: height,
+        tl_x: mm(left),
+        tl_y: mm(0),
+        br_x: mm(right),
+        br_y: mm(lower),
         gamma,
         channel_gamma: [gamma; 3],
     }
@@ -36,65 +44,42 @@ fn scene(mode: Mode, depth: u32, resolution: u32, width: Fixed, height: Fixed) -
 
 #[test]
 fn white_margin_beyond_the_page(rt: HostRuntime) -> Result<(), Fail> {
-    let page = read_page(rt.alloc(), b"P5\n1 1\n255\n\x00", 50)?;
-    let file = scan_plain(
-        rt.alloc(),
-        &page,
-        &scene(Mode::Gray, 8, 50, mm(80), mm(100)),
-    )?;
-    let (head, raster) = file.as_slice().split_at(file.len().min(35));
-    assert!(rt; head == b"P5\n# SANE data follows\n157 196\n255\n".as_slice());
-    assert!(rt; raster.len() == 30_772);
-    assert!(rt; raster.first() == Some(&0));
-    assert!(rt; raster.iter().filter(|b| **b == 255).count() == 30_771);
+    let page = read_page(rt.alloc(), BLACK, 50)?;
+    let file = scan_plain(rt.alloc(), &page, &scene(Mode::Gray, 8, 50, (0, 80, 100)))?;
+    let mut wanted = written(rt.alloc(), b"P5", b"157 196\n255\n\x00")?;
+    for _ in 0..30_771 {
+        wanted.push(255)?;
+    }
+    assert!(rt; file == wanted);
     Ok(())
 }
 
-#[test]
-fn page_half_seen(rt: HostRuntime) -> Result<(), Fail> {
-    let page = read_page(rt.alloc(), b"P5\n1 1\n255\n\x00", 26)?;
-    let gray = scan_plain(rt.alloc(), &page, &scene(Mode::Gray, 8, 26, mm(2), mm(1)))?;
-    assert!(rt; gray.as_slice() == b"P5\n# SANE data follows\n2 1\n255\n\x00\xFF".as_slice());
-    let bits = scan_plain(rt.alloc(), &page, &scene(Mode::Gray, 1, 26, mm(2), mm(1)))?;
-    assert!(rt; bits.as_slice() == b"P4\n# SANE data follows\n2 1\n\x80".as_slice());
-    Ok(())
-}
+const BLACK: &[u8] = b"P5\n1 1\n255\n\x00";
 
-#[test]
-fn window_from_its_origin(rt: HostRuntime) -> Result<(), Fail> {
-    // The second and third of three places, from 1 mm on.
-    let page = read_page(rt.alloc(), b"P5\n3 1\n255\n\x01\x02\x03", 26)?;
-    let mut window = scene(Mode::Gray, 8, 26, mm(3), mm(1));
-    window.tl_x = mm(1);
-    let file = scan_plain(rt.alloc(), &page, &window)?;
-    assert!(rt; file.as_slice() == b"P5\n# SANE data follows\n2 1\n255\n\x02\x03".as_slice());
-    Ok(())
-}
+const THREE: &[u8] = b"P5\n3 1\n255\n\x01\x02\x03";
 
-/// A red dot in each mode and depth.
-const RED: &[(Mode, u32, &[u8])] = &[
-    (Mode::Gray, 8, b"P5\n# SANE data follows\n1 1\n255\n\x4C"),
-    (
-        Mode::Gray,
-        16,
-        b"P5\n# SANE data follows\n1 1\n65535\n\x4C\x8A",
-    ),
-    (Mode::Gray, 1, b"P4\n# SANE data follows\n1 1\n\x80"),
-    (
-        Mode::Color,
-        8,
-        b"P6\n# SANE data follows\n1 1\n255\n\xFF\x00\x00",
-    ),
+const RED: &[u8] = b"P6\n1 1\n255\n\xFF\x00\x00";
+
+/// A page, a mode, a depth, a window's left and right edge, and the file.
+const SCANS: &[(&[u8], Mode, u32, i32, i32, &[u8], &[u8])] = &[
+    (BLACK, Mode::Gray, 8, 0, 2, b"P5", b"2 1\n255\n\x00\xFF"),
+    (BLACK, Mode::Gray, 1, 0, 2, b"P4", b"2 1\n\x80"),
+    (THREE, Mode::Gray, 8, 1, 3, b"P5", b"2 1\n255\n\x02\x03"),
+    (RED, Mode::Gray, 8, 0, 1, b"P5", b"1 1\n255\n\x4C"),
+    (RED, Mode::Gray, 16, 0, 1, b"P5", b"1 1\n65535\n\x4C\x8A"),
+    (RED, Mode::Gray, 1, 0, 1, b"P4", b"1 1\n\x80"),
+    (RED, Mode::Color, 8, 0, 1, b"P6", b"1 1\n255\n\xFF\0\0"),
 ];
 
 #[test]
-fn red_in_every_mode(rt: HostRuntime) -> Result<(), Fail> {
-    let page = read_page(rt.alloc(), b"P6\n1 1\n255\n\xFF\x00\x00", 26)?;
-    for &(mode, depth, wanted) in RED {
-        let file = scan_plain(rt.alloc(), &page, &scene(mode, depth, 26, mm(1), mm(1)))?;
-        assert!(rt; file.as_slice() == wanted);
+fn scans_of_a_line(rt: HostRuntime) -> Result<(), Fail> {
+    for &(page, mode, depth, left, right, kind, rest) in SCANS {
+        let page = read_page(rt.alloc(), page, 26)?;
+        let file = scan_plain(rt.alloc(), &page, &scene(mode, depth, 26, (left, right, 1)))?;
+        assert!(rt; file == written(rt.alloc(), kind, rest)?);
     }
-    let none = scan_plain(rt.alloc(), &page, &scene(Mode::Color, 1, 26, mm(1), mm(1)));
+    let page = read_page(rt.alloc(), RED, 26)?;
+    let none = scan_plain(rt.alloc(), &page, &scene(Mode::Color, 1, 26, (0, 1, 1)));
     assert!(rt; none.err() == Some(PlainFault::NoPicture));
     Ok(())
 }
@@ -121,43 +106,50 @@ const REFUSED: &[(&[u8], PnmFault)] = &[
     (b"P5\n1 1\n0\n\x00", PnmFault::BadHeader),
     (b"P5\n1 1\n65536\n\x00\x00", PnmFault::BadHeader),
     (b"P5\n1 00000000001\n255\n\x00", PnmFault::BadHeader),
+    // A comment stands behind white space alone, and ends.
     (b"P5\n1# no gap\n 1\n255\n\x00", PnmFault::BadHeader),
+    (b"P5#\n1 1 255\n\x00", PnmFault::BadHeader),
+    (b"P5\n1 1\n#never ended", PnmFault::BadHeader),
     (b"P4\n9 2\n\x80\x80\x00", PnmFault::Short),
     (b"P6\n1 1\n255\n\x00\x00\x00\x00", PnmFault::Trailing),
 ];
 
+/// A text, and its picture's width, height, channels, greatest value and samples.
+const PICTURES: &[(&[u8], (u32, u32, u32, u32), &[u16])] = &[
+    // Nine bits a row: two bytes, filled with bits that are no part of the picture.
+    (
+        b"P4\n9 2\n\x80\xFF\x41\x7F",
+        (9, 2, 1, 1),
+        &[1, 0, 0, 0, 0, 0, 0, 0, 1, 0, 1, 0, 0, 0, 0, 0, 1, 0],
+    ),
+    (
+        b"P6\n3 1\n7\n\x01\x02\x03\x04\x05\x06\x07\x00\x01",
+        (3, 1, 3, 7),
+        &[1, 2, 3, 4, 5, 6, 7, 0, 1],
+    ),
+    // A comment in every gap, white space of every kind, and samples of two bytes.
+    (
+        b"P6\n#a\n# b\r 2\t#\n1\n\x0B#c 9\n\x0C300 \x00\x01\x00\x02\x00\x03\x01\x2C\x00\x00\x00\xFF",
+        (2, 1, 3, 300),
+        &[1, 2, 3, 300, 0, 255],
+    ),
+];
+
 #[test]
-fn refused_texts(rt: HostRuntime) {
+fn pictures_of_texts(rt: HostRuntime) -> Result<(), Fail> {
     for (text, fault) in REFUSED {
         assert!(rt; read_pnm(rt.alloc(), text).err() == Some(*fault));
     }
-    assert!(rt; (PnmFault::BadMagic as u32) == 1);
-    assert!(rt; (PnmFault::NoMem as u32) == 7);
-}
-
-#[test]
-fn pictures_read(rt: HostRuntime) -> Result<(), Fail> {
-    // Nine bits a row: two bytes, filled with bits that are no part of the picture.
-    let bits = read_pnm(rt.alloc(), b"P4\n9 2\n\x80\xFF\x41\x7F")?;
-    assert!(rt; (bits.width, bits.height, bits.channels, bits.maxval) == (9, 2, 1, 1));
-    assert!(rt;
-        bits.samples.into_vec().as_slice()
-            == [1, 0, 0, 0, 0, 0, 0, 0, 1, 0, 1, 0, 0, 0, 0, 0, 1, 0].as_slice()
-    );
-    let colors = read_pnm(
-        rt.alloc(),
-        b"P6\n3 1\n7\n\x01\x02\x03\x04\x05\x06\x07\x00\x01",
-    )?;
-    assert!(rt; (colors.width, colors.height, colors.channels, colors.maxval) == (3, 1, 3, 7));
-    assert!(rt; colors.samples.as_slice() == [1, 2, 3, 4, 5, 6, 7, 0, 1].as_slice());
-    // A comment in every gap, and samples of two bytes.
-    let wide = read_pnm(
-        rt.alloc(),
-        b"P6\n#a\n# b\r 2\t#\n1\n\x0B#c 9\n\x0C300 \x00\x01\x00\x02\x00\x03\x01\x2C\x00\x00\x00\xFF",
-    )?;
-    assert!(rt; (wide.width, wide.height, wide.channels, wide.maxval) == (2, 1, 3, 300));
-    assert!(rt; wide.samples.as_slice() == [1, 2, 3, 300, 0, 255].as_slice());
-    let given = Samples::new(wide.samples.into_vec());
-    assert!(rt; given.as_slice().len() == 6);
+    for (text, size, samples) in PICTURES {
+        let picture = read_pnm(rt.alloc(), text)?;
+        let told = (
+            picture.width,
+            picture.height,
+            picture.channels,
+            picture.maxval,
+        );
+        assert!(rt; told == *size);
+        assert!(rt; picture.samples.as_slice() == *samples);
+    }
     Ok(())
 }

@@ -8,8 +8,8 @@ use Rattle.netpbm.specs.Pnm.{Begins, Denotes, IsWhole, IsMaxval, sample_in, chan
 use Rattle.netpbm.specs.FileText.{concat_up_to, samples_text, sample_text}
 use Rattle.netpbm.specs.Raster.{raster_size, sample_count, NoneAbove}
 use Rattle.netpbm.proofs.WritingLaws.{sample_back, length-joined}
-use Rattle.page_picture.specs.PageFile.{IsPageFormat}
-use Rattle.page_picture.proofs.PageLemmas.{sample_in_range}
+use Rattle.page_sources.specs.PageFile.{IsPageFormat}
+use Rattle.page_sources.proofs.PageLemmas.{sample_in_range}
 use Rattle.pnm_writer.specs.declared.read.PnmFault.{PnmFault}
 use Rattle.pnm_writer.specs.declared.read.PnmFault.TheVariants.{NoMem}
 use Rattle.pnm_writer.specs.PnmReading.{picture_of_held, HasPnmFault}

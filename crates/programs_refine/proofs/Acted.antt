@@ -3,7 +3,7 @@
 use Rattle.std.specs.Prelude.{◌<◌, ◌≤◌, ◌||◌}
 use Rattle.std.proofs.Common.{◌≡◌, ◌≢◌, ◌∙◌, ◌⊎◌, inl, inr, ℕ, true, false, Some, None, List, [], ◌∷◌, ◌++◌, length, slice_get, refl, sym, ap, subst}
 use Rattle.page_picture.specs.Source.{SourceState}
-use Rattle.page_picture.specs.declared.sources.kinds.Source.{Source}
+use Rattle.page_sources.specs.declared.kinds.Source.{Source}
 use Rattle.scan_job.specs.declared.job.Job.{Job}
 use Rattle.net_client.specs.ClientStates.{ClientState}
 use Rattle.saned_core.specs.declared.session_slot.SessionId.{SessionId}

@@ -1,7 +1,7 @@
 -- A job that runs and has a request to send has heard all that was said to it.
 use Rattle.std.specs.Prelude.{map}
 use Rattle.std.proofs.Common.{◌≡◌, ◌∙◌, ◌⊎◌, inl, inr, ℕ, true, Some, None, List, [], ◌++◌, sym, subst}
-use Rattle.page_picture.specs.SourceView.{source_state}
+use Rattle.page_sources.specs.SourceView.{source_state}
 use Rattle.frame_join.specs.FrameHistory.{JoinHistory}
 use Rattle.client_replies.specs.ProtocolStates.{target_of}
 use Rattle.net_client.specs.ClientStates.{protocol_of}

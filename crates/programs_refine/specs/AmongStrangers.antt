@@ -1,7 +1,7 @@
 -- What a server and the loops of jobs do over connections while strangers speak to that server too.
 use Rattle.std.specs.Prelude.{ℕ, ◌≡◌, true, false, Option, None, List, [], ◌∷◌, All, Some, slice_get}
 use Rattle.page_picture.specs.Source.{SourceState}
-use Rattle.page_picture.specs.declared.sources.kinds.Source.{Source}
+use Rattle.page_sources.specs.declared.kinds.Source.{Source}
 use Rattle.scan_job.specs.declared.job.Job.{Job}
 use Rattle.scan_job.specs.JobSize.{HasCount}
 use Rattle.client_replies.specs.ProtocolStates.{is_running}

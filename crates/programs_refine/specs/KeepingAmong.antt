@@ -5,7 +5,7 @@ use Rattle.md5_auth.specs.declared.users.Entry.{Entry}
 use Rattle.sane_fixed.specs.declared.status.Status.{Status}
 use Rattle.sane_fixed.specs.declared.status.Status.TheVariants.{Good, Eof}
 use Rattle.netpbm.specs.Pnm.{IsWhole}
-use Rattle.page_picture.specs.SourceView.{source_state}
+use Rattle.page_sources.specs.SourceView.{source_state}
 use Rattle.device_api.specs.ScannerLimits.{HasLimits}
 use Rattle.device_api.specs.State.{DeviceState}
 use Rattle.dispatch.specs.RegistryFault.{HaveOwnNames}

@@ -1,7 +1,7 @@
 -- Events of connections, none of an operator.
 use Rattle.std.specs.Prelude.{ℕ, ◌≡◌, true, Some, IsSome, List, [], ◌∷◌, slice_get}
 use Rattle.page_picture.specs.Source.{SourceState}
-use Rattle.page_picture.specs.declared.sources.kinds.Source.{Source}
+use Rattle.page_sources.specs.declared.kinds.Source.{Source}
 use Rattle.saned_core.specs.declared.session_slot.SessionId.{SessionId}
 use Rattle.client_replies.specs.ProtocolStates.{is_running, wanted_port}
 use Rattle.net_client.specs.ClientStates.{HasEarlyReply}

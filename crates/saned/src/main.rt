@@ -1,27 +1,31 @@
 //! `saned`: serves the virtual scanners of a config to clients on 127.0.0.1.
 #![tactic(auto)]
 
-ghost use Rattle.std.specs.Prelude.{◌≡◌, ◌≢◌, IfErr, OnOk, map, string_bytes};
+ghost use Rattle.std.specs.Prelude.{◌≡◌, ◌≢◌, IfErr, IfSome, None, OnOk, map, string_bytes};
+ghost use Rattle.std.specs.Io.KnownBytes.{Appends};
 ghost use Rattle.std.specs.Process.{exit_status as code_of};
 ghost use Rattle.saned_core.specs.DaemonStates.{core};
 ghost use Rattle.config_pages.specs.InputTexts.{input_texts};
-ghost use Rattle.config_pages.specs.ScannerStates.{scanner_state};
+ghost use Rattle.virtual_scanner.specs.Scanners.{scanner_state};
 ghost use Rattle.saned_cli.specs.DaemonEndings.{IsDaemonFailure, IsServeFailure, daemon_exit_status};
+ghost use Rattle.saned_cli.specs.OwnTexts.{own_text, text_asked};
 ghost use Rattle.saned_cli.specs.WholeDaemon.{HasServedFor, IsServedBy};
 ghost use Rattle.saned_cli.specs.declared.daemon_ending.DaemonEnding.{DaemonEnding as AnEnding};
 
 mod daemon_command_line;
 
 use crate::daemon_command_line::words;
-use config_pages::{HostInputs, Inputs, Scanner, scanners};
+use config_pages::{HostInputs, Inputs, scanners};
 use dispatch::Registry;
 use saned_cli::{
-    DaemonEnding, DaemonPlan, LocalNet, ServeEnd, config_lines, plan_of, serve, users_of,
+    DaemonEnding, DaemonPlan, LocalNet, OwnText, ServeEnd, config_lines, plan_of, serve,
+    text_asked, users_of,
 };
 use saned_core::Daemon;
 use std::fs::File;
 use std::io::Write;
 use std::process::ExitCode;
+use virtual_scanner::Scanner;
 
 /// A directory can be opened for reading, and neither be read nor written.
 const ROOT: &str = "/";
@@ -88,20 +92,15 @@ fn told<E: Write>(err: &mut E, ending: &DaemonEnding) -> ExitCode
 }
 
 /// Serves as the words of the command line say, and gives the exit status.
-fn exit_code<I: Inputs, E: Write>(
+fn serve_for<I: Inputs, E: Write>(
     rt: &HostRuntime,
     inputs: &I,
     words: &[String],
     err: &mut E,
 ) -> ExitCode
-    /// Where the exit status is 0, a daemon of the scanners of the config's lines, with the users of the file that the words name,
-    /// their seed and size of strings, has served as `serve` says, with their limits of sessions and idle turns, and there was
-    /// memory to begin; of both files where the inputs tell their texts.
-    /// Carried by: `well` of the private `exit_code`, `done` of the private `run`: `HasServedFor`
     ensures well { code_of result ≡ 0 → HasServedFor
         (input_texts (I.standard_text inputs.now) (I.file_text inputs.now))
         (map string_bytes words.now) }
-    /// Any other exit status is that of the ending that is told.
     ensures otherwise { code_of result ≢ 0
         → (ending : AnEnding)
         × (code_of result ≡ daemon_exit_status ending) × IsDaemonFailure ending }
@@ -112,6 +111,50 @@ fn exit_code<I: Inputs, E: Write>(
     }
 }
 
+/// Writes a text of its own, and gives the exit status.
+fn tell_text<O: Write, E: Write>(text: OwnText, out: &mut O, err: &mut E) -> ExitCode
+    ensures well { code_of result ≡ 0
+        → Appends (O.contents out.old) (O.contents out.new) (own_text text) }
+    ensures otherwise { code_of result ≢ 0
+        → (ending : AnEnding)
+        × (code_of result ≡ daemon_exit_status ending) × IsDaemonFailure ending }
+{
+    match text.tell(out) {
+        Ok(()) => ExitCode::from(0),
+        Err(_) => told(err, &DaemonEnding::CannotWrite),
+    }
+}
+
+/// Does what the words of the command line say, and gives the exit status.
+fn exit_code<I: Inputs, O: Write, E: Write>(
+    rt: &HostRuntime,
+    inputs: &I,
+    words: &[String],
+    out: &mut O,
+    err: &mut E,
+) -> ExitCode
+    /// Where the exit status is 0 and the words ask for no text, a daemon of the config's scanners has served as `serve` says, with
+    /// the users of the file that the words name, their seed, size of strings and limits, and there was memory to begin; of both
+    /// files where the inputs tell their texts.
+    /// Carried by: `well` of the private `exit_code`, `done` of the private `run`: `HasServedFor`
+    ensures well { code_of result ≡ 0 → text_asked (map string_bytes words.now) ≡ None
+        → HasServedFor
+        (input_texts (I.standard_text inputs.now) (I.file_text inputs.now))
+        (map string_bytes words.now) }
+    /// Where it is 0 and the words ask for a text, just that text was written to standard output.
+    ensures text { code_of result ≡ 0 → IfSome (text_asked (map string_bytes words.now))
+        (λ text. Appends (O.contents out.old) (O.contents out.new) (own_text text)) }
+    /// Any other exit status is that of the ending that is told.
+    ensures otherwise { code_of result ≢ 0
+        → (ending : AnEnding)
+        × (code_of result ≡ daemon_exit_status ending) × IsDaemonFailure ending }
+{
+    match text_asked(words) {
+        Some(text) => tell_text(text, out, err),
+        None => serve_for(rt, inputs, words, err),
+    }
+}
+
 fn main(rt: HostRuntime) -> ExitCode {
     // It stands in for each standard descriptor that is closed, so that no socket or file of the daemon becomes one.
     let _standing_in = [
@@ -119,9 +162,11 @@ fn main(rt: HostRuntime) -> ExitCode {
         File::open(&rt, ROOT),
         File::open(&rt, ROOT),
     ];
+    let mut out = rt.stdout();
     let mut err = rt.stderr();
+    let inputs = HostInputs { rt: &rt };
     match words(&rt) {
-        Ok(words) => exit_code(&rt, &HostInputs { rt: &rt }, words.as_slice(), &mut err),
+        Ok(words) => exit_code(&rt, &inputs, words.as_slice(), &mut out, &mut err),
         Err(ending) => told(&mut err, &ending),
     }
 }

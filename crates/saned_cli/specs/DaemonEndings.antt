@@ -7,9 +7,11 @@ use Rattle.saned_cli.specs.declared.daemon_options.DaemonOptionsFault.{DaemonOpt
 use Rattle.saned_cli.specs.declared.daemon_options.DaemonOptionsFault.TheVariants.{Bad}
 use Rattle.saned_cli.specs.declared.daemon_options.DaemonOptionsFault.TheVariants as option_faults
 use Rattle.saned_cli.specs.declared.daemon_ending.DaemonEnding.TheVariants.{BadCommandLine, BadSeed, CannotRead, Config}
-use Rattle.saned_cli.specs.declared.daemon_ending.DaemonEnding.TheVariants.{Page, Users, CannotListen, NoMemory}
+use Rattle.saned_cli.specs.declared.daemon_ending.DaemonEnding.TheVariants.{Page, Users, CannotListen}
+use Rattle.saned_cli.specs.declared.daemon_ending.DaemonEnding.TheVariants.{NoMemory, CannotWrite}
 
--- 64 for the command line, 65 for what it names, 9 for a port that cannot be had, and 10 for lack of memory
+-- 64 for the command line, 65 for what it names, 9 for a port that cannot be had or a text that cannot be written, and
+-- 10 for lack of memory
 abbrev pub daemon_exit_status : DaemonEnding → ℕ
 daemon_exit_status BadCommandLine = 64
 daemon_exit_status BadSeed = 65
@@ -19,6 +21,7 @@ daemon_exit_status (Page line why) = 65
 daemon_exit_status (Users fault) = 65
 daemon_exit_status CannotListen = 9
 daemon_exit_status NoMemory = 10
+daemon_exit_status CannotWrite = 9
 
 -- an ending whose exit status is not 0
 abbrev pub IsDaemonFailure : DaemonEnding → Type 0

@@ -9,42 +9,29 @@ use Rattle.md5_auth.specs.declared.line_fault.LineFault.{LineFault}
 use Rattle.config_pages.specs.InputTexts.{InputTexts}
 use Rattle.saned_cli.specs.declared.daemon_ending.DaemonEnding.{DaemonEnding}
 use Rattle.saned_cli.specs.declared.daemon_options.DaemonOptions.{DaemonOptions}
-use Rattle.saned_cli.specs.declared.daemon_ending.DaemonEnding.TheVariants.{BadCommandLine, BadSeed, CannotRead, Config}
-use Rattle.saned_cli.specs.declared.daemon_ending.DaemonEnding.TheVariants.{Page, Users, CannotListen, NoMemory}
+use Rattle.saned_cli.specs.declared.daemon_ending.DaemonEnding.TheVariants.{CannotRead, Config}
+use Rattle.saned_cli.specs.declared.daemon_ending.DaemonEnding.TheVariants.{Users, NoMemory}
 
 -- what is named so was not read: for want of memory, or it cannot be
 abbrev pub IsUnreadFile : List ℕ → DaemonEnding → Type 0
-IsUnreadFile name BadCommandLine = ⊥
-IsUnreadFile name BadSeed = ⊥
 IsUnreadFile name (CannotRead path) = string_bytes path ≡ name
-IsUnreadFile name (Config fault) = ⊥
-IsUnreadFile name (Page line why) = ⊥
-IsUnreadFile name (Users fault) = ⊥
-IsUnreadFile name CannotListen = ⊥
 IsUnreadFile name NoMemory = ⊤
+IsUnreadFile name _ = ⊥
 
 -- **texts that saned does not take (`RefusesDaemonConfig`, `RefusesUsers`)**: out of memory, or the file of that name
 -- cannot be read; or the fault of the first bad line of what is told of it.
 abbrev pub RefusesDaemonConfig : List ℕ → Option (List ℕ) → DaemonEnding → Type 0
-RefusesDaemonConfig name told BadCommandLine = ⊥
-RefusesDaemonConfig name told BadSeed = ⊥
 RefusesDaemonConfig name told (CannotRead path) = string_bytes path ≡ name
 RefusesDaemonConfig name told (Config fault) =
     IfSome told (λ all. HasConfigFault (take 4194433 all) fault.line fault.reason)
-RefusesDaemonConfig name told (Page line why) = ⊥
-RefusesDaemonConfig name told (Users fault) = ⊥
-RefusesDaemonConfig name told CannotListen = ⊥
 RefusesDaemonConfig name told NoMemory = ⊤
+RefusesDaemonConfig name told _ = ⊥
 
 abbrev pub RefusesUsers : List ℕ → Option (List ℕ) → DaemonEnding → Type 0
-RefusesUsers name told BadCommandLine = ⊥
-RefusesUsers name told BadSeed = ⊥
 RefusesUsers name told (CannotRead path) = string_bytes path ≡ name
-RefusesUsers name told (Config fault) = ⊥
-RefusesUsers name told (Page line why) = ⊥
 RefusesUsers name told (Users fault) = IfSome told (λ all. HasLineFault (take 66049 all) fault.line fault.reason)
-RefusesUsers name told CannotListen = ⊥
 RefusesUsers name told NoMemory = ⊤
+RefusesUsers name told _ = ⊥
 
 -- all that a text tells of: where it is told which, the first 66,049 bytes of that one
 pub record TellsUsersIn (told : Option (List ℕ)) (users : List Entry) : Type 0 where

@@ -5,7 +5,8 @@ use Rattle.dispatch.specs.ConfigReasons.{config_reason_text}
 use Rattle.config_pages.specs.Texts.{no_page_text}
 use Rattle.saned_cli.specs.declared.daemon_ending.DaemonEnding.{DaemonEnding}
 use Rattle.saned_cli.specs.declared.daemon_ending.DaemonEnding.TheVariants.{BadCommandLine, BadSeed, CannotRead, Config}
-use Rattle.saned_cli.specs.declared.daemon_ending.DaemonEnding.TheVariants.{Page, Users, CannotListen, NoMemory}
+use Rattle.saned_cli.specs.declared.daemon_ending.DaemonEnding.TheVariants.{Page, Users, CannotListen}
+use Rattle.saned_cli.specs.declared.daemon_ending.DaemonEnding.TheVariants.{NoMemory, CannotWrite}
 
 -- which line is refused, and why
 abbrev pub refusal_text : List ℕ → ℕ → List ℕ → List ℕ
@@ -13,7 +14,7 @@ refusal_text start line reason = start ++ (decimal line ++ (codes ": " ++ (reaso
 
 -- **the line of an ending (`daemon_ending_line`)**: that the command line or its seed is bad; the file that cannot be
 -- read; the line of the config or of the users that is refused, and why, or whose page is not there; that the port
--- cannot be had; or that there is no memory.
+-- cannot be had; that there is no memory; or that a text of its own cannot be written.
 abbrev pub daemon_ending_line : DaemonEnding → List ℕ
 daemon_ending_line BadCommandLine = codes "saned: bad command line\n"
 daemon_ending_line BadSeed = codes "saned: bad seed\n"
@@ -24,3 +25,4 @@ daemon_ending_line (Page line why) = refusal_text (codes "saned: config line ") 
 daemon_ending_line (Users fault) = refusal_text (codes "saned: users line ") fault.line (reason_text fault.reason)
 daemon_ending_line CannotListen = codes "saned: cannot listen\n"
 daemon_ending_line NoMemory = codes "saned: out of memory\n"
+daemon_ending_line CannotWrite = codes "saned: cannot write\n"

@@ -3,8 +3,7 @@ use Rattle.std.specs.Prelude.{ℕ, ◌≡◌, ◌⊎◌, Option, Some, None, Ok,
 use Rattle.hex.specs.Hex.{decode_sized}
 use Rattle.saned_cli.specs.OptionsOfDaemon.{AreDaemonOptions}
 use Rattle.saned_cli.specs.declared.daemon_ending.DaemonEnding.{DaemonEnding}
-use Rattle.saned_cli.specs.declared.daemon_ending.DaemonEnding.TheVariants.{BadCommandLine, BadSeed, CannotRead, Config}
-use Rattle.saned_cli.specs.declared.daemon_ending.DaemonEnding.TheVariants.{Page, Users, CannotListen, NoMemory}
+use Rattle.saned_cli.specs.declared.daemon_ending.DaemonEnding.TheVariants.{BadCommandLine, BadSeed, NoMemory}
 use Rattle.saned_cli.specs.declared.daemon_options.DaemonOptions.{DaemonOptions}
 use Rattle.saned_cli.specs.declared.daemon_plan.DaemonPlan.{DaemonPlan}
 
@@ -29,9 +28,5 @@ abbrev pub IsDaemonPlanRefusal : List (List ℕ) → DaemonEnding → Type 0
 IsDaemonPlanRefusal words BadCommandLine = ⊤
 IsDaemonPlanRefusal words BadSeed = (options : DaemonOptions) × AreDaemonOptions words options
     × HasBadSeed (option_map string_bytes options.seed)
-IsDaemonPlanRefusal words (CannotRead path) = ⊥
-IsDaemonPlanRefusal words (Config fault) = ⊥
-IsDaemonPlanRefusal words (Page line why) = ⊥
-IsDaemonPlanRefusal words (Users fault) = ⊥
-IsDaemonPlanRefusal words CannotListen = ⊥
 IsDaemonPlanRefusal words NoMemory = ⊤
+IsDaemonPlanRefusal words _ = ⊥

@@ -7,3 +7,4 @@ pub mod DaemonPlans
 pub mod DaemonInputs
 pub mod WholeDaemon
 pub mod DaemonLines
+pub mod OwnTexts

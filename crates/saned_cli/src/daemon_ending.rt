@@ -23,6 +23,8 @@ pub enum DaemonEnding {
     /// The port cannot be had.
     CannotListen,
     NoMemory,
+    /// A text of its own cannot be written.
+    CannotWrite,
 }
 
 impl DaemonEnding {
@@ -83,6 +85,7 @@ impl DaemonEnding {
             | DaemonEnding::Page(_, _)
             | DaemonEnding::Users(_) => 65,
             DaemonEnding::CannotListen => 9,
+            DaemonEnding::CannotWrite => 9,
             DaemonEnding::NoMemory => 10,
         }
     }
@@ -110,6 +113,7 @@ impl DaemonEnding {
             }
             DaemonEnding::CannotListen => to.write_all(b"saned: cannot listen\n"),
             DaemonEnding::NoMemory => to.write_all(b"saned: out of memory\n"),
+            DaemonEnding::CannotWrite => to.write_all(b"saned: cannot write\n"),
         }
     }
 }

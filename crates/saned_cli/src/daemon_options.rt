@@ -89,17 +89,26 @@ fn flag<'a>(alloc: Global, name: &'a str) -> Arg<'a> {
     Arg::new(alloc, name).long(name).action(ArgAction::SetTrue)
 }
 
+/// The options that have a value.
+const VALUES: &[&str] = &[
+    "config",
+    "users",
+    "seed",
+    "port",
+    "data-ports",
+    "byte-order",
+    "sessions",
+    "idle-turns",
+];
+
+/// The options as `clap` knows them. They are added in a loop, since each `Arg` that is written out has a place of its own on
+/// the stack.
 fn command<'a>(alloc: Global) -> Result<Command<'a>, AllocError> {
-    Command::new(alloc, "saned")
-        .arg(value(alloc, "config"))?
-        .arg(value(alloc, "users"))?
-        .arg(value(alloc, "seed"))?
-        .arg(value(alloc, "port"))?
-        .arg(value(alloc, "data-ports"))?
-        .arg(value(alloc, "byte-order"))?
-        .arg(value(alloc, "sessions"))?
-        .arg(value(alloc, "idle-turns"))?
-        .arg(flag(alloc, "pad-strings"))
+    let mut command = Command::new(alloc, "saned");
+    for name in VALUES {
+        command = command.arg(value(alloc, name))?;
+    }
+    command.arg(flag(alloc, "pad-strings"))
 }
 
 /// What `clap` reads of the words, of which the first is the program's name.

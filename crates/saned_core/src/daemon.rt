@@ -19,7 +19,8 @@ use crate::session_slots::{
 use device_api::Device;
 use dispatch::Registry;
 use md5_auth::{Challenger, Users};
-use page_picture::{PageSource, Source};
+use page_picture::PageSource;
+use page_sources::Source;
 use sane_fixed::Status;
 use saned_requests::StringSize;
 use std::alloc::Global;

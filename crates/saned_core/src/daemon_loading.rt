@@ -12,7 +12,8 @@ ghost use Rattle.saned_core.specs.Inside.{IsFirstOf, IsNoneOf};
 use crate::session_slot::SessionSlot;
 use device_api::Device;
 use dispatch::Lease;
-use page_picture::{PageSource, Source};
+use page_picture::PageSource;
+use page_sources::Source;
 use sane_fixed::Status;
 
 /// Whether a word stands for the device of that name.

@@ -14,7 +14,8 @@ use std::marker::Model;
 /// Contracts see a `FrameProgress`.
 #[derive(Drop)]
 pub struct FrameRows {
-    buffers: Buffers,
+    /// Behind a pointer, as its tables are large and a scanner is handed on by value.
+    buffers: Box<Buffers>,
 }
 
 impl Model for FrameRows {
@@ -24,9 +25,9 @@ impl Model for FrameRows {
 
     ghost use Rattle.scan_frames.specs.Inside.{IsLineCounted, state_of};
 
-    ghost view = { λ f. state_of f.buffers };
+    ghost view = { λ f. state_of f.buffers.value };
 
-    ghost invariant = { λ f. IsLineCounted (state_of f.buffers) };
+    ghost invariant = { λ f. IsLineCounted (state_of f.buffers.value) };
 }
 
 impl FrameRows {
@@ -50,6 +51,9 @@ impl FrameRows {
             return Err(BeginFault::NoPicture);
         };
         let Ok(buffers) = reserve(alloc, source, setup, pass, height) else {
+            return Err(BeginFault::NoMem);
+        };
+        let Ok(buffers) = Box::new(alloc, buffers) else {
             return Err(BeginFault::NoMem);
         };
         match source.rewind() {
@@ -82,20 +86,20 @@ impl FrameRows {
             (record { source = S.source source.old; frame = self.old }) result
             (record { source = S.source source.new; frame = self.new }) buf.new }
     {
-        read_on(&mut self.buffers, source, setup, buf)
+        read_on(&mut *self.buffers, source, setup, buf)
     }
 
     /// Whether no byte of the frame was given yet.
     pub fn is_new(&self) -> bool
         ensures { result ≡ (given_in self.now == 0) }
     {
-        self.buffers.is_new()
+        (*self.buffers).is_new()
     }
 
     /// The number of its pass, from 0.
     pub fn pass(&self) -> u32
         ensures { result ≡ self.now.pass }
     {
-        self.buffers.pass()
+        (*self.buffers).pass()
     }
 }

@@ -1,5 +1,6 @@
 -- What is so along all steps: the pages of each device, and what is fixed of one job.
-use Rattle.std.specs.Prelude.{eqb, length, option_map, map, slice_get, slice_index_or, Contains, ◌<◌}
+use Rattle.std.specs.Prelude.{eqb, length, option_map, map, slice_get, slice_index_or, Contains, ◌<◌, ◌≢◌}
+use Rattle.scan_job.specs.declared.job.Task.TheVariants as tasks
 use Rattle.std.proofs.Common.{◌≡◌, ◌∙◌, ℕ, zero, suc, List, [], ◌∷◌, Bool, true, false, Some, None, refl, sym, ap, subst, eqb-true, arith}
 use Rattle.std.proofs.lemmas.Option.{get_or_from_slice_get}
 use Rattle.sane_fixed.specs.declared.status.Status.{Status}
@@ -164,7 +165,7 @@ pub record Here (h : History) (i : ℕ) (job : Job) (s : SystemState) : Type 0 w
   pub sound : Invariant s
 
 abbrev pub NotForced : History → Job → Type 0
-NotForced h job = (b : PageSources) × (abstract_in_force (make_of b (slice_get h.devices (place_named (infos_of h) job.device))) (map requested_setting job.settings.items) ≡ None)
+NotForced h job = (job.task ≢ tasks.List) × ((b : PageSources) × (abstract_in_force (make_of b (slice_get h.devices (place_named (infos_of h) job.device))) (map requested_setting job.settings.items) ≡ None))
 
 pub record Laws : Type 0 where
   pub legal : MarksAreEnabled

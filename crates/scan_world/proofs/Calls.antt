@@ -3,7 +3,7 @@ use Rattle.std.specs.Prelude.{◌^◌, cond, if◌then◌else◌, ◌<◌, ◌�
 use Rattle.std.proofs.Common.{arith, ◌≡◌, ◌∙◌, ℕ, zero, suc, List, [], ◌∷◌, Option, Some, None, Bool, true, false, refl, sym, ap, subst, ◌⊎◌, inl, inr}
 use Rattle.std.proofs.lemmas.List.Elements.{All-map}
 use Rattle.std.specs.List.{AllByRecursion}
-use Rattle.page_picture.specs.SourceView.{source_state}
+use Rattle.page_sources.specs.SourceView.{source_state}
 use Rattle.md5_auth.specs.declared.users.Entry.{Entry}
 use Rattle.device_api.specs.ScannerLimits.{HasLimits}
 use Rattle.device_api.specs.State.{DeviceState}
@@ -71,6 +71,13 @@ few_in (j ∷ jobs) (p ∷ endpoints) new zero job at =
     let budget : p.budget ≡ (if is_batch job.task then 2 ^ 36 else 2 ^ 34) = ap (λ (q : Endpoint). q.budget) new.0.rest ∙ (budget_is j.task ∙ ap (λ (k : Job). if is_batch k.task then 2 ^ 36 else 2 ^ 34) same) in
     subst (λ (n : ℕ). moves_left_of p ≤ n) budget (at_most (is_running p.client.outcome) p.budget)
 few_in (j ∷ jobs) (p ∷ endpoints) new (suc i) job at = few_in jobs endpoints new.1 i job at
+
+pub none_starved : (jobs : List Job) (endpoints : List Endpoint) → AreNew jobs endpoints → (i : ℕ) → is_starved (slice_get endpoints i) ≡ false
+none_starved [] [] new i = refl
+none_starved [] (p ∷ endpoints) new i = absurd new
+none_starved (j ∷ jobs) [] new i = absurd new
+none_starved (j ∷ jobs) (p ∷ endpoints) new zero = ap (λ (q : Endpoint). q.out_of_memory) new.0.rest
+none_starved (j ∷ jobs) (p ∷ endpoints) new (suc i) = none_starved jobs endpoints new.1 i
 
 -- ---- what the calls answer
 

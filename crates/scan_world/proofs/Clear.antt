@@ -1,8 +1,8 @@
 -- A job in whose way nothing stands is done, or is told as out of memory, or its session broke off.
-use Rattle.std.specs.Prelude.{Contains, map, option_map, slice_get}
+use Rattle.std.specs.Prelude.{map, option_map, slice_get}
 use Rattle.std.specs.List.{AllByRecursion}
 use Rattle.std.proofs.Common.{◌≡◌, ◌≢◌, ◌∙◌, ◌⊎◌, ℕ, List, [], ◌∷◌, ◌++◌, Bool, true, false, Option, Some, None, inl, inr, refl, sym, ap, subst}
-use Rattle.page_picture.specs.SourceView.{source_state}
+use Rattle.page_sources.specs.SourceView.{source_state}
 use Rattle.sane_fixed.specs.declared.status.Status.{Status}
 use Rattle.sane_fixed.specs.declared.status.Status.TheVariants as statuses
 use Rattle.device_api.specs.State.{DeviceState, HeldPage, feeds, is_at_rest}
@@ -176,7 +176,7 @@ answered below h ms v i job quiet at clear statuses.DeviceBusy (asked, inl (j, d
 answered below h ms v i job quiet at clear statuses.DeviceBusy (asked, inr shared) =
     let front = no_acts_front (and_then h ms) asked.at.front (OfJobs (ToDaemon i asked.n) ∷ asked.at.back) asked.at.split (no_acts_then h ms clear.undisturbed) in
     absurd (none_shared below (history_up_to h asked.at.front) asked.at.before job front asked.at.led_before job.device shared)
-answered below h ms v i job quiet at clear statuses.Inval (inl unforced) = absurd (clear.forced (λ s. unforced (settled_more h (h.events ++ of_jobs ms) job s)))
+answered below h ms v i job quiet at clear statuses.Inval (inl unforced) = absurd (clear.forced (unforced.0, λ s. unforced.1 (settled_more h (h.events ++ of_jobs ms) job s)))
 answered below h ms v i job quiet at clear statuses.Inval (inr (inr (asked, none))) =
     let old = old_events h ms asked.at.front asked.at.back _ quiet asked.at.split in
     absurd (listed_here below (history_up_to h asked.at.front) asked.at.before job asked.at.led_before clear.device clear.is_there clear.named
@@ -191,7 +191,7 @@ answered below h ms v i job quiet at clear statuses.IoError (scanning, (held, ca
     let firm = clear.firm scanning held (came_back h (h.events ++ of_jobs ms) (all_old h ms quiet) job.device held (came_ever (and_then h ms) v i job.device held came)) in
     absurd (let clash : true ≡ false = sym firm ∙ able in cc)
 answered below h ms v i job quiet at clear statuses.NoMem x = absurd x
-answered below h ms v i job quiet at clear statuses.AccessDenied (asked, judged) = absurd (let clash : true ≡ false = sym (clear.allowed judged.sent.resource judged.guarded) ∙ judged.is in cc)
+answered below h ms v i job quiet at clear statuses.AccessDenied (asked, judged) = absurd (let clash : true ≡ false = sym (clear.allowed judged.guarded judged.challenge) ∙ judged.is in cc)
 
 unnamed : {Q : ℕ → Type 0} → (h : History) (ms : List Event) (v : WorldCore) (i : ℕ) (job : Job) (status : Status) → IsClear h i job Q → NamesStatus (and_then h ms) v i job status → ⊥
 unfolding settled_back
@@ -369,7 +369,7 @@ ended h ms old new i job way status whys.Lost (same, inr starved) = inl (inr (in
 ended h ms old new i job way status whys.Malformed x = absurd x
 ended h ms old new i job way status whys.Short (same, named) = absurd (unnamed h ms new i job statuses.Eof way.clear named)
 ended h ms old new i job way status whys.Long x = absurd x
-ended h ms old new i job way status whys.Setting (same, unforced) = absurd (way.clear.forced (λ s. unforced (settled_more h (h.events ++ of_jobs ms) job s)))
+ended h ms old new i job way status whys.Setting (same, unforced) = absurd (way.clear.forced (unforced.0, λ s. unforced.1 (settled_more h (h.events ++ of_jobs ms) job s)))
 ended h ms old new i job way status whys.Plain x = absurd x
 ended h ms old new i job way status whys.Memory (same, starved) = inl (inr (inl (inr (ap (λ (s : Status). Ended s whys.Memory) same))))
 ended h ms old new i job way status whys.Sink x = absurd x

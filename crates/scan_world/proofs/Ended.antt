@@ -30,12 +30,11 @@ use Rattle.system_model.specs.Devices.{Make}
 use Rattle.system_model.specs.SystemStates.{SystemState}
 use Rattle.system_model.specs.Transitions.{IsUnderWay, Transition, after_transition}
 use Rattle.event_world.specs.declared.endpoint.Endpoint.{Endpoint}
-use Rattle.event_world.specs.declared.event.Event.{Event}
 use Rattle.event_world.specs.declared.event.Event.TheVariants.{LoseControl}
 use Rattle.event_world.specs.JobMoves.{IsNextMove}
 use Rattle.event_world.specs.Worlds.{WorldCore}
 use Rattle.world_refines.specs.FailedSources.{AllAlong}
-use Rattle.page_picture.specs.SourceView.{source_state}
+use Rattle.page_sources.specs.SourceView.{source_state}
 use Rattle.world_refines.specs.GhostStates.{Ghost, job_state, place_of_info, abstract_job}
 use Rattle.world_refines.specs.MainTheorem.{AreFittingLoads}
 use Rattle.world_refines.specs.NewWorlds.{HaveSourcesAt, PageSources, make_of}
@@ -68,12 +67,15 @@ none_by None e = refl
 none_by (Some r) e = absurd (let clash : Some r.0 ≡ None = e in cc)
 
 unforced : (h : History) (i : ℕ) (job : Job) → Own h i job → NotForced h job → IsUnforced h job
-unforced h i job o none s =
-    let device = s.device in
-    let at = device_named h job.device device o.apart s.is_there s.named in
-    let b = none.0 in
-    let ruled : abstract_in_force (make_of b (Some device)) (map requested_setting job.settings.items) ≡ None = subst (λ (x : Option DeviceState). abstract_in_force (make_of b x) (map requested_setting job.settings.items) ≡ None) at none.1 in
-    none_nearest device.setup.scene.kind device.setup.order job.settings.items (none_by (devices.in_force device.setup.scene.kind device.setup.order job.settings.items) (sym (forced_there o.same (make_of b (Some device)) job) ∙ ap (option_map (λ (f : SettingsResult). f.options)) ruled)) s.placed s.setup s.in_force
+unforced h i job o none = (
+  none.0,
+  λ s.
+      let device = s.device in
+      let at = device_named h job.device device o.apart s.is_there s.named in
+      let b = none.1.0 in
+      let ruled : abstract_in_force (make_of b (Some device)) (map requested_setting job.settings.items) ≡ None = subst (λ (x : Option DeviceState). abstract_in_force (make_of b x) (map requested_setting job.settings.items) ≡ None) at none.1.1 in
+      none_nearest device.setup.scene.kind device.setup.order job.settings.items (none_by (devices.in_force device.setup.scene.kind device.setup.order job.settings.items) (sym (forced_there o.same (make_of b (Some device)) job) ∙ ap (option_map (λ (f : SettingsResult). f.options)) ruled)) s.placed s.setup s.in_force,
+)
 
 -- ---- the table
 

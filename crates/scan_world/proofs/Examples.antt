@@ -6,7 +6,7 @@ use Rattle.sane_fixed.specs.declared.byte_order.ByteOrder.TheVariants.{Little}
 use Rattle.page_picture.specs.Page.{PageView}
 use Rattle.page_picture.specs.Meaning.{meaning_of}
 use Rattle.page_picture.specs.Source.{SourceState}
-use Rattle.page_picture.specs.declared.sources.kinds.Source.{Source}
+use Rattle.page_sources.specs.declared.kinds.Source.{Source}
 use Rattle.page_picture.specs.declared.scene.DeviceKind.TheVariants.{Flatbed}
 use Rattle.md5_auth.specs.declared.users.Entry.{Entry}
 use Rattle.device_api.specs.State.{DeviceState, HeldPage, held_from}

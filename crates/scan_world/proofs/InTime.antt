@@ -3,8 +3,8 @@
 use Rattle.std.specs.Prelude.{◌≢◌, IsSome, option_map, option_and_then, slice_get}
 use Rattle.std.proofs.Common.{◌≡◌, ◌∙◌, ◌⊎◌, ℕ, List, [], ◌∷◌, ◌++◌, Bool, true, false, Option, Some, None, inl, inr, refl, sym, ap, subst, append_assoc}
 use Rattle.page_picture.specs.Page.{PageView}
-use Rattle.page_picture.specs.SourceView.{source_state}
-use Rattle.page_picture.specs.declared.sources.kinds.Source.{Source}
+use Rattle.page_sources.specs.SourceView.{source_state}
+use Rattle.page_sources.specs.declared.kinds.Source.{Source}
 use Rattle.sane_fixed.specs.declared.status.Status.{Status}
 use Rattle.sane_fixed.specs.declared.status.Status.TheVariants as statuses
 use Rattle.data_records.specs.Records.{end_record}
@@ -214,7 +214,7 @@ settled_to : (h : History) (es : List JointEvent) (job : Job) → Settled h job 
 settled_to h es job s = record { device = s.device; is_there = s.is_there; named = s.named; setup = s.setup; placed = s.placed; in_force = s.in_force }
 
 passed_on : (h : History) (es : List JointEvent) (before : WorldCore) (i : ℕ) (job : Job) (allowed : Bool) → HasPassed (history_up_to h es) before i job allowed → HasPassed h before i job allowed
-passed_on h es before i job allowed p = record { session = p.session; stands = p.stands; sent = p.sent; awaited = p.awaited; guarded = p.guarded; is = p.is }
+passed_on h es before i job allowed p = record { session = p.session; stands = p.stands; sent = p.sent; awaited = p.awaited; guarded = p.guarded; challenge = p.challenge; read = p.read; is = p.is }
 
 -- of the events up to it those that change the world
 abbrev pub changing_to : (h : History) (w : WorldCore) (i : ℕ) → Until h w i → List JointEvent
@@ -277,6 +277,7 @@ device_failed before behind i name f = record {
   };
   after = f.after;
   stopped = f.stopped;
+  amid = f.amid;
   left = f.left;
 }
 
@@ -361,7 +362,7 @@ answer_on all h w i u job said ended statuses.Good x = x
 answer_on all h w i u job said ended statuses.Unsupported x = x
 answer_on all h w i u job said ended statuses.Cancelled x = x
 answer_on all h w i u job said ended statuses.DeviceBusy (asked, by) = (asked_on h w i u _ asked, by)
-answer_on all h w i u job said ended statuses.Inval (inl unforced) = inl (λ s. unforced (settled_to h u.front job s))
+answer_on all h w i u job said ended statuses.Inval (inl unforced) = inl (unforced.0, λ s. unforced.1 (settled_to h u.front job s))
 answer_on all h w i u job said ended statuses.Inval (inr (inl (asked, none))) = inr (inr (asked_on h w i u _ asked, none))
 answer_on all h w i u job said ended statuses.Inval (inr (inr n)) = inr (inl (picture_on h w i u job n))
 answer_on all h w i u job said ended statuses.Eof x = x

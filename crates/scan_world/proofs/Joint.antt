@@ -1,11 +1,11 @@
 -- What comes of jobs and of strangers, one after another: its steps, each of one of the events or a use by a stranger.
 use Rattle.std.specs.List.{AllByRecursion}
 use Rattle.std.specs.Prelude.{length}
-use Rattle.std.proofs.Common.{◌≡◌, ◌∙◌, ◌⊎◌, ℕ, ◌+◌, List, [], ◌∷◌, ◌++◌, inl, inr, refl, sym, ap, subst}
-use Rattle.page_picture.specs.SourceView.{source_state}
+use Rattle.std.proofs.Common.{◌≡◌, ◌∙◌, ℕ, ◌+◌, List, [], ◌∷◌, ◌++◌, inl, inr, refl, sym, ap, subst}
+use Rattle.page_sources.specs.SourceView.{source_state}
 use Rattle.sane_fixed.specs.declared.device_info.DeviceInfo.{DeviceInfo}
 use Rattle.system_model.specs.Marks.{IsMarkOf}
-use Rattle.system_model.specs.SystemStates.{JobState, SystemState}
+use Rattle.system_model.specs.SystemStates.{SystemState}
 use Rattle.system_model.specs.Transitions.{By, IsHistory, Loads, Transition, Unplugs, Uses, after_all, after_transition}
 use Rattle.event_world.specs.declared.event.Event.{Event}
 use Rattle.event_world.specs.Worlds.{Runs, WorldCore}

@@ -32,6 +32,8 @@ pub mod NextMoves
 pub mod Calls
 pub mod Over
 pub mod Starved
+pub mod Idle
+pub mod Laid
 pub mod Timely
 pub mod Examples
 pub mod moments
@@ -43,4 +45,5 @@ pub mod OwnTrays
 pub mod TrayPages
 pub mod Clear
 pub mod PlainJob
+pub mod Lines
 pub mod Shared

@@ -9,7 +9,7 @@ use Rattle.system_model.specs.AbstractMessages.{AbstractRequest, Start}
 use Rattle.device_api.specs.Kinds.{Page}
 use Rattle.system_model.specs.Devices.{Make, OptionsInForce, picture_frames}
 use Rattle.system_model.specs.AbstractDevices.{AbstractDevice}
-use Rattle.system_model.specs.Client.{JobStage, Idle, Running, Done, Ended, AbstractProgress, Greeting, Listing, Opening, Allowing, Describing, Putting, Getting, Starting, Shaping, Imaging, ClientView, request_awaited}
+use Rattle.system_model.specs.Client.{JobStage, Idle, Running, Done, Ended, AbstractProgress, Starting, ClientView, request_awaited}
 use Rattle.system_model.specs.SystemStates.{SessionView, JobState}
 use Rattle.system_model.specs.Transitions.{IsUnderWay}
 use Rattle.system_model.specs.Sync.{InSync, Pauses, Ready, Scans}

@@ -1,7 +1,7 @@
 -- What events leave of a job that is over, and how they end one that runs.
 use Rattle.std.specs.Prelude.{◌≢◌, ◌==◌, ◌<◌, ◌||◌, ◌&&◌, if◌then◌else◌, Contains, nat_lt, min, cond, option_map, option_and_then, slice_index_or}
 use Rattle.std.proofs.Common.{◌≡◌, ◌∙◌, ℕ, zero, suc, ◌-◌, ◌≤◌, ◌⊎◌, Bool, true, false, Option, Some, None, List, [], ◌∷◌, slice_get, slice_set, refl, sym, ap, subst, arith, inl, inr}
-use Rattle.page_picture.specs.SourceView.{source_state}
+use Rattle.page_sources.specs.SourceView.{source_state}
 use Rattle.sane_fixed.specs.declared.status.Status.{Status}
 use Rattle.sane_fixed.specs.declared.status.Status.TheVariants as statuses
 use Rattle.scan_job.specs.declared.outcome.Outcome.{Outcome}

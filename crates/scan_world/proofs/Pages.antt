@@ -30,7 +30,7 @@ use Rattle.scan_world.proofs.Marked.{LoadsIt, Slotted, mine_loads}
 use Rattle.scan_world.proofs.Joint.{IsOfAny, JointStep}
 use Rattle.scan_world.proofs.Traced.{StepOf, no_use}
 use Rattle.scan_world.proofs.OfJobs.{IsOfJob}
-use Rattle.page_picture.specs.SourceView.{source_state}
+use Rattle.page_sources.specs.SourceView.{source_state}
 
 -- there is a device of that place; and a page of it
 abbrev pub HasDevice : History → ℕ → Type 0

@@ -84,7 +84,7 @@ clear_on k name sources users job named none firm meant allowed supplied =
       named = sym named;
       supplied = supplied;
       alone = λ j other at same. only_job job other j at;
-      forced = λ unforced. unforced (record { device = device; is_there = (0, omega arith, refl); named = sym named; setup = defaults k Little; placed = []; in_force = at_defaults k name sources job none });
+      forced = λ unforced. unforced.1 (record { device = device; is_there = (0, omega arith, refl); named = sym named; setup = defaults k Little; placed = []; in_force = at_defaults k name sources job none });
       unnamed = λ s. ap (λ (t : Setup). t.told) (setup_is k name sources users job none s) ∙ told_none k;
       meant = λ scanning s held came is. page_so (Means k) k name sources users job meant held came (ap (λ (t : Setup). meaning_of held.page t.scene) (sym (setup_is k name sources users job none s)) ∙ is);
       firm = λ scanning held came. page_so (λ (x : HeldPage). x.infallible ≡ true) k name sources users job firm held came;

@@ -1,11 +1,10 @@
 -- Histories in which no stranger does anything: no session is a stranger's.
-use Rattle.std.proofs.Common.{◌≡◌, ◌⊎◌, ℕ, List, [], ◌∷◌, ◌++◌, inl, inr, sym, subst}
-use Rattle.page_picture.specs.SourceView.{source_state}
+use Rattle.std.proofs.Common.{◌≡◌, ℕ, List, ◌++◌, inl, inr, sym, subst}
+use Rattle.page_sources.specs.SourceView.{source_state}
 use Rattle.scan_job.specs.declared.job.Job.{Job}
 use Rattle.event_world.specs.declared.event.Event.{Event}
 use Rattle.event_world.specs.Worlds.{WorldCore}
 use Rattle.world_refines.specs.WorldRefinement.{HasNoStrangers}
-use Rattle.strangers.specs.Among.{StrangerAct}
 use Rattle.strangers.specs.Together.{JointEvent, events_among}
 use Rattle.strangers.specs.Together.JointEvent.{OfStranger}
 use Rattle.scan_world.specs.Histories.{HasNoActs, History, LedTo, and_then, history_up_to, of_jobs}

@@ -68,7 +68,7 @@ inval h w i job starved nothing forced listed meant = by_answer h w i job status
     by_case (inr (inl none)) = meant none.asked.n none.asked.at none.device none.has (ap (λ (x : PageView). meaning_of x none.device.setup.scene) (sym none.first) ∙ (ap (λ (x : Setup). meaning_of none.held.page x.scene) (sym none.options) ∙ none.none))
 
 pub denied : DeniedIsNoLie
-denied h w i job starved nothing right = by_answer h w i job statuses.AccessDenied nothing (λ (asked, d). (let clash : true ≡ false = sym (right d.sent.resource) ∙ d.is in cc))
+denied h w i job starved nothing right = by_answer h w i job statuses.AccessDenied nothing (λ (asked, d). (let clash : true ≡ false = sym (right d.challenge) ∙ d.is in cc))
 
 pub empty : EmptyIsNoLie
 empty h w i job starved nothing some = by_answer h w i job statuses.NoDocs nothing (λ (scanning, asked, finished, (d, has, rests, none)). some asked.n asked.at d has none)
@@ -155,7 +155,7 @@ allowed h w i job reports list guarded wrong done = by_case (done.opened list).p
   where
     by_case : (is_guarded h.users (backend_of job.device) ≡ false) ⊎ HasPassed h (done.opened list).asked.at.before i job true → ⊥
     by_case (inl unguarded) = let clash : true ≡ false = sym guarded ∙ unguarded in cc
-    by_case (inr judged) = let clash : false ≡ true = sym (wrong judged.sent.resource) ∙ judged.is in cc
+    by_case (inr judged) = let clash : false ≡ true = sym (wrong judged.challenge) ∙ judged.is in cc
 
 silent_settings : (settings : List (List ℕ × List ℕ)) (placed : List Placement) (reports : List Report) (setting : List ℕ × List ℕ) (more : List (List ℕ × List ℕ)) → settings ≡ setting ∷ more → reports ≡ [] → AreSettingsReported settings placed reports → ⊥
 silent_settings [] placed reports setting more e none h = let clash : [] ≡ setting ∷ more = e in cc

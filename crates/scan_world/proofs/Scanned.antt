@@ -3,7 +3,7 @@ use Rattle.std.specs.Prelude.{length, option_map, map, slice_get}
 use Rattle.std.proofs.Common.{◌≡◌, ◌∙◌, ℕ, zero, suc, List, [], ◌∷◌, Option, Some, None, refl, sym, ap, subst}
 use Rattle.std.specs.List.{position}
 use Rattle.std.proofs.lemmas.Option.{get_or_from_slice_get}
-use Rattle.page_picture.specs.SourceView.{source_state}
+use Rattle.page_sources.specs.SourceView.{source_state}
 use Rattle.device_api.specs.State.{DeviceState}
 use Rattle.sane_fixed.specs.declared.device_info.DeviceInfo.{DeviceInfo}
 use Rattle.scan_job.specs.declared.job.Job.{Job}

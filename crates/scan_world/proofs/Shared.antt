@@ -1,12 +1,9 @@
 -- Histories in which strangers act, and what is so where none does.
-use Rattle.std.specs.Prelude.{Contains, length, slice_get, ◌<◌, ◌≢◌}
+use Rattle.std.specs.Prelude.{Contains, length, slice_get, ◌<◌}
 use Rattle.std.proofs.lemmas.Option.{slice_get_within}
-use Rattle.std.proofs.Common.{◌≡◌, ◌∙◌, ◌⊎◌, ◌+◌, ℕ, List, [], ◌∷◌, ◌++◌, Some, inl, inr, refl, sym, ap, subst, arith}
-use Rattle.sane_fixed.specs.declared.status.Status.TheVariants.{DeviceBusy}
-use Rattle.saned_core.specs.declared.session_slot.SessionId.{SessionId}
+use Rattle.std.proofs.Common.{◌≡◌, ◌∙◌, ◌+◌, ℕ, List, [], ◌∷◌, Some, inl, inr, refl, sym, ap, arith}
 use Rattle.saned_core.specs.DaemonStates.{after_open_session, session_in}
 use Rattle.saned_serve.specs.SessionActions.SessionAction.{Opens}
-use Rattle.scan_job.specs.declared.job.Job.{Job}
 use Rattle.system_model.specs.AbstractDevices.{AbstractDevice}
 use Rattle.event_world.specs.declared.endpoint.Endpoint.{Endpoint}
 use Rattle.event_world.specs.declared.event.Event.TheVariants.{ToDaemon}
@@ -14,7 +11,7 @@ use Rattle.event_world.specs.Worlds.{WorldCore}
 use Rattle.world_refines.specs.WorldRefinement.{IsNobodys, stranger_of}
 use Rattle.strangers.specs.Among.{StrangerActs}
 use Rattle.strangers.specs.Together.JointEvent.{OfJobs, OfStranger}
-use Rattle.scan_world.specs.Histories.{History, LedTo, begun, history_up_to}
+use Rattle.scan_world.specs.Histories.{history_up_to}
 use Rattle.scan_world.specs.Laws.{Below}
 use Rattle.scan_world.specs.Shared.{ActsLeaveSessions, BusyIsByJobs, EventsAreNoActs, HoldersStandApart, LedAlone, NoneSharesAlone, TakenIsNoLie, TheirPageIsNoLie, AStrangerMayCome}
 use Rattle.scan_world.proofs.Clear.{came_ever}

@@ -3,8 +3,8 @@ use Rattle.std.specs.Prelude.{◌||◌, Err, Ok, Result, if◌then◌else◌, sl
 use Rattle.std.specs.List.{list_any}
 use Rattle.std.proofs.Common.{◌≡◌, ◌≢◌, ◌∙◌, ℕ, zero, suc, List, [], ◌∷◌, Bool, true, false, Option, Some, None, refl, sym, ap}
 use Rattle.page_picture.specs.Source.{SourceState}
-use Rattle.page_picture.specs.SourceView.{source_state}
-use Rattle.page_picture.specs.declared.sources.kinds.Source.{Source}
+use Rattle.page_sources.specs.SourceView.{source_state}
+use Rattle.page_sources.specs.declared.kinds.Source.{Source}
 use Rattle.sane_fixed.specs.declared.status.Status.{Status}
 use Rattle.sane_fixed.specs.declared.status.Status.TheVariants.{DeviceBusy, Inval}
 use Rattle.device_api.specs.State.{DeviceState, after_load, takes_page}

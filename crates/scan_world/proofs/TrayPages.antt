@@ -4,7 +4,7 @@ use Rattle.std.proofs.Common.{◌≡◌, ◌∙◌, ◌⊎◌, ℕ, zero, suc, L
 use Rattle.std.proofs.Math.Nat.{min-eq_left, min-eq_right, min-le_left}
 use Rattle.std.proofs.Math.Seq.{drop-append_seam}
 use Rattle.page_picture.specs.Page.{PageView}
-use Rattle.page_picture.specs.SourceView.{source_state}
+use Rattle.page_sources.specs.SourceView.{source_state}
 use Rattle.device_api.specs.State.{DeviceState, HeldPage, Phase as AnyPhase, feeds, first_page, is_at_rest}
 use Rattle.device_api.specs.State.Phase.{AtRest as Rest, Between as Amid, Reading as Read}
 use Rattle.saned_core.specs.DaemonStates.{Core}
@@ -23,10 +23,9 @@ use Rattle.event_world.specs.declared.event.Event.{Event}
 use Rattle.event_world.specs.declared.event.Event.TheVariants.{Load, ToDaemon}
 use Rattle.event_world.specs.Endpoints.{finished_page}
 use Rattle.event_world.specs.Worlds.{Runs, WorldCore}
-use Rattle.world_refines.specs.FailedSources.{AwaitsAnswer}
 use Rattle.world_refines.specs.GhostStates.{place_named}
 use Rattle.world_refines.specs.WorldPromises.{IsOutcome}
-use Rattle.world_refines.proofs.requests.Waiting.{waits_there as waits_so}
+use Rattle.world_refines.proofs.requests.Waiting.{AwaitsAnswer, waits_there as waits_so}
 use Rattle.strangers.specs.Together.{JointEvent}
 use Rattle.strangers.specs.Together.JointEvent.{OfJobs}
 use Rattle.scan_world.specs.Calls.{ForEach, IsJobAt, finished_at, finished_by, page_answered}

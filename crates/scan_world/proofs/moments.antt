@@ -1,5 +1,6 @@
 -- The events of a history, each with the worlds around it: what stood in front of one, and what it left.
 pub mod Entries
+pub mod Challenged
 pub mod Requests
 pub mod Waiting
 pub mod Stands

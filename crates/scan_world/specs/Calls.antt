@@ -1,13 +1,16 @@
 -- What the calls of a world answer, and what each promises, for whatever history led to the world.
 use Rattle.std.specs.Prelude.{ℕ, ◌≡◌, ◌≢◌, ◌⊎◌, ◌<◌, ◌≤◌, ◌^◌, if◌then◌else◌, Bool, false, min, Option, Some, None}
-use Rattle.std.specs.Prelude.{option_map, option_and_then, List, [], ◌∷◌, ◌++◌, Contains, length, slice_get, true}
-use Rattle.page_picture.specs.SourceView.{source_state}
-use Rattle.page_picture.specs.declared.sources.kinds.Source.{Source}
+use Rattle.std.specs.Prelude.{Ok, Err, option_map, option_and_then, List, []}
+use Rattle.std.specs.Prelude.{◌∷◌, ◌++◌, Contains, length, slice_get, true}
+use Rattle.page_sources.specs.SourceView.{source_state}
+use Rattle.page_sources.specs.declared.kinds.Source.{Source}
 use Rattle.sane_fixed.specs.declared.status.Status.{Status}
 use Rattle.sane_fixed.specs.declared.status.Status.TheVariants as statuses
 use Rattle.device_api.specs.State.{DeviceState, is_at_rest, page_of}
+use Rattle.dispatch.specs.Table.{after_unplug, unplug_answer}
 use Rattle.saned_requests.specs.declared.session.Session.{Session}
 use Rattle.saned_core.specs.DaemonStates.{Core}
+use Rattle.saned_core.specs.Loading.{core_after_load, daemon_load_answer}
 use Rattle.client_replies.specs.ProtocolStates.{is_batch}
 use Rattle.scan_job.specs.declared.job.Job.{Job}
 use Rattle.scan_job.specs.declared.outcome.Outcome.{Outcome}
@@ -16,7 +19,8 @@ use Rattle.scan_job.specs.declared.outcome.Why.{Why}
 use Rattle.scan_job.specs.declared.outcome.Why.TheVariants as whys
 use Rattle.event_world.specs.declared.endpoint.Endpoint.{Endpoint}
 use Rattle.event_world.specs.declared.event.Event.{Event}
-use Rattle.event_world.specs.declared.event.Event.TheVariants.{Cancel, Connect, Load, LoseControl, LoseImage, ToDaemon}
+use Rattle.event_world.specs.declared.event.Event.TheVariants.{Cancel, Connect, Load}
+use Rattle.event_world.specs.declared.event.Event.TheVariants.{LoseControl, LoseImage, ToDaemon, Unplug}
 use Rattle.event_world.specs.declared.event.JobEvent.{JobEvent}
 use Rattle.event_world.specs.declared.event.JobEvent.TheVariants as moves
 use Rattle.event_world.specs.Endpoints.{finished_page}
@@ -157,6 +161,10 @@ abbrev pub FewMoves : List Job → WorldCore → Type 0
 FewMoves jobs w =
     (i : ℕ) (job : Job) → slice_get jobs i ≡ Some job → left_at w i ≤ (if is_batch job.task then 2 ^ 36 else 2 ^ 34)
 
+-- **none starved (`NoneStarved`)**: no job is told as out of memory.
+abbrev pub NoneStarved : WorldCore → Type 0
+NoneStarved w = (i : ℕ) → starved_at w i ≡ false
+
 -- ---- what events leave of a job
 
 -- **left of a job (`JobStays`, `OverStays`, `AreOthers`, `OthersStay`, `StarvedStays`, `MovesFall`, `MoveLowers`)**:
@@ -195,6 +203,46 @@ abbrev pub MoveLowers : List Event → WorldCore → WorldCore → Type 0
 MoveLowers events w v =
     (i : ℕ) (own : JobEvent) → events ≡ job_event_of i own ∷ [] → CanAt w i own → 0 < left_at w i
     → left_at v i < left_at w i
+
+-- **nothing, memory (`IdleStays`, `StarvesBy`, `TakesMemory`)**: an event that cannot happen to its job changes
+-- nothing; memory runs out for a job only in an event of its own that can happen, and that takes memory: a session is
+-- opened, requests are answered, replies are heard, a record is sent, or its bytes come to a file.
+--
+-- an event that cannot happen to its job changes nothing
+abbrev pub IdleStays : List Event → WorldCore → WorldCore → Type 0
+IdleStays events w v =
+    (i : ℕ) (own : JobEvent) → events ≡ job_event_of i own ∷ [] → (CanAt w i own → ⊥) → v ≡ w
+
+-- it takes memory
+abbrev pub TakesMemory : JobEvent → Type 0
+TakesMemory moves.DataConnect = ⊥
+TakesMemory moves.LoseControl = ⊥
+TakesMemory moves.LoseImage = ⊥
+TakesMemory moves.Cancel = ⊥
+TakesMemory own = Unit {0}
+
+-- memory runs out for a job only in such an event of its own
+abbrev pub StarvesBy : List Event → WorldCore → WorldCore → Type 0
+StarvesBy events w v =
+    (i : ℕ) (e : Event) → events ≡ e ∷ [] → starved_at w i ≡ false → starved_at v i ≡ true
+    → (own : JobEvent) × (e ≡ job_event_of i own) × CanAt w i own × TakesMemory own
+
+-- **pages and devices (`LoadLays`, `UnplugTakes`)**: a page that is laid in is taken where the daemon takes it, as its
+-- device is listed, at rest and has room; a device is taken out where that is listed and nobody has it; and else
+-- nothing changes.
+abbrev pub LoadLays : List Event → WorldCore → WorldCore → Type 0
+LoadLays events w v =
+    (name : List ℕ) (source : Source) → events ≡ Load name source ∷ []
+    → (daemon_load_answer w.daemon name ≢ Ok tt → v ≡ w)
+    × (daemon_load_answer w.daemon name ≡ Ok tt
+    → v ≡ record w { daemon = core_after_load w.daemon name (source_state source) })
+
+abbrev pub UnplugTakes : List Event → WorldCore → WorldCore → Type 0
+UnplugTakes events w v =
+    (name : List ℕ) → events ≡ Unplug name ∷ []
+    → ((status : Status) → unplug_answer w.daemon.registry name ≡ Err status → v ≡ w)
+    × ((device : DeviceState) → unplug_answer w.daemon.registry name ≡ Ok device
+    → v ≡ record w { daemon = record w.daemon { registry = after_unplug w.daemon.registry name } })
 
 -- **ends (`Reaches`, `CancelEnds`, `LossEnds`, `ImageLossEnds`)**: an event, wherever it stands among some: those in
 -- front of it lead to a world, and it and those behind it on from there; where a job runs in that world, a cancel ends

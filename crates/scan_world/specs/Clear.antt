@@ -1,11 +1,10 @@
 -- A JOB IN WHOSE WAY NOTHING STANDS, and what it comes to.
 use Rattle.std.specs.Prelude.{ℕ, ◌≡◌, ◌≢◌, ◌⊎◌, true, false, Some, None, List, [], ◌∷◌, All, Contains, map, slice_get}
 use Rattle.md5_auth.specs.declared.users.Entry.{Entry}
-use Rattle.md5_auth.specs.ChallengeReading.{challenge_of}
 use Rattle.page_picture.specs.Meaning.{meaning_of}
 use Rattle.page_picture.specs.Source.{SourceState}
 use Rattle.page_picture.specs.declared.scene.DeviceKind.TheVariants.{Feeder, Flatbed}
-use Rattle.page_picture.specs.declared.sources.kinds.Source.{Source}
+use Rattle.page_sources.specs.declared.kinds.Source.{Source}
 use Rattle.device_api.specs.State.{DeviceState, HeldPage, feeds}
 use Rattle.device_api.specs.Values.{defaults}
 use Rattle.dispatch.specs.Table.{listed_infos}
@@ -23,7 +22,7 @@ use Rattle.scan_job.specs.declared.report.Reports.{Reports}
 use Rattle.event_world.specs.declared.event.Event.{Event}
 use Rattle.event_world.specs.declared.event.Event.TheVariants.{Cancel, Load, LoseControl, LoseImage, Unplug}
 use Rattle.event_world.specs.Worlds.{WorldCore}
-use Rattle.world_refines.specs.GhostStates.{backend_of, is_allowed_for, is_guarded}
+use Rattle.world_refines.specs.GhostStates.{backend_of, is_allowed, is_guarded}
 use Rattle.scan_world.specs.Calls.{AreNextMoves, HadUnsaidReply, IsJobAt, RunsOut, outcome_at, starved_at}
 use Rattle.scan_world.specs.Endings.{IsUnforced}
 use Rattle.scan_world.specs.Histories.{HasEvent, HasNoActs, History, LedTo, Moment, and_then, begun, history_up_to}
@@ -39,11 +38,20 @@ LeavesAlone i job (LoseImage j) = j ≢ i
 LeavesAlone i job (Unplug name) = name ≢ job.device
 LeavesAlone i job event = Unit {0}
 
--- each challenge allows the job, where a line of these users names its backend
+-- its user and password are allowed for each challenge, where a line of these users names its backend
 abbrev pub IsAllowedAlways : List Entry → Job → Type 0
 IsAllowedAlways users job =
-    (sent : List ℕ) → is_guarded users (backend_of job.device) ≡ true
-    → is_allowed_for users job.user job.password (backend_of job.device) (challenge_of sent) ≡ true
+    is_guarded users (backend_of job.device) ≡ true → (challenge : List ℕ)
+    → is_allowed users job.user job.password (backend_of job.device) challenge ≡ true
+
+-- so they are by a line of just these
+abbrev pub LinesAllow : Type 0
+LinesAllow =
+    (users : List Entry) (job : Job) → Contains users (record {
+      user = job.user;
+      password = job.password;
+      backend = backend_of job.device;
+    }) → (is_guarded users (backend_of job.device) ≡ true) × IsAllowedAlways users job
 
 -- a feeder that it scans had a page as the world was made, it alone names it, and no event brought one for it
 pub record IsSupplied (h : History) (i : ℕ) (job : Job) (device : DeviceState) (Among : ℕ → Type 0) : Type 0 where

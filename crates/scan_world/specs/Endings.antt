@@ -7,18 +7,20 @@ use Rattle.md5_auth.specs.ChallengeReading.{challenge_of}
 use Rattle.data_records.specs.Records.{end_record}
 use Rattle.page_picture.specs.Meaning.{meaning_of}
 use Rattle.device_api.specs.State.{DeviceState, HasStopped, HeldPage, after_cancel, is_at_rest, page_of}
+use Rattle.daemon_refines.specs.Failures.{HasBytesLeft}
 use Rattle.dispatch.specs.Table.{find_name}
 use Rattle.saned_requests.specs.declared.session.AwaitedAuthorization.{AwaitedAuthorization}
 use Rattle.saned_requests.specs.declared.session.Session.{Session}
 use Rattle.client_replies.specs.ProtocolStates.{scans}
 use Rattle.scan_job.specs.declared.job.Job.{Job}
+use Rattle.scan_job.specs.declared.job.Task.TheVariants as tasks
 use Rattle.scan_job.specs.declared.outcome.Why.{Why}
 use Rattle.scan_job.specs.declared.outcome.Why.TheVariants as whys
 use Rattle.event_world.specs.declared.endpoint.Image.{Image}
 use Rattle.event_world.specs.declared.event.Event.TheVariants.{Cancel, ToClient, DataTurn, DataToClient, LoseControl}
 use Rattle.event_world.specs.declared.event.Event.TheVariants.{LoseImage}
 use Rattle.event_world.specs.Worlds.{WorldCore}
-use Rattle.world_refines.specs.GhostStates.{backend_of, is_allowed_for, is_guarded}
+use Rattle.world_refines.specs.GhostStates.{backend_of, is_allowed, is_guarded}
 use Rattle.world_refines.specs.FailedSources.{HoldsLease}
 use Rattle.saned_requests.specs.LeaseLaws.{IsIn}
 use Rattle.scan_world.specs.Histories.{HasEvent, History}
@@ -32,19 +34,21 @@ abbrev pub NamesStatus : History → WorldCore → ℕ → Job → Status → Ty
 NamesStatus h w i job status =
     Happened h w i (DataTurn i) × (scans job.task ≡ true) × ((s : Settled h job) × (s.setup.told ≡ Some status))
 
--- on no device of the name can the settings be in force
+-- it puts settings, as a list does not, and on no device of the name can they be in force
 abbrev pub IsUnforced : History → Job → Type 0
-IsUnforced h job = Settled h job → ⊥
+IsUnforced h job = (job.task ≢ tasks.List) × (Settled h job → ⊥)
 
--- a line of the users names its backend, and whether its user and password are allowed for the challenge that its
--- session had sent, in that world, is this
+-- a line of the users names its backend, and its session had sent a challenge, in that world; whether its user and
+-- password are allowed for that is this
 pub record HasPassed (h : History) (before : WorldCore) (i : ℕ) (job : Job) (allowed : Bool) : Type 0 where
   pub session : Session DeviceState
   pub stands : SessionAt before i session
   pub sent : AwaitedAuthorization
   pub awaited : session.awaited ≡ Some sent
   pub guarded : is_guarded h.users (backend_of job.device) ≡ true
-  pub is : is_allowed_for h.users job.user job.password (backend_of job.device) (challenge_of sent.resource) ≡ allowed
+  pub challenge : List ℕ
+  pub read : challenge_of sent.resource ≡ Some challenge
+  pub is : is_allowed h.users job.user job.password (backend_of job.device) challenge ≡ allowed
 
 -- it scans, and as it asked for a start behind so many finished pages, the device that its session had at rest had none
 abbrev pub HadNoPage : History → WorldCore → ℕ → Job → ℕ → Type 0
@@ -65,13 +69,14 @@ pub record HadNoPicture (h : History) (w : WorldCore) (i : ℕ) (job : Job) : Ty
   pub first : held.page ≡ page_of device
   pub none : meaning_of held.page settled.setup.scene ≡ None
 
--- the session of job i had a device, whose source can fail and did, and counted it: behind the event that is stopped,
--- and had, or back in its place
+-- the session of job i had a device, whose source can fail and did, and counted it, where a pass was read with bytes of
+-- it still to be given: behind the event that is stopped, and had, or back in its place
 pub record DeviceFailed (before behind : WorldCore) (i : ℕ) (name : List ℕ) : Type 0 where
   pub device : DeviceState
   pub has : Has before i name device
   pub after : DeviceState
   pub stopped : HasStopped device after
+  pub amid : HasBytesLeft device device.phase
   pub left : HoldsLease behind.daemon has.at.id.number has.word (record has.lease { device = after })
       ⊎ IsIn (after_cancel after) has.lease.place behind.daemon.registry
 

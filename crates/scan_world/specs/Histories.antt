@@ -1,7 +1,7 @@
 -- What was handed to a world over all its calls, and what strangers did meanwhile; that it led to the world, and each
 -- of its events with the worlds around it.
 use Rattle.std.specs.Prelude.{◌≡◌, ◌++◌, List, [], ◌∷◌, All, Contains}
-use Rattle.page_picture.specs.SourceView.{source_state}
+use Rattle.page_sources.specs.SourceView.{source_state}
 use Rattle.md5_auth.specs.declared.users.Entry.{Entry}
 use Rattle.device_api.specs.ScannerLimits.{HasLimits}
 use Rattle.device_api.specs.State.{DeviceState}

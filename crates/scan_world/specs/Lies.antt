@@ -6,15 +6,14 @@ use Rattle.netpbm.specs.Pnm.{Denotes, IsWhole}
 use Rattle.scan_laws.specs.SetInfo.{has_bit}
 use Rattle.page_picture.specs.Meaning.{meaning_of}
 use Rattle.page_picture.specs.Page.{PageView}
-use Rattle.page_picture.specs.SourceView.{source_state}
-use Rattle.page_picture.specs.declared.sources.kinds.Source.{Source}
+use Rattle.page_sources.specs.SourceView.{source_state}
+use Rattle.page_sources.specs.declared.kinds.Source.{Source}
 use Rattle.saned_core.specs.Loading.{daemon_load_answer}
 use Rattle.sane_fixed.specs.declared.device_info.DeviceInfo.{DeviceInfo}
 use Rattle.sane_fixed.specs.declared.status.Status.TheVariants.{Cancelled, DeviceBusy, Inval, Jammed, NoDocs, IoError}
 use Rattle.sane_fixed.specs.declared.status.Status.TheVariants.{NoMem, AccessDenied}
 use Rattle.device_api.specs.State.{DeviceState, HeldPage, is_at_rest, page_of}
 use Rattle.dispatch.specs.Table.{find_name, listed_infos}
-use Rattle.md5_auth.specs.ChallengeReading.{challenge_of}
 use Rattle.client_replies.specs.ProtocolStates.{scans}
 use Rattle.scan_job.specs.declared.job.Job.{Job}
 use Rattle.scan_job.specs.declared.job.Task.TheVariants as tasks
@@ -30,7 +29,7 @@ use Rattle.event_world.specs.declared.event.JobEvent.{JobEvent}
 use Rattle.event_world.specs.JobEvents.{job_event_of}
 use Rattle.event_world.specs.Worlds.{WorldCore}
 use Rattle.world_refines.specs.FailedSources.{CutIn}
-use Rattle.world_refines.specs.GhostStates.{backend_of, is_allowed_for, is_guarded}
+use Rattle.world_refines.specs.GhostStates.{backend_of, is_allowed, is_guarded}
 use Rattle.scan_world.specs.Calls.{CancelEnds, IsGoodMove, MoveLowers, OneHolder, PageStays, RunsOut, left_at}
 use Rattle.scan_world.specs.Calls.{outcome_at, starved_at}
 use Rattle.scan_world.specs.Endings.{DeviceFailed, IsEndingExplained, IsUnforced}
@@ -83,8 +82,7 @@ InvalIsNoLie =
 abbrev pub DeniedIsNoLie : Type 0
 DeniedIsNoLie =
     (h : History) (w : WorldCore) (i : ℕ) (job : Job) (starved : Bool) → NamesNothing h job
-    → ((sent : List ℕ)
-    → is_allowed_for h.users job.user job.password (backend_of job.device) (challenge_of sent) ≡ true)
+    → ((challenge : List ℕ) → is_allowed h.users job.user job.password (backend_of job.device) challenge ≡ true)
     → IsEndingExplained h w i job starved AccessDenied whys.Answer → ⊥
 
 -- NO_DOCS, with a page in the tray
@@ -197,8 +195,7 @@ abbrev pub AllowedIsNoLie : Type 0
 AllowedIsNoLie =
     (h : History) (w : WorldCore) (i : ℕ) (job : Job) (reports : Reports) → job.task ≢ tasks.List
     → is_guarded h.users (backend_of job.device) ≡ true
-    → ((sent : List ℕ)
-    → is_allowed_for h.users job.user job.password (backend_of job.device) (challenge_of sent) ≡ false)
+    → ((challenge : List ℕ) → is_allowed h.users job.user job.password (backend_of job.device) challenge ≡ false)
     → JobIsDone h w i job reports → ⊥
 
 -- settings of which nothing is told

@@ -3,8 +3,8 @@ use Rattle.std.specs.Prelude.{ℕ, ◌≡◌, true, Some, List, Contains}
 use Rattle.netpbm.specs.Picture.{Picture}
 use Rattle.netpbm.specs.Pnm.{Denotes}
 use Rattle.page_picture.specs.Meaning.{meaning_of}
-use Rattle.page_picture.specs.SourceView.{source_state}
-use Rattle.page_picture.specs.declared.sources.kinds.Source.{Source}
+use Rattle.page_sources.specs.SourceView.{source_state}
+use Rattle.page_sources.specs.declared.kinds.Source.{Source}
 use Rattle.scan_frames.specs.declared.setup.Setup.{Setup}
 use Rattle.page_picture.specs.Page.{PageView}
 use Rattle.device_api.specs.State.{DeviceState, HeldPage, held_from, is_at_rest, page_of}

@@ -1,7 +1,7 @@
 -- THE TRAY OF A FEEDER that one job alone names: the job takes its pages, one after another, from the first on.
 use Rattle.std.specs.Prelude.{ℕ, ◌≡◌, ◌≤◌, ◌-◌, true, false, Some, List, Contains, drop, length, map, min, slice_get}
 use Rattle.page_picture.specs.Page.{PageView}
-use Rattle.page_picture.specs.declared.sources.kinds.Source.{Source}
+use Rattle.page_sources.specs.declared.kinds.Source.{Source}
 use Rattle.device_api.specs.State.{DeviceState, HeldPage, after_reset, feeds, is_at_rest}
 use Rattle.scan_job.specs.declared.job.Job.{Job}
 use Rattle.scan_job.specs.declared.job.Task.TheVariants as tasks

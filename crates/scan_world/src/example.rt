@@ -12,7 +12,8 @@ use event_world::Event;
 use flatbed_dev::Flatbed;
 use md5_auth::Users;
 use net_backend::{Job, Outcome, Why};
-use page_picture::{MemoryPage, Page, Source};
+use page_picture::Page;
+use page_sources::{MemoryPage, Source};
 use sane_fixed::{ByteOrder, Status, Text};
 use std::alloc::Global;
 

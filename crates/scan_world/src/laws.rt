@@ -1,11 +1,11 @@
 //! The laws.
 
 ghost use Rattle.std.specs.Prelude.{List};
-ghost use Rattle.page_picture.specs.SourceView.{source_state};
+ghost use Rattle.page_sources.specs.SourceView.{source_state};
 ghost use Rattle.event_world.specs.declared.event.Event.{Event};
 ghost use Rattle.event_world.specs.Worlds.{Runs, WorldCore};
-ghost use Rattle.scan_world.specs.Calls.{CancelEnds, MoveLowers, MovesFall, OthersStay, OverStays, StarvedStays};
-ghost use Rattle.scan_world.specs.Clear.{AllAreListed, ClearsBy, FeederIsClear, PlainIsClear};
+ghost use Rattle.scan_world.specs.Calls.{CancelEnds, IdleStays, LoadLays, MoveLowers, MovesFall, OthersStay, OverStays, StarvedStays, StarvesBy, UnplugTakes};
+ghost use Rattle.scan_world.specs.Clear.{AllAreListed, ClearsBy, FeederIsClear, LinesAllow, PlainIsClear};
 ghost use Rattle.scan_world.specs.Laws.{AllFollow, AllIsRight, Below};
 ghost use Rattle.scan_world.specs.Shared.{ActsLeaveSessions, BusyIsByJobs, EventsAreNoActs, HoldersStandApart, LedAlone, NoneSharesAlone, AStrangerMayCome};
 ghost use Rattle.scan_world.specs.Trays.{TraysAreTaken};
@@ -77,6 +77,14 @@ pub fn jobs_end_once()
         → Runs source_state events w v → MoveLowers events w v }
     ensures cancel { (events : List Event) (w v : WorldCore)
         → Runs source_state events w v → CancelEnds events w v }
+    ensures idle { (events : List Event) (w v : WorldCore)
+        → Runs source_state events w v → IdleStays events w v }
+    ensures starves { (events : List Event) (w v : WorldCore)
+        → Runs source_state events w v → StarvesBy events w v }
+    ensures loads { (events : List Event) (w v : WorldCore)
+        → Runs source_state events w v → LoadLays events w v }
+    ensures unplugs { (events : List Event) (w v : WorldCore)
+        → Runs source_state events w v → UnplugTakes events w v }
 {}
 
 /// A job in whose way nothing stands.
@@ -90,6 +98,9 @@ pub fn a_plain_job_is_clear()
     /// Carried by: `feeder` of `a_plain_job_is_clear`
     ensures flatbed { PlainIsClear }
     ensures feeder { FeederIsClear }
+    /// A line of the users with a job's own user, password and backend is such a one, whatever the challenge.
+    /// Carried by: `line` of `a_plain_job_is_clear`: `LinesAllow`
+    ensures line { LinesAllow }
 {}
 
 /// What becomes of a tray.

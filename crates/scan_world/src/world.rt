@@ -4,11 +4,11 @@ ghost use Rattle.std.specs.Prelude.{ℕ, ◌≡◌, ◌≢◌, ◌<◌, ◌≤�
 ghost use Rattle.device_api.specs.ScannerLimits.{HasLimits};
 ghost use Rattle.dispatch.specs.RegistryFault.{AreRegistrable};
 ghost use Rattle.scan_job.specs.declared.outcome.Outcome.{Outcome as AnOutcome};
-ghost use Rattle.page_picture.specs.SourceView.{source_state};
+ghost use Rattle.page_sources.specs.SourceView.{source_state};
 ghost use Rattle.world_refines.specs.MainTheorem.{IsTrueLoad};
 ghost use Rattle.event_world.specs.Worlds.{HasFaultAmong, IsInitialWorld, MayRun, Runs, seen_world};
 ghost use Rattle.scan_world.specs.Histories.{History, LedTo, and_then, begun};
-ghost use Rattle.scan_world.specs.Calls.{CancelEnds, FewMoves, ForEach, ImageLossEnds, IsGoodMove, IsMoveAt, KeepsEnding, KeepsOutcome, KeepsPage, KeepsPageCount, KeepsScanFile, LossEnds, MoveLowers, MovesFall, OneHolder, OthersStay, OverStays, PageStays, RunsOut, ScansStay, SessionsStay, StartsOnFirst, StarvedStays, file_answered, finished_at, left_at, outcome_at, page_answered, starved_at};
+ghost use Rattle.scan_world.specs.Calls.{CancelEnds, FewMoves, ForEach, IdleStays, ImageLossEnds, IsGoodMove, IsMoveAt, KeepsEnding, KeepsOutcome, KeepsPage, KeepsPageCount, KeepsScanFile, LoadLays, LossEnds, MoveLowers, MovesFall, NoneStarved, OneHolder, OthersStay, OverStays, PageStays, RunsOut, ScansStay, SessionsStay, StartsOnFirst, StarvedStays, StarvesBy, UnplugTakes, file_answered, finished_at, left_at, outcome_at, page_answered, starved_at};
 ghost use Rattle.scan_world.specs.Clear.{ClearsBy, ClearsUp, SharesClear};
 ghost use Rattle.scan_world.specs.Trays.{BatchIsCounted, KeepsTray};
 ghost use Rattle.scan_world.specs.Promise.{MovesAreKept};
@@ -81,6 +81,10 @@ impl World {
         /// Carried by: `budget` of `World::new`
         ensures budget { IfOk result (λ w. FewMoves jobs.items
             (seen_world ⟦<Box<dyn Device> as Device>⟧.state w.inner)) }
+        /// No job of a new world is told as out of memory.
+        /// Carried by: `fresh` of `World::new`
+        ensures fresh { IfOk result (λ w. NoneStarved
+            (seen_world ⟦<Box<dyn Device> as Device>⟧.state w.inner)) }
         ensures accepted { let states = map ⟦<Box<dyn Device> as Device>⟧.state devices.items in
             OnOk result (AreRegistrable states × MayRun jobs.items) }
         ensures fault { let states = map ⟦<Box<dyn Device> as Device>⟧.state devices.items in
@@ -137,6 +141,26 @@ impl World {
         ensures lowers { let w = seen_world ⟦<Box<dyn Device> as Device>⟧.state self.old.inner in
             let v = seen_world ⟦<Box<dyn Device> as Device>⟧.state self.new.inner in
             MoveLowers events.items w v }
+        /// An event that cannot happen to its job changes nothing.
+        /// Carried by: `idle` of `World::run` and `jobs_end_once`
+        ///
+        /// Memory runs out for a job only in an event of its own that can happen, and that takes memory.
+        /// Carried by: `starves` of `World::run` and `jobs_end_once`
+        ensures idle { let w = seen_world ⟦<Box<dyn Device> as Device>⟧.state self.old.inner in
+            let v = seen_world ⟦<Box<dyn Device> as Device>⟧.state self.new.inner in
+            IdleStays events.items w v }
+        ensures starves { let w = seen_world ⟦<Box<dyn Device> as Device>⟧.state self.old.inner in
+            let v = seen_world ⟦<Box<dyn Device> as Device>⟧.state self.new.inner in
+            StarvesBy events.items w v }
+        /// A page that is laid in is taken where the daemon takes it, a device is taken out where it is listed and nobody
+        /// has it; and else nothing changes.
+        /// Carried by: `loads`, `unplugs` of `World::run` and `jobs_end_once`
+        ensures loads { let w = seen_world ⟦<Box<dyn Device> as Device>⟧.state self.old.inner in
+            let v = seen_world ⟦<Box<dyn Device> as Device>⟧.state self.new.inner in
+            LoadLays events.items w v }
+        ensures unplugs { let w = seen_world ⟦<Box<dyn Device> as Device>⟧.state self.old.inner in
+            let v = seen_world ⟦<Box<dyn Device> as Device>⟧.state self.new.inner in
+            UnplugTakes events.items w v }
         /// A job that runs ends by a cancel as cancelled, wherever that stands among the events; by the loss of its
         /// control connection as lost, where the event that connects it came before; and so by the loss of its data
         /// connection, where that stands.

@@ -1,9 +1,8 @@
 -- What is carried out of a plan, whatever its streams and outputs tell.
-use Rattle.std.proofs.Common.{ℕ, ◌≡◌, ◌≢◌, ap, subst, IsOk, slice_get, Bool, true, false, Option, List, [], ◌∷◌, Result, Ok, Err, IfOk, OnOk, OnErr, Some, None, refl, sym, ◌∙◌}
+use Rattle.std.proofs.Common.{ℕ, ◌≡◌, ap, subst, IsOk, Bool, true, false, Option, List, [], Result, Ok, Err, IfOk, OnOk, OnErr, Some, None, refl, sym, ◌∙◌}
 use Rattle.std.specs.Prelude.{⊤}
 use Rattle.std.specs.Io.KnownBytes.{Appends}
 use Rattle.std.proofs.lemmas.List.{append-nil}
-use Rattle.sane_fixed.specs.declared.device_info.DeviceInfo.{DeviceInfo}
 use Rattle.scan_job.specs.FileOutputs.{StopsShort}
 use Rattle.scan_job.specs.declared.job.Job.{Job}
 use Rattle.scan_job.specs.declared.job.Task.TheVariants.{List as ListTask, Scan}
@@ -24,7 +23,7 @@ use Rattle.net_jobs.specs.Links.{LinkViews}
 use Rattle.net_jobs.specs.RunPromises.{SeenStreams}
 use Rattle.scanimage_cli.specs.NetDoing.{DoesNetJob, DoesNetBatch}
 use Rattle.scanimage_cli.specs.Programs.DoesPlanned.{ToOutput, ToPath, ToFolder}
-use Rattle.scanimage_cli.specs.Programs.{AskedHere, DoesPlanned, IsDeviceNamed, IsDoneHere, RanThere, StandardStreams}
+use Rattle.scanimage_cli.specs.Programs.{AskedHere, DoesPlanned, IsDoneHere, RanThere, StandardStreams}
 use Rattle.scanimage_cli.specs.declared.ending.Ending.{Ending}
 use Rattle.scanimage_cli.specs.declared.planning.Destination.TheVariants.{StandardOutput, Path, Folder}
 use Rattle.scanimage_cli.specs.declared.printed.Printout.{Printout}

@@ -1,14 +1,14 @@
 -- The values that options take from the program's words are those of the pieces.
 use Rattle.std.proofs.lemmas.Option.{some_pair_parts, none-some}
 use Rattle.sane_fixed.specs.DecimalReading.{◌>>=◌}
-use Rattle.std.proofs.Common.{arith, true≢false, subst, ◌≡◌, ◌∙◌, refl, sym, ap, ℕ, suc, add-one, Bool, true, false, cond, ◌||◌, ◌&&◌, List, [], ◌∷◌, ◌++◌, Option, Some, None, length, take, drop}
+use Rattle.std.proofs.Common.{arith, true≢false, subst, ◌≡◌, ◌∙◌, refl, sym, ap, ℕ, Bool, true, false, ◌||◌, ◌&&◌, List, [], ◌∷◌, ◌++◌, Option, Some, None, length, take, drop}
 use Rattle.std.proofs.Math.Dec.{eqb}
-use Rattle.std.specs.Prelude.{codes, nat_eq, ◌==◌, if◌then◌else◌, option_map}
+use Rattle.std.specs.Prelude.{◌==◌, if◌then◌else◌}
 use Rattle.std.specs.Str.{bytes_eq}
 use Rattle.std.specs.List.{filter_map}
 use Rattle.scanimage_cli.specs.WordCut.{long_word, program_word, is_option, cut, split_of, window_settings, measures_from, no_measures, repeats_option, named_setting}
 use Rattle.scanimage_cli.specs.ScanimageOptions.{after_equals, value_after, program_option_value, has_flag}
-use Rattle.scanimage_cli.specs.CutOptions.{item_value_of, is_flag_in, value_given, is_flag_given, GivesTheSame, IsOfTheCut}
+use Rattle.scanimage_cli.specs.CutOptions.{value_given, is_flag_given, GivesTheSame, IsOfTheCut}
 use Rattle.scanimage_cli.specs.declared.program_option.ProgramOption.{ProgramOption}
 use Rattle.scanimage_cli.specs.declared.program_option.ProgramOption.TheVariants.{ListDevices, AllOptions, DontScan, DeviceName, OutputFile, Config, Net, Port, DialFirst, User, PasswordFile, Batch, BatchCount}
 use Rattle.scanimage_cli.specs.declared.word_cut.Item.{Item}

@@ -1,5 +1,5 @@
 -- Pieces that are put to a writer one after another.
-use Rattle.std.proofs.Common.{◌≡◌, ◌<◌, ◌≤◌, ◌∙◌, ℕ, add-one, get_or, map, ◌+◌, ◌-◌, List, [], ◌∷◌, ◌++◌, Bool, true, length, take, drop, ap, sym, subst, append_assoc, append-nil, arith, length-append, length-take-le, take-append-drop, take_all, refl, inl, inr, Option}
+use Rattle.std.proofs.Common.{◌≡◌, ◌<◌, ◌≤◌, ◌∙◌, ℕ, add-one, get_or, map, ◌+◌, List, [], ◌∷◌, ◌++◌, Bool, true, length, take, drop, ap, sym, subst, append_assoc, append-nil, arith, length-append, length-take-le, take-append-drop, take_all, refl, inr, Option}
 use Rattle.std.proofs.lemmas.List.{take-append-le}
 use Rattle.std.proofs.Math.ListN.{drop_of_length-le}
 use Rattle.std.proofs.Math.Seq.{drop-cons}

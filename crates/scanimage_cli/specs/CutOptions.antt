@@ -1,6 +1,6 @@
 -- The values of the program's options in the pieces that its words are cut into.
 use Rattle.std.specs.Prelude.{ℕ, ◌≡◌, Bool, false, ◌||◌, if◌then◌else◌, Option, Some, None, List, [], ◌∷◌}
-use Rattle.scanimage_cli.specs.WordCut.{is_option, cut, split_of}
+use Rattle.scanimage_cli.specs.WordCut.{is_option, cut}
 use Rattle.scanimage_cli.specs.ScanimageOptions.{program_option_value, has_flag}
 use Rattle.scanimage_cli.specs.declared.program_option.ProgramOption.{ProgramOption}
 use Rattle.scanimage_cli.specs.declared.word_cut.Item.{Item}

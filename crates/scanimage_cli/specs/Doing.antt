@@ -1,7 +1,6 @@
 -- What doing a job on a scanner of this machine comes to: what it prints, what it leaves, and how it ends otherwise.
-use Rattle.std.specs.Prelude.{ℕ, ◌≡◌, Option, List, []}
+use Rattle.std.specs.Prelude.{◌≡◌, []}
 use Rattle.device_api.specs.State.{DeviceState}
-use Rattle.scan_job.specs.Shelves.{Stock}
 use Rattle.scan_job.specs.declared.job.Job.{Job}
 use Rattle.scan_job.specs.declared.report.Reports.{Reports}
 use Rattle.scan_job.specs.declared.stop.Stop.{Stop}

@@ -1,5 +1,5 @@
 -- What private functions alone promise.
-use Rattle.std.specs.Prelude.{ℕ, ◌∷◌, List, codes, decimal, ◌++◌, ◌+◌, Option, option_map, []}
+use Rattle.std.specs.Prelude.{ℕ, ◌∷◌, List, codes, decimal, ◌++◌, Option, option_map, []}
 use Rattle.std.specs.List.{concat}
 use Rattle.scanimage_cli.specs.declared.word_cut.AwaitedValue.{AwaitedValue}
 use Rattle.scanimage_cli.specs.declared.word_cut.Item.{Item}

@@ -8,8 +8,7 @@ use Rattle.sane_fixed.specs.declared.device_info.DeviceInfo.{DeviceInfo}
 use Rattle.device_api.specs.State.{DeviceState}
 use Rattle.dispatch.specs.Table.{Table, listed_infos, table, unplug_answer}
 use Rattle.dispatch.specs.declared.table.place.Place.{Place}
-use Rattle.config_pages.specs.ScannerStates.{scanner_state}
-use Rattle.config_pages.specs.declared.scanner.Scanner.{Scanner}
+use Rattle.virtual_scanner.specs.Scanners.{Scanner, scanner_state}
 use Rattle.scan_job.specs.declared.job.Job.{Job}
 use Rattle.scan_job.specs.declared.job.Task.TheVariants.{List as ListTask, Scan}
 use Rattle.scan_job.specs.declared.outcome.Outcome.TheVariants.{Done}

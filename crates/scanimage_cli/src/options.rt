@@ -111,29 +111,57 @@ fn has_flag(option: ProgramOption, words: &[Text]) -> bool
     false
 }
 
-fn value<'a>(alloc: Global, name: &'a str) -> Arg<'a> {
-    Arg::new(alloc, name).long(name).action(ArgAction::Set)
+/// What stands behind an option's name.
+#[derive(Clone, Copy)]
+enum OptionValue {
+    /// Nothing.
+    None,
+    Text,
+    /// 1 to 65,535.
+    Port,
+    /// 1 to 16.
+    Count,
 }
 
-fn flag<'a>(alloc: Global, name: &'a str) -> Arg<'a> {
-    Arg::new(alloc, name).long(name).action(ArgAction::SetTrue)
+/// The options and their values.
+const OPTIONS: &[(&str, OptionValue)] = &[
+    ("list-devices", OptionValue::None),
+    ("all-options", OptionValue::None),
+    ("dont-scan", OptionValue::None),
+    ("device-name", OptionValue::Text),
+    ("output-file", OptionValue::Text),
+    ("config", OptionValue::Text),
+    ("net", OptionValue::Text),
+    ("port", OptionValue::Port),
+    ("dial-first", OptionValue::None),
+    ("user", OptionValue::Text),
+    ("password-file", OptionValue::Text),
+    ("batch", OptionValue::None),
+    ("batch-count", OptionValue::Count),
+];
+
+fn argument<'a>(alloc: Global, name: &'a str, value: OptionValue) -> Arg<'a> {
+    let argument = Arg::new(alloc, name).long(name);
+    match value {
+        OptionValue::None => argument.action(ArgAction::SetTrue),
+        OptionValue::Text => argument.action(ArgAction::Set),
+        OptionValue::Port => argument
+            .action(ArgAction::Set)
+            .value_parser(clap::value_parser!(u16).range(1..)),
+        OptionValue::Count => argument
+            .action(ArgAction::Set)
+            .value_parser(clap::value_parser!(u32).range(1..=16)),
+    }
 }
 
+/// The options as `clap` knows them. They are added in a loop, since each that is written out has a place of its own on the
+/// stack.
 fn command<'a>(alloc: Global) -> Result<Command<'a>, AllocError> {
-    Command::new(alloc, "scanimage")
-        .arg(flag(alloc, "list-devices"))?
-        .arg(flag(alloc, "all-options"))?
-        .arg(flag(alloc, "dont-scan"))?
-        .arg(value(alloc, "device-name"))?
-        .arg(value(alloc, "output-file"))?
-        .arg(value(alloc, "config"))?
-        .arg(value(alloc, "net"))?
-        .arg(value(alloc, "port").value_parser(clap::value_parser!(u16).range(1..)))?
-        .arg(flag(alloc, "dial-first"))?
-        .arg(value(alloc, "user"))?
-        .arg(value(alloc, "password-file"))?
-        .arg(flag(alloc, "batch"))?
-        .arg(value(alloc, "batch-count").value_parser(clap::value_parser!(u32).range(1..=16)))
+    let mut command = Command::new(alloc, "scanimage");
+    for (name, value) in OPTIONS {
+        command = command.arg(argument(alloc, name, *value))?;
+    }
+    Ok(command)
 }
 
 /// What `clap` reads of the words.

@@ -13,13 +13,13 @@ use crate::planning::{Destination, JobPlan};
 use crate::printed::Printout;
 use crate::printing::{print, print_all};
 use crate::program_output::OutputFile;
-use config_pages::Scanner;
 use device_api::Device;
 use dispatch::Registry;
 use local_job::OutputTally;
 use sane_fixed::{Status, Text};
 use scan_job::{Job, Task, Why};
 use std::io::Write;
+use virtual_scanner::Scanner;
 
 /// Does a job whose file goes where it is to go.
 fn run_job<O: Write>(

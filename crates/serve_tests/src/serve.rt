@@ -1,5 +1,4 @@
 //! Clients in memory, and what they are served.
 
 mod memory;
-mod messages;
 mod serving;

@@ -86,7 +86,7 @@ asks_right : (i : ℕ) (k : Make) (b : SessionView) (m : ClientView) (dev : Abst
     m.known ≡ descriptors_in_force k o → resolve_setting m.known requested ≡ r → SettingsInForce i k b m dev (requested ∷ left) o → IsRight i k b m dev (asks_setting requested left r)
 asks_right i k b m dev requested left o None d e h =
     let f : resolve_setting (descriptors_in_force k o) requested ≡ None = cc in
-    inr (h.so_far ∙ rw f refl, (refl, inl refl))
+    inr ((h.so_far ∙ rw f refl, h.opens), (refl, inl refl))
 asks_right i k b m dev requested left o (Some (n, value)) d e h = record { options = o; settles = h; known = d; resolved = e }
 
 -- the client goes on in its settings
@@ -106,7 +106,7 @@ pub put_right : (i : ℕ) (k : Make) (b : SessionView) (m : ClientView) (dev : A
     Answers i k b m (Putting n value requested left) (put_reply dev b.transfer put)
 put_right i k b m dev n value requested left o None h d r e =
     let f : resolve_setting (descriptors_in_force k o) requested ≡ Some (n, value) = cc in
-    (refl, (_, refl, inr (h.so_far ∙ rw (f, e) refl, (refl, inr refl))))
+    (refl, (_, refl, inr ((h.so_far ∙ rw (f, e) refl, h.opens), (refl, inr refl))))
 put_right i k b m dev n value requested left o (Some put) h d r e =
     let f : resolve_setting (descriptors_in_force k o) requested ≡ Some (n, value) = cc in (
       refl,

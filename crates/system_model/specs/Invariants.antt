@@ -18,7 +18,7 @@ use Rattle.system_model.specs.Sync.{InSync, NotYet, AllInForce, ArePictures}
 -- an ending has its cause
 abbrev pub IsCaused : Make → SessionView → Status → Why → Type 0
 IsCaused k b status why = IsExplained status why b.met
-    ⊎ ((abstract_in_force k b.job.settings ≡ None) × Explains Unforced status why)
+    ⊎ (((abstract_in_force k b.job.settings ≡ None) × (b.job.task ≢ List_)) × Explains Unforced status why)
 
 -- a batch has the pages that it wants, or its tray ran out behind at least one
 abbrev pub HasBatchPages : ℕ → SessionView → ClientView → Type 0

@@ -1,11 +1,12 @@
 ghost use Rattle.std.specs.Prelude.{◌≡◌, IfOk, IfErr};
-ghost use Rattle.page_picture.specs.SourceView.{source_state};
+ghost use Rattle.page_sources.specs.SourceView.{source_state};
 ghost use Rattle.page_picture.specs.declared.scene.DeviceKind.TheVariants.{ThreePass as ThreePassKind};
 ghost use Rattle.virtual_scanner.specs.New.{new_scanner};
 
 use device_api::{Device, DeviceInfo};
 use option_desc::{Descriptor, Value};
-use page_picture::{DeviceKind, Source};
+use page_picture::DeviceKind;
+use page_sources::Source;
 use sane_fixed::{ByteOrder, Info, Params, Status, Text};
 use std::alloc::Global;
 use std::marker::Model;

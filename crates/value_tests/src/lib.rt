@@ -8,6 +8,4 @@ mod constraints;
 #[cfg(test)]
 mod fixed;
 #[cfg(test)]
-mod lines;
-#[cfg(test)]
 mod options;

@@ -10,9 +10,9 @@ use Rattle.sane_fixed.specs.declared.info.Info.{Info}
 use Rattle.sane_fixed.specs.declared.status.Status.{Status}
 use Rattle.option_desc.specs.declared.value.Value.{Value}
 use Rattle.page_picture.specs.Page.{IsShaped, IsPageView, PageView}
-use Rattle.page_picture.specs.SourceView.{source_state}
+use Rattle.page_sources.specs.SourceView.{source_state}
 use Rattle.page_picture.specs.Source.{SourceState}
-use Rattle.page_picture.specs.declared.sources.kinds.Source.{Source}
+use Rattle.page_sources.specs.declared.kinds.Source.{Source}
 use Rattle.scan_frames.specs.PassReading.{BeginsPass, FrameProgress, IsFrame, ReadsFrame}
 use Rattle.scan_frames.specs.declared.faults.BeginFault.{BeginFault}
 use Rattle.scan_frames.specs.declared.faults.BeginFault.TheVariants.{NoPicture, SourceFailed as NotBegun, NoMem}

@@ -1,6 +1,6 @@
 -- A virtual scanner from inside.
 use Rattle.std.specs.Prelude.{◌≡◌, ◌≤◌, List, map, true, vec_capacity}
-use Rattle.page_picture.specs.SourceView.{source_state}
+use Rattle.page_sources.specs.SourceView.{source_state}
 use Rattle.page_picture.specs.Source.{SourceState}
 use Rattle.scan_frames.specs.PassReading.{IsFrame}
 use Rattle.scan_frames.specs.declared.setup.Setup.{Setup}

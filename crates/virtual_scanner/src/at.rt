@@ -1,12 +1,12 @@
 ghost use Rattle.std.specs.Prelude.{◌≡◌, ◌<◌, length};
-ghost use Rattle.page_picture.specs.SourceView.{source_state};
+ghost use Rattle.page_sources.specs.SourceView.{source_state};
 ghost use Rattle.scan_frames.specs.Frames.{IsSetup};
 ghost use Rattle.scan_frames.specs.PassReading.{IsFrame};
 ghost use Rattle.device_api.specs.State.{after_read_status, reported_pass};
 ghost use Rattle.virtual_scanner.specs.Phases.{IsStill, pass_to_start, phase_of};
 ghost use Rattle.virtual_scanner.specs.Answers.{AnswersRead};
 
-use page_picture::Source;
+use page_sources::Source;
 use sane_fixed::Status;
 use scan_frames::{FrameRows, Setup, last_pass};
 

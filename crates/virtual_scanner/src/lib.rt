@@ -2,8 +2,10 @@
 #![tactic(auto)]
 
 mod at;
+mod boxed_scanner;
 mod scanner;
 mod tray;
 
+pub use boxed_scanner::Scanner;
 pub use scanner::VirtualScanner;
 pub use tray::TRAY_ROOM;

@@ -1,5 +1,5 @@
 ghost use Rattle.std.specs.Prelude.{◌≡◌, ◌≤◌, false, map, vec_len, IfOk, IfErr};
-ghost use Rattle.page_picture.specs.SourceView.{source_state};
+ghost use Rattle.page_sources.specs.SourceView.{source_state};
 ghost use Rattle.page_picture.specs.declared.scene.DeviceKind.TheVariants.{Feeder};
 ghost use Rattle.device_api.specs.Kinds.{is_feeder};
 ghost use Rattle.device_api.specs.State.{goes_to, after_stop, tray_room};
@@ -9,7 +9,8 @@ use crate::at::{At, after};
 use crate::tray::{TRAY_ROOM, begin_frame, let_go, params_on, put_page, read_frame, see_limits};
 use device_api::{Device, DeviceInfo, defaults, descriptors, get_option, reset_setup, set_option};
 use option_desc::{Descriptor, Value};
-use page_picture::{DeviceKind, PageSource, Source};
+use page_picture::{DeviceKind, PageSource};
+use page_sources::Source;
 use sane_fixed::{ByteOrder, Info, Params, Status, Text, TextFault};
 use scan_frames::Setup;
 use std::alloc::Global;

@@ -1,7 +1,7 @@
 //! The pages in a scanner, the first of which is scanned.
 
 ghost use Rattle.std.specs.Prelude.{◌≡◌, ◌≢◌, ◌<◌, ◌≤◌, ◌-◌, [], map, true, false, All, IsOk, OnOk, OnErr, vec_len, vec_capacity, length};
-ghost use Rattle.page_picture.specs.SourceView.{source_state};
+ghost use Rattle.page_sources.specs.SourceView.{source_state};
 ghost use Rattle.scan_frames.specs.Frames.{IsSetup};
 ghost use Rattle.scan_frames.specs.PassReading.{BeginsPass, IsFrame};
 ghost use Rattle.device_api.specs.ScannerLimits.{IsHeldPage};
@@ -12,7 +12,8 @@ ghost use Rattle.virtual_scanner.specs.First.{OfFirst, OnFirst};
 
 use crate::at::answer_read;
 use device_api::is_feeder;
-use page_picture::{DeviceKind, PageSource, Source};
+use page_picture::{DeviceKind, PageSource};
+use page_sources::Source;
 use sane_fixed::{Params, Status};
 use scan_frames::{BeginFault, FrameRows, Setup, params, params_without};
 use std::alloc::Global;

@@ -1,7 +1,13 @@
-//! Tests of the wire.
+//! Tests of messages and records on the wire, against bytes that its profile gives.
 #![tactic(auto)]
 
 #[cfg(test)]
-mod codec;
+mod faults;
 #[cfg(test)]
-mod format;
+mod messages;
+#[cfg(test)]
+mod records;
+#[cfg(test)]
+mod replies;
+#[cfg(test)]
+mod requests;

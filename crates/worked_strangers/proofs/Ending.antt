@@ -4,7 +4,7 @@ use Rattle.std.specs.List.{AllByRecursion}
 use Rattle.std.proofs.Common.{◌≡◌, ◌∙◌, ℕ, zero, suc, List, [], ◌∷◌, ◌++◌, true, false, Option, Some, None, refl, sym, ap, subst}
 use Rattle.page_picture.specs.Meaning.{meaning_of}
 use Rattle.page_picture.specs.Page.{PageView}
-use Rattle.page_picture.specs.SourceView.{source_state}
+use Rattle.page_sources.specs.SourceView.{source_state}
 use Rattle.page_picture.specs.declared.scene.DeviceKind.TheVariants.{Flatbed}
 use Rattle.sane_fixed.specs.declared.byte_order.ByteOrder.TheVariants.{Little}
 use Rattle.sane_fixed.specs.declared.device_info.DeviceInfo.{DeviceInfo}

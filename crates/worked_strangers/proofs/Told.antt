@@ -3,7 +3,7 @@ use Rattle.std.specs.Prelude.{◌≢◌, All, option_and_then, option_map, slice
 use Rattle.std.proofs.Common.{◌≡◌, ◌∙◌, ℕ, zero, suc, List, [], ◌∷◌, Option, Some, None, refl, sym, ap, subst, arith}
 use Rattle.md5_auth.specs.declared.users.Entry.{Entry}
 use Rattle.page_picture.specs.Page.{PageView}
-use Rattle.page_picture.specs.SourceView.{source_state}
+use Rattle.page_sources.specs.SourceView.{source_state}
 use Rattle.sane_fixed.specs.declared.status.Status.TheVariants.{DeviceBusy}
 use Rattle.device_api.specs.ScannerLimits.{HasLimits}
 use Rattle.saned_core.specs.DaemonStates.{Core}

@@ -3,7 +3,7 @@ use Rattle.std.specs.Prelude.{ℕ, ◌≡◌, false, Some, List, [], ◌∷◌}
 use Rattle.md5_auth.specs.declared.users.Entry.{Entry}
 use Rattle.netpbm.specs.Pnm.{IsWhole}
 use Rattle.page_picture.specs.Page.{PageView}
-use Rattle.page_picture.specs.SourceView.{source_state}
+use Rattle.page_sources.specs.SourceView.{source_state}
 use Rattle.sane_fixed.specs.declared.status.Status.TheVariants.{DeviceBusy}
 use Rattle.device_api.specs.State.{DeviceState}
 use Rattle.saned_requests.specs.declared.session.Session.{Session}

@@ -1,6 +1,6 @@
 -- Strangers who come to a daemon, act by act.
 use Rattle.std.specs.Prelude.{ℕ, ◌≡◌, false, Some, None, List, [], ◌∷◌}
-use Rattle.page_picture.specs.SourceView.{source_state}
+use Rattle.page_sources.specs.SourceView.{source_state}
 use Rattle.saned_core.specs.declared.session_slot.Fed.{Fed}
 use Rattle.saned_core.specs.declared.session_slot.Fed.TheVariants.{Standing, Over}
 use Rattle.saned_serve.specs.SessionActions.SessionAction.{Feed, Leaves, Opens}

@@ -7,6 +7,7 @@ ghost use Rattle.scan_job.specs.declared.outcome.Outcome.TheVariants.{Done, Ende
 ghost use Rattle.scan_job.specs.declared.outcome.Why.TheVariants.{Answer};
 ghost use Rattle.scan_job.specs.declared.report.Reports.{Reports};
 ghost use Rattle.event_world.specs.Worlds.{IsFitJob, seen_world};
+ghost use Rattle.virtual_scanner.specs.Scanners.{scanner_state};
 ghost use Rattle.event_world.specs.declared.world_fault.WorldFault.TheVariants as faults;
 ghost use Rattle.scan_world.specs.Calls.{outcome_at};
 ghost use Rattle.scan_world.specs.Examples.{IsScanOf};
@@ -14,15 +15,14 @@ ghost use Rattle.worked_strangers.specs.Histories.{BusyAmong, IsNotDone, Scanned
 
 use crate::below::what_stands_below;
 use crate::visits::{daemon_on, lose_and_stay, take_among_strangers};
-use device_api::Device;
 use event_world::{EventWorld, WorldFault};
-use flatbed_dev::Flatbed;
 use md5_auth::Users;
 use net_backend::{Job, Outcome, Why};
 use page_picture::Page;
 use sane_fixed::{Status, Text};
 use std::alloc::Global;
 use thiserror::Error;
+use virtual_scanner::Scanner;
 use worked_worlds::{copied, one_job};
 
 /// Why there is no file.
@@ -53,10 +53,10 @@ fn no_scan(fault: WorldFault) -> NoScan
 }
 
 /// Whether the world's one job is done.
-fn is_done(world: &EventWorld<Flatbed>) -> bool
-    ensures done { let w = seen_world ⟦<Flatbed as Device>⟧.state world.now in
+fn is_done(world: &EventWorld<Scanner>) -> bool
+    ensures done { let w = seen_world scanner_state world.now in
         result ≡ true → (reports : Reports) × (outcome_at w 0 ≡ Some (Done reports)) }
-    ensures other { let w = seen_world ⟦<Flatbed as Device>⟧.state world.now in
+    ensures other { let w = seen_world scanner_state world.now in
         result ≡ false → IsNotDone w }
 {
     match world.outcome(0) {
@@ -66,8 +66,8 @@ fn is_done(world: &EventWorld<Flatbed>) -> bool
 }
 
 /// Whether it was answered DEVICE_BUSY.
-fn was_busy(world: &EventWorld<Flatbed>) -> bool
-    ensures { let w = seen_world ⟦<Flatbed as Device>⟧.state world.now in
+fn was_busy(world: &EventWorld<Scanner>) -> bool
+    ensures { let w = seen_world scanner_state world.now in
         result ≡ true → outcome_at w 0 ≡ Some (Ended DeviceBusy Answer) }
 {
     match world.outcome(0) {

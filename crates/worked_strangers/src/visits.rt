@@ -7,6 +7,7 @@ ghost use Rattle.saned_core.specs.declared.session_slot.FrameState.TheVariants a
 ghost use Rattle.saned_core.specs.DaemonStates.{core, frame_in, session_of};
 ghost use Rattle.saned_serve.specs.SessionActions.{ActsOn};
 ghost use Rattle.saned_serve.specs.SessionActions.SessionAction.{Feed, Leaves, Opens};
+ghost use Rattle.virtual_scanner.specs.Scanners.{scanner_state};
 ghost use Rattle.wire_message.specs.declared.message.Request.TheVariants as requests;
 ghost use Rattle.wire_writing.specs.RequestWriting.{write_request};
 ghost use Rattle.world_refines.specs.NewWorlds.{IsNewDaemon};
@@ -15,15 +16,15 @@ ghost use Rattle.worked_strangers.specs.Inside.{HasGarbled, HasGone, CameGreetin
 
 use device_api::Device;
 use dispatch::Registry;
-use flatbed_dev::Flatbed;
 use md5_auth::Users;
-use page_picture::Page;
-use sane_fixed::{Status, Text};
+use page_picture::{DeviceKind, Page};
+use page_sources::{MemoryPage, Source};
+use sane_fixed::{ByteOrder, Status, Text};
 use saned_core::{Daemon, Fed, FrameState, SessionId};
 use std::alloc::Global;
+use virtual_scanner::{Scanner, VirtualScanner};
 use wire_message::Request;
 use wire_writing::encode_request;
-use worked_worlds::flatbed_on;
 
 /// A word that no request begins with.
 const GARBAGE: [u8; 4] = [0, 0, 0, 99];
@@ -202,8 +203,18 @@ pub(crate) fn lose_and_stay<D: Device>(
     true
 }
 
+/// A flatbed of that name with this page in memory, behind a pointer.
+fn flatbed_on(alloc: Global, name: Text, page: Page) -> Option<Scanner>
+    ensures { IfSome result (λ flatbed. scanner_state flatbed ≡ flatbed_with name page) }
+{
+    let source = Source::Memory(MemoryPage::new(page));
+    let order = ByteOrder::Little;
+    let flatbed = VirtualScanner::new(alloc, DeviceKind::Flatbed, name, source, order).ok()?;
+    Scanner::new(alloc, flatbed).ok()
+}
+
 /// That flatbed alone.
-fn one_flatbed(alloc: Global, flatbed: Flatbed) -> Option<Vec<Flatbed>>
+fn alone(alloc: Global, flatbed: Scanner) -> Option<Vec<Scanner>>
     ensures { IfSome result (λ devices. devices.items ≡ flatbed ∷ []) }
 {
     let mut devices = Vec::new(alloc);
@@ -219,14 +230,14 @@ pub(crate) fn daemon_on(
     name: Text,
     page: Page,
     users: Users,
-) -> Option<Daemon<Flatbed>>
+) -> Option<Daemon<Scanner>>
     ensures { IfSome result (λ d. IsNewDaemon (flatbed_with name page ∷ [])
-        (core ⟦<Flatbed as Device>⟧.state d) × (d.users ≡ users)
+        (core scanner_state d) × (d.users ≡ users)
         × HasLimits (flatbed_with name page)) }
 {
     let flatbed = flatbed_on(alloc, name, page)?;
     let _params = flatbed.params();
-    let devices = one_flatbed(alloc, flatbed)?;
+    let devices = alone(alloc, flatbed)?;
     let Ok(registry) = Registry::new(alloc, devices) else {
         return None;
     };

@@ -5,14 +5,13 @@ use Rattle.std.proofs.Common.{◌≡◌, ◌∙◌, ℕ, zero, suc, List, [], �
 use Rattle.sane_fixed.specs.declared.byte_order.ByteOrder.TheVariants.{Little}
 use Rattle.sane_fixed.specs.declared.status.Status.{Status}
 use Rattle.sane_fixed.specs.declared.status.Status.TheVariants as statuses
-use Rattle.md5_auth.specs.ChallengeReading.{challenge_of}
 use Rattle.md5_auth.specs.declared.users.Entry.{Entry}
 use Rattle.page_picture.specs.Meaning.{meaning_of}
 use Rattle.page_picture.specs.Page.{PageView}
 use Rattle.page_picture.specs.Source.{SourceState}
 use Rattle.page_picture.specs.declared.scene.DeviceKind.{DeviceKind}
 use Rattle.page_picture.specs.declared.scene.DeviceKind.TheVariants.{Flatbed, Feeder}
-use Rattle.page_picture.specs.declared.sources.kinds.Source.{Source}
+use Rattle.page_sources.specs.declared.kinds.Source.{Source}
 use Rattle.scan_frames.specs.declared.setup.Setup.{Setup}
 use Rattle.device_api.specs.InForce.{Placement}
 use Rattle.device_api.specs.State.{DeviceState, HeldPage, held_from}
@@ -29,7 +28,7 @@ use Rattle.event_world.specs.declared.event.Event.TheVariants.{Load, Unplug}
 use Rattle.event_world.specs.Worlds.{HasFaultAmong, IsFitJob, WorldCore}
 use Rattle.event_world.specs.declared.world_fault.WorldFault.{WorldFault}
 use Rattle.event_world.specs.declared.world_fault.WorldFault.TheVariants as faults
-use Rattle.world_refines.specs.GhostStates.{backend_of, is_allowed_for, is_guarded}
+use Rattle.world_refines.specs.GhostStates.{backend_of, is_allowed, is_guarded}
 use Rattle.scan_world.specs.Calls.{ForEach, IsJobAt, KeepsPage, RunsOut, outcome_at, starved_at}
 use Rattle.scan_world.specs.Clear.{AllAreListed, ClearsUp, IsClear, PlainIsClear}
 use Rattle.scan_world.specs.Examples.{IsScanOf}
@@ -150,9 +149,9 @@ shows_options name page users job new m told show =
 
 -- ---- the right password
 
-passed_by : (h : History) (before : WorldCore) (job : Job) → (is_guarded h.users (backend_of job.device) ≡ false) ⊎ HasPassed h before 0 job true → is_guarded h.users (backend_of job.device) ≡ true → (sent : List ℕ) × (is_allowed_for h.users job.user job.password (backend_of job.device) (challenge_of sent) ≡ true)
+passed_by : (h : History) (before : WorldCore) (job : Job) → (is_guarded h.users (backend_of job.device) ≡ false) ⊎ HasPassed h before 0 job true → is_guarded h.users (backend_of job.device) ≡ true → (challenge : List ℕ) × (is_allowed h.users job.user job.password (backend_of job.device) challenge ≡ true)
 passed_by h before job (inl unguarded) guarded = absurd (let clash : true ≡ false = sym guarded ∙ unguarded in cc)
-passed_by h before job (inr passed) guarded = (passed.sent.resource, passed.is)
+passed_by h before job (inr passed) guarded = (passed.challenge, passed.is)
 
 pub was_passed : (devices : List DeviceState) (users : List Entry) (job : Job) (new : WorldCore) → Moved devices users job new → SaysDone new → job.task ≡ tasks.Scan → WasPassed devices users job
 was_passed devices users job new m told scan =
@@ -211,7 +210,7 @@ was_unlisted name page users job new c told none named meant = (led_from (flatbe
     h = history_of (flatbed_with name page ∷ []) users job new c
 
     by_case : AnswerIsExplained h new 0 job statuses.Inval → IsUnlisted h new 0 job
-    by_case (inl unforced) = absurd (unforced (record { device = flatbed_with name page; is_there = (0, omega arith, refl); named = sym named; setup = defaults Flatbed Little; placed = []; in_force = at_defaults name page job none }))
+    by_case (inl unforced) = absurd (unforced.1 (record { device = flatbed_with name page; is_there = (0, omega arith, refl); named = sym named; setup = defaults Flatbed Little; placed = []; in_force = at_defaults name page job none }))
     by_case (inr (inr unlisted)) = unlisted
     by_case (inr (inl n)) =
         let setup = put_none (defaults Flatbed Little) n.settled.setup job.settings.items n.settled.placed none (settled_on Flatbed name (memory_source page ∷ []) users job new c n.settled) in

@@ -2,7 +2,6 @@
 use Rattle.std.specs.Prelude.{ℕ, ◌≡◌, ◌≢◌, true, false, Some, None, List, [], ◌∷◌, map}
 use Rattle.sane_fixed.specs.declared.byte_order.ByteOrder.TheVariants.{Little}
 use Rattle.sane_fixed.specs.declared.status.Status.{Status}
-use Rattle.md5_auth.specs.ChallengeReading.{challenge_of}
 use Rattle.md5_auth.specs.declared.users.Entry.{Entry}
 use Rattle.netpbm.specs.Picture.{Picture}
 use Rattle.netpbm.specs.Pnm.{Denotes}
@@ -22,7 +21,7 @@ use Rattle.scan_job.specs.declared.outcome.Outcome.TheVariants.{Done}
 use Rattle.scan_job.specs.declared.outcome.Why.TheVariants.{Answer}
 use Rattle.scan_job.specs.declared.report.Reports.{Reports}
 use Rattle.event_world.specs.Worlds.{IsFitJob, WorldCore}
-use Rattle.world_refines.specs.GhostStates.{backend_of, is_allowed_for, is_guarded}
+use Rattle.world_refines.specs.GhostStates.{backend_of, is_allowed, is_guarded}
 use Rattle.scan_world.specs.Calls.{IsJobAt, outcome_at, starved_at}
 use Rattle.scan_world.specs.Histories.{History, LedTo}
 use Rattle.scan_world.specs.Clear.{BrokeOff, IsAllowedAlways}
@@ -100,7 +99,7 @@ abbrev pub WasPassed : List DeviceState → List Entry → Job → Type 0
 WasPassed devices users job =
     DoneFrom devices users job
     × (is_guarded users (backend_of job.device) ≡ true
-    → (sent : List ℕ) × (is_allowed_for users job.user job.password (backend_of job.device) (challenge_of sent) ≡ true))
+    → (challenge : List ℕ) × (is_allowed users job.user job.password (backend_of job.device) challenge ≡ true))
 
 -- as it asked for its device, none of the name was listed
 abbrev pub IsUnlisted : History → WorldCore → ℕ → Job → Type 0

@@ -1,7 +1,7 @@
 //! Scans on a feeder: with an empty tray, and a batch of two pages.
 
 ghost use Rattle.std.specs.Prelude.{◌≡◌, IfSome, true, List, [], ◌∷◌, map};
-ghost use Rattle.page_picture.specs.SourceView.{source_state};
+ghost use Rattle.page_sources.specs.SourceView.{source_state};
 ghost use Rattle.page_picture.specs.Page.{PageView};
 ghost use Rattle.device_api.specs.State.{DeviceState};
 ghost use Rattle.event_world.specs.Worlds.{seen_world};
@@ -15,7 +15,8 @@ use device_api::Device;
 use flatbed_dev::Feeder;
 use md5_auth::Users;
 use net_backend::Job;
-use page_picture::{MemoryPage, Page, Source};
+use page_picture::Page;
+use page_sources::{MemoryPage, Source};
 use sane_fixed::{ByteOrder, Text};
 use scan_world::World;
 use std::alloc::Global;

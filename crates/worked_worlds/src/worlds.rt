@@ -6,7 +6,8 @@ ghost use Rattle.worked_worlds.specs.Worked.{flatbed_with};
 use device_api::Device;
 use flatbed_dev::Flatbed;
 use net_backend::Job;
-use page_picture::{MemoryPage, Page, Source};
+use page_picture::Page;
+use page_sources::{MemoryPage, Source};
 use sane_fixed::{ByteOrder, Text};
 use std::alloc::Global;
 

@@ -22,6 +22,7 @@ pub mod Fed
 pub mod FedSlot
 pub mod FailedRequests
 pub mod Waiting
+pub mod SameRequest
 pub mod FedEvent
 pub mod Lent
 pub mod RequestDeliveries

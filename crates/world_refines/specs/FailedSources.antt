@@ -1,28 +1,23 @@
 -- What fails in an event: a source, when the device that a job's session held is stopped behind it, and its source has
 -- counted that; or the saying of a reply, when the session answers a request with one that passes a limit of the wire.
-use Rattle.std.specs.Prelude.{ℕ, ◌≡◌, ◌⊎◌, ◌++◌, Bool, true, false, Some, List, [], ◌∷◌, slice_get}
+use Rattle.std.specs.Prelude.{ℕ, ◌≡◌, ◌⊎◌, ◌++◌, Any, Bool, true, false, Some, List, [], ◌∷◌, slice_get}
 use Rattle.page_picture.specs.Source.{SourceState}
-use Rattle.page_picture.specs.declared.sources.kinds.Source.{Source}
+use Rattle.page_sources.specs.declared.kinds.Source.{Source}
 use Rattle.device_api.specs.State.{DeviceState, HasStopped, after_cancel}
-use Rattle.option_desc.specs.declared.descriptor.Descriptor.{Descriptor}
-use Rattle.wire_message.specs.declared.message.Reply.{Reply}
 use Rattle.wire_message.specs.declared.message.Request.{Request}
 use Rattle.dispatch.specs.declared.table.place.Lease.{Lease}
 use Rattle.saned_requests.specs.declared.request_answer.RequestAnswer.{RequestAnswer}
 use Rattle.saned_requests.specs.RequestAnswers.{Answers as AnswersRequest, RequestContext}
 use Rattle.scan_job.specs.declared.job.Job.{Job}
+use Rattle.client_replies.specs.Asking.{request_for}
 use Rattle.client_replies.specs.ProtocolStates.{target_of}
-use Rattle.client_replies.specs.declared.progress.Progress.{Progress}
-use Rattle.client_replies.specs.declared.progress.Progress.TheVariants as stages
-use Rattle.client_refines.specs.RequestRefinement.{IsRequest}
 use Rattle.saned_requests.specs.declared.session.Session.{Session}
 use Rattle.saned_requests.specs.Holding.{held_by}
 use Rattle.saned_requests.specs.LeaseLaws.{IsIn}
 use Rattle.saned_core.specs.declared.session_slot.SessionId.{SessionId}
 use Rattle.saned_core.specs.DaemonStates.{Core, session_of}
+use Rattle.daemon_refines.specs.Failures.{HasBytesLeft}
 use Rattle.saned_core.specs.Feeding.{IsUnsaid, core_context, replies_to}
-use Rattle.system_model.specs.AbstractMessages.{AbstractRequest, Init, GetDevices, Open, Authorize, Describe, Get, Set}
-use Rattle.system_model.specs.AbstractMessages.{Parameters, Start}
 use Rattle.system_model.specs.Actions.{Answers, Breaks, TurnsFault}
 use Rattle.system_model.specs.SystemStates.{SystemState}
 use Rattle.system_model.specs.Transitions.{By, IsUnderWay, Transition, after_transition}
@@ -55,25 +50,12 @@ pub record FailedIn (before : WorldCore) (behind : Core) (i : ℕ) (name : List 
   pub named : lease.device.info.name ≡ name
   pub after : DeviceState
   pub stopped : HasStopped lease.device after
+  pub amid : HasBytesLeft lease.device lease.device.phase
   pub left : HoldsLease behind id.number word (record lease { device = after })
       ⊎ IsIn (after_cancel after) lease.place behind.registry
 
--- the client waits for the answer to that request
-abbrev pub AwaitsAnswer : AbstractRequest → Progress → Type 0
-AwaitsAnswer Init stages.Greeting = Unit {0}
-AwaitsAnswer GetDevices stages.Listing = Unit {0}
-AwaitsAnswer Open stages.Opening = Unit {0}
-AwaitsAnswer (Authorize challenge) (stages.Allowing resource answer) = Unit {0}
-AwaitsAnswer Describe stages.Describing = Unit {0}
-AwaitsAnswer (Set n value) (stages.Putting m kind name asked) = Unit {0}
-AwaitsAnswer (Get n) (stages.Getting m kind size) = Unit {0}
-AwaitsAnswer Start (stages.Starting first) = Unit {0}
-AwaitsAnswer Parameters (stages.Shaping port order) = Unit {0}
-AwaitsAnswer q progress = ⊥
-
--- **cut in (`CutIn`, `AwaitsAnswer`)**: the session of a job answers the request that its client waits for, of the
--- users, the devices and itself as they stand in a world, and a reply to it passes a limit of the wire, or has no
--- spelling.
+-- **cut in (`CutIn`)**: the session of a job, of the users, the devices and itself as they stand in a world, answers
+-- the request that its client wrote and waits for, and a reply to it passes a limit of the wire, or has no spelling.
 pub record CutIn (before : WorldCore) (i : ℕ) (job : Job) : Type 0 where
   pub endpoint : Endpoint
   pub is_there : slice_get before.endpoints i ≡ Some endpoint
@@ -82,18 +64,12 @@ pub record CutIn (before : WorldCore) (i : ℕ) (job : Job) : Type 0 where
   pub session : Session DeviceState
   pub stands : session_of before.daemon id.number ≡ Some session
   pub request : Request
-  pub known : List Descriptor
-  pub asked : AbstractRequest
-  pub is : IsRequest (target_of job) 0 known request asked
-  pub waits : AwaitsAnswer asked endpoint.client.progress
+  -- this very request: its option, its value, its name
+  pub waits : request_for (target_of job) endpoint.client.notes.word endpoint.client.progress ≡ Some request
   pub said : RequestAnswer
   pub then_is : RequestContext
   pub answers : AnswersRequest before.daemon.users (core_context before.daemon session) request said then_is
-  pub front : List Reply
-  pub reply : Reply
-  pub behind : List Reply
-  pub among : replies_to said ≡ front ++ reply ∷ behind
-  pub unsaid : IsUnsaid reply
+  pub unsaid : Any IsUnsaid (replies_to said)
 
 -- in an event a source of a job's device failed, or a reply to it could not be said
 abbrev pub InEvent : Bool → WorldCore → Core → ℕ → Job → Type 0

@@ -5,7 +5,7 @@ use Rattle.sane_fixed.specs.declared.status.Status.{Status}
 use Rattle.sane_fixed.specs.declared.status.Status.TheVariants.{Good, Eof}
 use Rattle.netpbm.specs.Pnm.{IsWhole}
 use Rattle.page_picture.specs.Source.{SourceState}
-use Rattle.page_picture.specs.declared.sources.kinds.Source.{Source}
+use Rattle.page_sources.specs.declared.kinds.Source.{Source}
 use Rattle.device_api.specs.ScannerLimits.{HasLimits, IsHeldPage}
 use Rattle.device_api.specs.State.{DeviceState, held_from}
 use Rattle.dispatch.specs.RegistryFault.{HaveOwnNames}

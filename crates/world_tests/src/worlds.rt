@@ -1,14 +1,17 @@
 use device_api::Device;
+use dispatch::Registry;
 use event_world::{Event, EventWorld};
 use md5_auth::Users;
 use net_backend::{Job, Outcome, Reports, Task, Why};
 use option_desc::Value;
-use page_picture::{DeviceKind, MemoryPage, Source, read_page};
+use page_picture::DeviceKind;
 use pnm_writer::read_pnm;
-use sane_fixed::{ByteOrder, Info, Status, Text};
+use sane_fixed::{ByteOrder, Info, Status};
+use saned_core::Daemon;
+use saned_requests::StringSize;
 use std::alloc::Global;
 use std::process::Abort;
-use virtual_scanner::VirtualScanner;
+use testing::{AnyScanner, Over, source, text};
 
 mod among_strangers;
 mod calls;
@@ -17,38 +20,39 @@ mod jobs;
 mod losses;
 mod memory;
 mod noise;
-mod plain;
 mod records;
-mod refusals;
 mod sharing;
 mod strings;
 
 /// A scanner, and its pages.
 #[derive(Clone, Copy)]
-struct Scanner<'a> {
+struct Scanner {
     kind: DeviceKind,
-    name: &'a [u8],
+    name: &'static [u8],
     order: ByteOrder,
     dpi: u32,
-    pages: &'a [&'a [u8]],
+    pages: &'static [&'static [u8]],
 }
 
 /// A job of `user`, whose password is `bc`.
 #[derive(Clone, Copy)]
-struct Asked<'a> {
-    device: &'a [u8],
-    settings: &'a [(&'a [u8], &'a [u8])],
+struct Asked {
+    device: &'static [u8],
+    settings: &'static str,
     task: Task,
 }
 
-/// What is done to a world. A job is named by its place.
+/// What is done to a world, or must hold in it. A job is named by its place.
 #[derive(Clone, Copy)]
-enum Step<'a> {
+enum Step {
     /// So many next moves of a job, each delivery of so many bytes at most.
     Moves(usize, u64, usize),
-    /// Next moves of a job, each delivery of so many bytes at most, until its next one is the so manyth delivery on its data
-    /// connection, or there is none.
-    UntilData(usize, u64, usize),
+    /// All next moves of a job.
+    AllOf(usize),
+    /// Next moves of the first job until the next one is the so manyth delivery on its data connection, or there is none; and
+    /// the same byte by byte.
+    UntilData(u64),
+    UntilByte(u64),
     /// Next moves of all jobs by turns, until none has one.
     All,
     /// What a client has said comes to the daemon.
@@ -56,47 +60,46 @@ enum Step<'a> {
     Lose(usize),
     LoseImage(usize),
     Cancel(usize),
-    Load(&'a [u8], &'a [u8]),
-    Unplug(&'a [u8]),
-    /// Events of all kinds at random, from a seed.
-    Noise(u64),
+    Load(&'static [u8], &'static [u8]),
+    Unplug(&'static [u8]),
     /// So a job stands, and no growth was refused.
     Is(usize, Over),
     /// That a job shows.
-    Shows(usize, Shown<'a>),
+    Shows(usize, Shown),
 }
 
 /// What a job shows.
 #[derive(Clone, Copy)]
-enum Shown<'a> {
+enum Shown {
     /// The file under way.
-    File(&'a [u8]),
+    File(&'static [u8]),
     /// The file under way, or what becomes of it where there is no memory.
-    FileIfMemory(&'a [u8]),
+    FileIfMemory(&'static [u8]),
     /// A file under way that is not whole.
     NoWholeFile,
     /// So many bytes of this file are under way.
-    Front(&'a [u8], usize),
+    Front(&'static [u8], usize),
     /// A proper front of this file is under way.
-    FrontOf(&'a [u8]),
+    FrontOf(&'static [u8]),
     /// A whole file of so many columns and rows.
     Extent(u32, u32),
     /// The files of the finished pages of a batch.
-    Pages(&'a [&'a [u8]]),
-    /// The devices that it lists.
-    Names(&'a [&'a [u8]]),
-    /// The resolution that it shows.
-    Resolution(i32),
-    /// What its one setting asked for and was given, as words, and whether that was said to be inexact.
-    Given(i32, i32, bool),
+    Pages(&'static [&'static [u8]]),
+    /// What is told of it, once it is done.
+    Told(Told),
 }
 
-/// How a job stands.
-#[derive(Clone, Copy, Debug, PartialEq, Eq)]
-enum Over {
-    Running,
-    Done,
-    Ended(Status, Why),
+/// What is told of a job that is done.
+#[derive(Clone, Copy)]
+enum Told {
+    /// The devices that it lists.
+    Names(&'static [&'static [u8]]),
+    /// An option, and the number that it shows.
+    Number(&'static [u8], i32),
+    /// What its one setting asked for and was given, in words of the wire; it is inexact just where these differ.
+    Given(i32, i32),
+    /// What its one setting was given, which is not what it asked for.
+    GivenWord(&'static [u8]),
 }
 
 /// More next moves than a job here has.
@@ -105,82 +108,107 @@ const EVERY: u64 = 1 << 20;
 /// The most bytes of a delivery.
 const AT_ONCE: usize = 4096;
 
+const LOST: Over = Over::Ended(Status::IoError, Why::Lost);
+
+const CANCELLED: Over = Over::Ended(Status::Cancelled, Why::Cancelled);
+
+const BUSY: Over = Over::Ended(Status::DeviceBusy, Why::Answer);
+
+/// Pages of one gray dot, and their files.
+const SEVEN_DOT: &[u8] = b"P5\n1 1\n255\n\x07";
+
+const SEVEN: &[u8] = b"P5\n# SANE data follows\n1 1\n255\n\x07";
+
+const NINE_DOT: &[u8] = b"P5\n1 1\n255\n\x09";
+
+const NINE: &[u8] = b"P5\n# SANE data follows\n1 1\n255\n\x09";
+
 /// A flatbed on a page of one gray dot, and a job that shows its options.
-const FLATBED: Scanner<'static> = Scanner {
+const FLATBED: Scanner = Scanner {
     kind: DeviceKind::Flatbed,
     name: b"flatbed:0",
     order: ByteOrder::Little,
     dpi: 26,
-    pages: &[b"P5\n1 1\n255\n\x07"],
+    pages: &[SEVEN_DOT],
 };
 
-const SHOW: Asked<'static> = Asked {
+const SHOW: Asked = Asked {
     device: b"flatbed:0",
-    settings: &[],
+    settings: "",
     task: Task::Show,
+};
+
+/// A window of 1 by 1 mm at 26 dots per inch, which is one dot, and a job that scans it.
+const ONE_DOT: &str = "resolution=26 br-x=1 br-y=1";
+
+const SCAN_DOT: Asked = Asked {
+    settings: ONE_DOT,
+    task: Task::Scan,
+    ..SHOW
 };
 
 const NO_SEED: [u8; 32] = [0; 32];
 
-fn text(rt: &impl Abort, alloc: Global, bytes: &[u8]) -> Text {
-    Text::new(alloc, bytes).expect(rt, "a text")
-}
-
-fn source(rt: &impl Abort, alloc: Global, file: &[u8], dpi: u32) -> Source {
-    let page = read_page(alloc, file, dpi).expect(rt, "a page");
-    Source::Memory(MemoryPage::new(page))
-}
-
-/// A feeder with these pages in its tray.
-fn feeder(rt: &impl Abort, alloc: Global, it: &Scanner<'_>) -> VirtualScanner {
+/// The scanner.
+fn made(rt: &impl Abort, alloc: Global, it: &Scanner) -> AnyScanner {
     let mut pages = Vec::new(alloc);
     for file in it.pages {
-        pages
-            .push(source(rt, alloc, file, it.dpi))
-            .expect(rt, "memory");
+        let Some(page) = source(alloc, file, it.dpi) else {
+            panic!(rt; "no scanner");
+        };
+        pages.push(page).expect(rt, "memory");
     }
-    if pages.len() > 16 {
-        panic!(rt; "too many pages");
-    }
-    match VirtualScanner::feeder(alloc, text(rt, alloc, it.name), pages, it.order) {
-        Ok(feeder) => feeder,
-        Err(_) => panic!(rt; "no feeder"),
+    match testing::scanner(alloc, it.kind, it.name, pages, it.order) {
+        Some(scanner) => scanner,
+        None => panic!(rt; "no scanner"),
     }
 }
 
-fn made(rt: &impl Abort, alloc: Global, it: &Scanner<'_>) -> VirtualScanner {
-    match it.kind {
-        DeviceKind::Feeder => return feeder(rt, alloc, it),
-        DeviceKind::Flatbed | DeviceKind::Hand | DeviceKind::ThreePass => {}
-    }
-    let page = source(rt, alloc, it.pages.first().expect(rt, "a page"), it.dpi);
-    match VirtualScanner::new(alloc, it.kind, text(rt, alloc, it.name), page, it.order) {
-        Ok(scanner) => scanner,
-        Err(_) => panic!(rt; "no scanner"),
-    }
+fn job(alloc: Global, asked: &Asked) -> Option<Job> {
+    testing::job(alloc, asked.device, asked.settings, asked.task)
 }
 
-fn job(rt: &impl Abort, alloc: Global, asked: &Asked<'_>) -> Job {
-    let mut settings = Vec::new(alloc);
-    for (name, value) in asked.settings {
-        let setting = (text(rt, alloc, name), text(rt, alloc, value));
-        settings.push(setting).expect(rt, "memory");
-    }
-    Job {
-        user: text(rt, alloc, b"user"),
-        password: text(rt, alloc, b"bc"),
-        device: text(rt, alloc, asked.device),
-        settings,
-        task: asked.task,
-    }
-}
-
-fn all_jobs(rt: &impl Abort, alloc: Global, asked: &[Asked<'_>]) -> Vec<Job> {
+fn all_jobs(alloc: Global, asked: &[Asked]) -> Option<Vec<Job>> {
     let mut jobs = Vec::new(alloc);
     for it in asked {
-        jobs.push(job(rt, alloc, it)).expect(rt, "memory");
+        jobs.push(job(alloc, it)?).ok()?;
     }
-    jobs
+    Some(jobs)
+}
+
+/// A daemon of these scanners and no users, of which nothing was asked yet.
+fn daemon_of(rt: &impl Abort, alloc: Global, scanners: &[Scanner], strings: StringSize) -> Daemon {
+    let mut devices: Vec<Box<dyn Device>> = Vec::new(alloc);
+    for it in scanners {
+        devices.push(made(rt, alloc, it)).expect(rt, "memory");
+    }
+    let registry = match Registry::new(alloc, devices) {
+        Ok(registry) => registry,
+        Err(_) => panic!(rt; "no registry"),
+    };
+    let users = Users::parse(alloc, b"").expect(rt, "users");
+    Daemon::with_strings(registry, users, strings, NO_SEED)
+}
+
+/// A world of these scanners, users and jobs.
+fn world_of(
+    rt: &impl Abort,
+    alloc: Global,
+    scanners: &[Scanner],
+    users: &[u8],
+    asked: &[Asked],
+) -> EventWorld {
+    let mut devices: Vec<Box<dyn Device>> = Vec::new(alloc);
+    for it in scanners {
+        devices.push(made(rt, alloc, it)).expect(rt, "memory");
+    }
+    let (Ok(users), Some(jobs)) = (Users::parse(alloc, users), all_jobs(alloc, asked)) else {
+        panic!(rt; "no world");
+    };
+    match EventWorld::new(alloc, devices, users, NO_SEED, jobs) {
+        Ok(world) => world,
+        Err(_) => panic!(rt; "no world"),
+    }
 }
 
 /// An event happens, where it can.
@@ -200,36 +228,16 @@ fn within(event: Event, most: usize) -> Event {
     }
 }
 
-/// So many next moves of a job. Says how many it had.
+/// So many next moves of a job, but none from the so manyth delivery of data on. Says how many it had.
 fn moves(
     rt: &impl Abort,
     alloc: Global,
     world: &mut EventWorld,
-    i: usize,
-    count: u64,
-    most: usize,
+    (i, count, most): (usize, u64, usize),
+    until: u64,
 ) -> u64 {
+    let mut left = until;
     for made in 0..count {
-        match world.next_move(i) {
-            Some(event) => happens(rt, alloc, world, within(event, most)),
-            None => return made,
-        }
-    }
-    count
-}
-
-/// Next moves of a job, each delivery of so many bytes at most, until its next one is the so manyth delivery on its data
-/// connection.
-fn until_data(
-    rt: &impl Abort,
-    alloc: Global,
-    world: &mut EventWorld,
-    i: usize,
-    count: u64,
-    most: usize,
-) -> u64 {
-    let mut left = count;
-    for made in 0..EVERY {
         let Some(event) = world.next_move(i) else {
             return made;
         };
@@ -242,40 +250,43 @@ fn until_data(
         }
         happens(rt, alloc, world, within(event, most));
     }
-    EVERY
+    count
+}
+
+/// The event that a step is, if it is one.
+fn event_of(alloc: Global, step: Step) -> Option<Event> {
+    match step {
+        Step::ToDaemon(i) => Some(Event::ToDaemon(i, AT_ONCE)),
+        Step::Lose(i) => Some(Event::LoseControl(i)),
+        Step::LoseImage(i) => Some(Event::LoseImage(i)),
+        Step::Cancel(i) => Some(Event::Cancel(i)),
+        Step::Load(name, page) => Some(Event::Load(text(alloc, name)?, source(alloc, page, 26)?)),
+        Step::Unplug(name) => Some(Event::Unplug(text(alloc, name)?)),
+        _ => None,
+    }
 }
 
 /// What is done, or what must hold, in a world that stands. Says how many moves were made.
-fn act(rt: &impl Abort, alloc: Global, world: &mut EventWorld, step: Step<'_>) -> u64 {
-    let event = match step {
-        Step::Moves(i, count, most) => return moves(rt, alloc, world, i, count, most),
-        Step::UntilData(i, count, most) => {
-            return until_data(rt, alloc, world, i, count, most);
+fn act(rt: &impl Abort, alloc: Global, world: &mut EventWorld, step: Step) -> u64 {
+    match step {
+        Step::Moves(i, count, most) => {
+            return moves(rt, alloc, world, (i, count, most), u64::MAX);
         }
-        Step::All => {
-            world.run_all();
-            return 0;
+        Step::AllOf(i) => return moves(rt, alloc, world, (i, EVERY, AT_ONCE), u64::MAX),
+        Step::UntilData(count) => {
+            return moves(rt, alloc, world, (0, EVERY, AT_ONCE), count);
         }
-        Step::Noise(seed) => {
-            noise::noise(rt, alloc, world, seed);
-            return 0;
-        }
-        Step::ToDaemon(i) => Event::ToDaemon(i, AT_ONCE),
-        Step::Lose(i) => Event::LoseControl(i),
-        Step::LoseImage(i) => Event::LoseImage(i),
-        Step::Cancel(i) => Event::Cancel(i),
-        Step::Load(name, page) => Event::Load(text(rt, alloc, name), source(rt, alloc, page, 26)),
-        Step::Unplug(name) => Event::Unplug(text(rt, alloc, name)),
+        Step::UntilByte(count) => return moves(rt, alloc, world, (0, EVERY, 1), count),
+        Step::All => world.run_all(),
         Step::Is(i, over) => {
-            expect_over(rt, world, i, over);
-            return 0;
+            assert!(rt; how(world, i) == Some(over) && !world.starved(i), "job {i}");
         }
-        Step::Shows(i, shown) => {
-            shows(rt, alloc, world, i, shown);
-            return 0;
+        Step::Shows(i, shown) => assert!(rt; is_shown(alloc, world, i, shown), "job {i}"),
+        step => {
+            let event = event_of(alloc, step).expect(rt, "an event");
+            happens(rt, alloc, world, event);
         }
-    };
-    happens(rt, alloc, world, event);
+    }
     0
 }
 
@@ -283,91 +294,57 @@ fn act(rt: &impl Abort, alloc: Global, world: &mut EventWorld, step: Step<'_>) -
 fn play(
     rt: &impl Abort,
     alloc: Global,
-    scanners: &[Scanner<'_>],
+    scanners: &[Scanner],
     users: &[u8],
-    asked: &[Asked<'_>],
-    steps: &[Step<'_>],
+    asked: &[Asked],
+    steps: &[Step],
 ) -> u64 {
-    let mut devices: Vec<Box<dyn Device>> = Vec::new(alloc);
-    for it in scanners {
-        match Box::new(alloc, made(rt, alloc, it)) {
-            Ok(device) => devices.push(device).expect(rt, "memory"),
-            Err(_) => panic!(rt; "no box"),
-        }
-    }
-    let users = Users::parse(alloc, users).expect(rt, "users");
-    let mut world = match EventWorld::new(
-        alloc,
-        devices,
-        users,
-        NO_SEED,
-        all_jobs(rt, alloc, asked),
-    ) {
-        Ok(world) => world,
-        Err(_) => panic!(rt; "no world"),
-    };
-    let mut made = 0u64;
-    for step in steps {
-        made = made.saturating_add(act(rt, alloc, &mut world, *step));
-    }
+    let mut world = world_of(rt, alloc, scanners, users, asked);
+    let made = act_all(rt, alloc, &mut world, steps);
     drop(world);
     made
 }
 
-fn how(rt: &impl Abort, world: &EventWorld, i: usize) -> Over {
-    match world.outcome(i).expect(rt, "a job") {
-        Outcome::Running => Over::Running,
-        Outcome::Done(_) => Over::Done,
-        Outcome::Ended(status, why) => Over::Ended(*status, *why),
+fn act_all(rt: &impl Abort, alloc: Global, world: &mut EventWorld, steps: &[Step]) -> u64 {
+    let mut made = 0u64;
+    for step in steps {
+        made = made.saturating_add(act(rt, alloc, world, *step));
+    }
+    made
+}
+
+fn how(world: &EventWorld, i: usize) -> Option<Over> {
+    Some(testing::how(world.outcome(i)?))
+}
+
+/// Whether a job shows this.
+fn is_shown(alloc: Global, world: &EventWorld, i: usize, shown: Shown) -> bool {
+    let file = world.file(i);
+    match shown {
+        Shown::File(whole) => file == Some(whole),
+        Shown::FileIfMemory(whole) => memory::is_done_or_wanting(alloc, world, i, whole),
+        Shown::NoWholeFile => file.is_some() && !is_whole(alloc, file),
+        Shown::Front(whole, count) => file.is_some() && file == whole.get(..count),
+        Shown::FrontOf(whole) => is_front(file, whole),
+        Shown::Extent(width, height) => extent(alloc, file) == Some((width, height)),
+        Shown::Pages(files) => are_pages(world, i, files),
+        Shown::Told(told) => match world.outcome(i) {
+            Some(Outcome::Done(reports)) => is_told(reports, told),
+            _ => false,
+        },
     }
 }
 
-/// A job stands so, and no growth was refused on its connections, in its session or for its files.
-fn expect_over(rt: &impl Abort, world: &EventWorld, i: usize, over: Over) {
-    assert_eq!(rt; how(rt, world, i), over);
-    assert!(rt; !world.starved(i));
-}
-
-/// What a job shows is this.
-fn shows(rt: &impl Abort, alloc: Global, world: &EventWorld, i: usize, shown: Shown<'_>) {
-    match shown {
-        Shown::File(file) => assert!(rt; world.file(i) == Some(file)),
-        Shown::FileIfMemory(file) => memory::done_or_wanting(rt, alloc, world, i, file),
-        Shown::NoWholeFile => {
-            let file = world.file(i);
-            assert!(rt; file.is_some() && !is_whole(alloc, file));
-        }
-        Shown::Front(whole, count) => {
-            let front = whole.get(..count).expect(rt, "a front");
-            assert!(rt; world.file(i) == Some(front));
-        }
-        Shown::FrontOf(whole) => {
-            let file = world.file(i).expect(rt, "a file");
-            assert!(rt; whole.starts_with(file) && file.len() < whole.len());
-        }
-        Shown::Extent(width, height) => {
-            assert!(rt; extent(alloc, world.file(i)) == Some((width, height)));
-        }
-        Shown::Pages(files) => {
-            assert!(rt; world.finished(i) as usize == files.len());
-            for (k, file) in (1u32..).zip(files) {
-                assert!(rt; world.file_at(i, k) == Some(*file));
-            }
-        }
-        Shown::Names(names) => assert!(rt; are_listed(reports(rt, world, i), names)),
-        Shown::Resolution(dots) => assert!(rt; resolution(reports(rt, world, i)) == Some(dots)),
-        Shown::Given(asked, given, is_inexact) => {
-            assert!(rt; put(reports(rt, world, i)) == Some((asked, given, is_inexact)));
-        }
+fn is_front(file: Option<&[u8]>, whole: &[u8]) -> bool {
+    match file {
+        Some(file) => whole.starts_with(file) && file.len() < whole.len(),
+        None => false,
     }
 }
 
 /// Whether there is a file, and it is whole.
 fn is_whole(alloc: Global, file: Option<&[u8]>) -> bool {
-    match file {
-        Some(file) => read_pnm(alloc, file).is_ok(),
-        None => false,
-    }
+    extent(alloc, file).is_some()
 }
 
 /// The columns and rows of a whole file.
@@ -378,10 +355,22 @@ fn extent(alloc: Global, file: Option<&[u8]>) -> Option<(u32, u32)> {
     Some(extent)
 }
 
-fn reports<'a>(rt: &impl Abort, world: &'a EventWorld, i: usize) -> &'a Reports {
-    match world.outcome(i) {
-        Some(Outcome::Done(reports)) => reports,
-        _ => panic!(rt; "job {i} is not done"),
+fn are_pages(world: &EventWorld, i: usize, files: &[&[u8]]) -> bool {
+    let mut are_so = world.finished(i) as usize == files.len();
+    for (k, file) in (1u32..).zip(files) {
+        are_so &= world.file_at(i, k) == Some(*file);
+    }
+    are_so
+}
+
+fn is_told(reports: &Reports, told: Told) -> bool {
+    match told {
+        Told::Names(names) => are_listed(reports, names),
+        Told::Number(name, number) => match value_of(reports, name) {
+            Some(Value::Int(given)) => *given == number,
+            _ => false,
+        },
+        Told::Given(_, _) | Told::GivenWord(_) => is_given(reports, told),
     }
 }
 
@@ -394,28 +383,30 @@ fn are_listed(reports: &Reports, names: &[&[u8]]) -> bool {
             .all(|(device, name)| device.name.as_bytes() == *name)
 }
 
-/// The resolution that a job shows.
-fn resolution(reports: &Reports) -> Option<i32> {
+/// The value that an option is shown with.
+fn value_of<'a>(reports: &'a Reports, name: &[u8]) -> Option<&'a Value> {
     for (option, value) in reports.options.as_slice() {
-        if option.name.as_bytes() == b"resolution".as_slice() {
-            return match value {
-                Some(Value::Int(dots)) => Some(*dots),
-                _ => None,
-            };
+        if option.name.as_bytes() == name {
+            return value.as_ref();
         }
     }
     None
 }
 
-/// What the one setting of a job asked for, and was given, as words, and whether it was said to be inexact.
-fn put(reports: &Reports) -> Option<(i32, i32, bool)> {
+/// Whether the one setting of a job was given so.
+fn is_given(reports: &Reports, told: Told) -> bool {
     let [report] = reports.settings.as_slice() else {
-        return None;
+        return false;
     };
     let is_inexact = report.info.0 & Info::INEXACT != 0;
-    match (&report.asked, &report.given) {
-        (Value::Fixed(asked), Value::Fixed(given)) => Some((asked.0, given.0, is_inexact)),
-        (Value::Int(asked), Value::Int(given)) => Some((*asked, *given, is_inexact)),
-        _ => None,
+    match (told, &report.asked, &report.given) {
+        (Told::Given(from, to), Value::Fixed(asked), Value::Fixed(given)) => {
+            (asked.0, given.0) == (from, to) && is_inexact == (from != to)
+        }
+        (Told::Given(from, to), Value::Int(asked), Value::Int(given)) => {
+            (*asked, *given) == (from, to) && is_inexact == (from != to)
+        }
+        (Told::GivenWord(word), _, Value::Text(given)) => is_inexact && given.as_bytes() == word,
+        _ => false,
     }
 }

@@ -4,7 +4,8 @@ ghost use Rattle.dispatch.specs.Table.{seen_slot, load_of, loaded_slot, without_
 
 use crate::table::place::Slot;
 use device_api::Device;
-use page_picture::{PageSource, Source};
+use page_picture::PageSource;
+use page_sources::Source;
 use sane_fixed::Status;
 
 /// Another page for the device in a slot: `DeviceBusy` where it is out, is not at rest or has no room for a page.

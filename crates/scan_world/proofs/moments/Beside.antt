@@ -1,6 +1,6 @@
 -- Of two jobs that name one device, and no other does, one at most is answered that it is busy: who was answered so asked while the other
 -- had it, and who has it is past its opening.
-use Rattle.std.specs.Prelude.{◌≢◌, eqb, map, option_map, slice_get, slice_index_or}
+use Rattle.std.specs.Prelude.{◌≢◌, eqb, map, slice_get, slice_index_or}
 use Rattle.std.specs.List.{AllByRecursion}
 use Rattle.std.proofs.Common.{◌≡◌, ◌∙◌, ◌⊎◌, ℕ, zero, suc, List, [], ◌∷◌, ◌++◌, Bool, true, false, Some, None, inl, inr, refl, sym, ap, subst, eqb-true}
 use Rattle.std.proofs.lemmas.Option.{get_or_from_slice_get}

@@ -5,8 +5,8 @@ use Rattle.std.proofs.lemmas.Option.{get_or_from_slice_get}
 use Rattle.page_picture.specs.Meaning.{meaning_of}
 use Rattle.page_picture.specs.Page.{PageView}
 use Rattle.page_picture.specs.Shows.{Frame}
-use Rattle.page_picture.specs.SourceView.{source_state}
-use Rattle.page_picture.specs.declared.sources.kinds.Source.{Source}
+use Rattle.page_sources.specs.SourceView.{source_state}
+use Rattle.page_sources.specs.declared.kinds.Source.{Source}
 use Rattle.device_api.specs.State.{DeviceState, HeldPage, held_from}
 use Rattle.daemon_refines.specs.ContextRefinement.{HaveSources}
 use Rattle.daemon_refines.proofs.Moved.{own}

@@ -1,7 +1,7 @@
 -- Two clients never hold one device, whatever led to the world.
 use Rattle.std.specs.Prelude.{slice_get, length, ◌≤◌}
 use Rattle.std.proofs.Common.{◌≡◌, ◌∙◌, ℕ, List, [], ◌∷◌, Some, None, refl, sym, ap, subst, arith}
-use Rattle.page_picture.specs.SourceView.{source_state}
+use Rattle.page_sources.specs.SourceView.{source_state}
 use Rattle.device_api.specs.State.{DeviceState}
 use Rattle.scan_job.specs.declared.job.Job.{Job}
 use Rattle.event_world.specs.declared.endpoint.Endpoint.{Endpoint}

@@ -1,7 +1,7 @@
 -- The loss of the data connection of a job that runs ends it.
 use Rattle.std.specs.Prelude.{IsSome, option_map, slice_get}
 use Rattle.std.proofs.Common.{◌≡◌, ◌∙◌, ℕ, List, [], ◌∷◌, true, false, Option, Some, None, refl, sym, ap, subst}
-use Rattle.page_picture.specs.SourceView.{source_state}
+use Rattle.page_sources.specs.SourceView.{source_state}
 use Rattle.sane_fixed.specs.declared.status.Status.TheVariants.{IoError}
 use Rattle.client_replies.specs.ProtocolStates.{is_lost_by}
 use Rattle.client_replies.specs.declared.progress.Link.TheVariants as links

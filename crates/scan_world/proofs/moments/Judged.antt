@@ -25,7 +25,7 @@ use Rattle.system_model.specs.AbstractInForce.{abstract_in_force}
 use Rattle.system_model.specs.Actions
 use Rattle.system_model.specs.Actions.{Action, is_some_begun}
 use Rattle.system_model.specs.Causes.{Cause, IsExplained, Explains, GaveUp, LinkLost, LinkOutOfMemory, WasUnsaid, SourceFailed, NamesEof, Names, Unforced, WasUnlisted, HadNoPicture, WasHeld, Disallowed, TrayWasEmpty, TrayRanOut, ClientOutOfMemory, IsCauseAmong}
-use Rattle.system_model.specs.Client.{AbstractJob as RuledJob, JobStage, Idle, Running, Done, Ended, ClientView}
+use Rattle.system_model.specs.Client.{AbstractJob as RuledJob, List_, JobStage, Idle, Running, Done, Ended, ClientView}
 use Rattle.system_model.specs.Daemon.{FailureCounts, Streaming}
 use Rattle.system_model.specs.Sync.{Ready, Scans}
 use Rattle.system_model.specs.Devices.{Make, picture_frames, read_status_of}
@@ -61,6 +61,7 @@ use Rattle.scan_world.proofs.Elsewhere.{elsewhere}
 use Rattle.scan_world.proofs.Jobs.{item_there}
 use Rattle.scan_world.proofs.Pages.{HasDevice, IsOfDevice, IsOfOne, acts_by, name_there}
 use Rattle.scan_world.proofs.Scanned.{infos_of, name_of}
+use Rattle.scan_world.proofs.moments.Challenged.{awaits_by, challenge_there}
 use Rattle.scan_world.proofs.moments.Entries.{linked_by, own_party}
 use Rattle.scan_world.proofs.moments.Moments.{AnsweredSo, AnswersAt, HappenedSo}
 use Rattle.scan_world.proofs.moments.Requests.{IsOpening}
@@ -187,22 +188,26 @@ not_listed h w i job s e on a opens none =
     (asked_open h w i job s on a opens, unlisted_none a.1.ghost a.1.at.before job.device a.1.stands there)
 
 -- whether its user and password are allowed for the challenge that its session had sent
-pub judged_by : (h : History) (w : WorldCore) (i : ℕ) (job : Job) (s : SystemState) (allowed : Bool) → Here h i job s → IsUnderWay (s.job i).client.stage → (s.job i).served ≡ true → (a : Front h w job s i) → (c : Challenge) → (s.job i).session.awaited ≡ Some c → (s.job i).session.job.allows c ≡ allowed → HasPassed h a.1.at.before i job allowed
-judged_by h w i job s allowed e on served a c awaited allows =
+pub judged_by : (h : History) (w : WorldCore) (i : ℕ) (job : Job) (s : SystemState) (allowed : Bool) → Here h i job s → IsUnderWay (s.job i).client.stage → (s.job i).served ≡ true → (a : Front h w job s i) → Opens (s.job i) → (c : Challenge) → (s.job i).session.awaited ≡ Some c → (s.job i).session.job.allows c ≡ allowed → HasPassed h a.1.at.before i job allowed
+judged_by h w i job s allowed e on served a o c awaited allows =
     let linked = linked_by i (make_for s i) (s.job i) (device_for s i) (s.job i).client.stage (e.sound.exchanges i) on served in
     let r = awaits_there a.1.ghost a.1.at.before i c a.1.stands (slice_get a.1.at.before.endpoints i) refl (ap (λ (u : SystemState). (u.job i).served) a.1.state ∙ served) (ap (λ (u : SystemState). (u.job i).linked) a.1.state ∙ linked) (ap (λ (u : SystemState). (u.job i).session.awaited) a.1.state ∙ awaited) in
     let so : is_allowed_for h.users job.user job.password (backend_of job.device) (challenge_of c) ≡ allowed = ap (λ (j : RuledJob). j.allows c) (sym e.is) ∙ allows in
+    let asked : (s.job i).todo ≡ Authorize c ∷ o.1 = o.2 ∙ ap (λ (q : AbstractRequest). q ∷ o.1) (awaits_by i (make_for s i) (s.job i) (device_for s i) (s.job i).client.stage o.0 o.1 c on (e.sound.exchanges i) o.2 o.3 awaited) in
+    let text = challenge_there a.1.ghost a.1.at.before i c o.1 a.1.stands (subst (λ (u : SystemState). IsUnderWay (u.job i).client.stage) (sym a.1.state) on) (ap (λ (u : SystemState). (u.job i).todo) a.1.state ∙ asked) in
     record {
       session = r.0;
       stands = r.2;
       sent = r.1;
       awaited = r.3;
       guarded = ap (λ (j : RuledJob). j.guarded) (sym e.is) ∙ e.asks c awaited;
-      is = subst (λ (x : _). is_allowed_for h.users job.user job.password (backend_of job.device) (challenge_of x) ≡ allowed) r.4 so;
+      challenge = text.0;
+      read = ap challenge_of (sym r.4) ∙ text.1;
+      is = subst (λ (o : Option (List ℕ)). is_allowed_for h.users job.user job.password (backend_of job.device) o ≡ allowed) text.1 so;
     }
 
 not_allowed : (h : History) (w : WorldCore) (i : ℕ) (job : Job) (s : SystemState) → Here h i job s → IsUnderWay (s.job i).client.stage → (s.job i).served ≡ true → Front h w job s i → Opens (s.job i) → (c : Challenge) → (s.job i).session.awaited ≡ Some c → (s.job i).session.job.allows c ≡ false → rows.WasDisallowed h w i job
-not_allowed h w i job s e on served a opens c awaited denied = (asked_open h w i job s on a opens, judged_by h w i job s false e on served a c awaited denied)
+not_allowed h w i job s e on served a opens c awaited denied = (asked_open h w i job s on a opens, judged_by h w i job s false e on served a opens c awaited denied)
 
 -- its device is had, and has no page
 abbrev HasNone : ℕ → AbstractDevice → Type 0
@@ -344,16 +349,18 @@ pick h w changing i job status why [] a e = absurd e
 pick h w changing i job status why (c ∷ met) a (inl e) = (c, a.0, inl refl, e)
 pick h w changing i job status why (c ∷ met) a (inr e) = let r = pick h w changing i job status why met a.1 e in (r.0, r.1, inr r.2, r.3)
 
-forced_same : (h : History) (w : WorldCore) (i : ℕ) (job : Job) (s : SystemState) → Here h i job s → abstract_in_force (make_for s i) (s.job i).session.job.settings ≡ None → NotForced h job
-forced_same h w i job s e none =
+forced_same : (h : History) (w : WorldCore) (i : ℕ) (job : Job) (s : SystemState) → Here h i job s → abstract_in_force (make_for s i) (s.job i).session.job.settings ≡ None → (s.job i).session.job.task ≢ List_ → NotForced h job
+forced_same h w i job s e none other =
     let place : wanted_place s i ≡ place_named (infos_of h) job.device = e.fine.places i ∙ own_place h i job e.own_job.at in
     let known = e.fine.makes (wanted_place s i) in
-    let make : make_for s i ≡ make_of known.sources (slice_get h.devices (place_named (infos_of h) job.device)) = known.is ∙ ap (λ (d : ℕ). make_of known.sources (slice_get h.devices d)) place in
-    (known.sources, subst (λ (k : Make). abstract_in_force k (map requested_setting job.settings.items) ≡ None) make (ap (λ (j : RuledJob). abstract_in_force (make_for s i) j.settings) (sym e.is) ∙ none))
+    let make : make_for s i ≡ make_of known.sources (slice_get h.devices (place_named (infos_of h) job.device)) = known.is ∙ ap (λ (d : ℕ). make_of known.sources (slice_get h.devices d)) place in (
+      λ list. other (ap (λ (j : RuledJob). j.task) e.is ∙ ap task_of list),
+      (known.sources, subst (λ (k : Make). abstract_in_force k (map requested_setting job.settings.items) ≡ None) make (ap (λ (j : RuledJob). abstract_in_force (make_for s i) j.settings) (sym e.is) ∙ none)),
+    )
 
 caused : (h : History) (w : WorldCore) (changing : List JointEvent) (i : ℕ) (job : Job) (s : SystemState) (status : Status) (why : Why) → Here h i job s → AllByRecursion (Evid h w changing i job) (s.job i).session.met → IsCaused (make_for s i) (s.job i).session status why → EndedBy h w changing i job (s.job i).session.met status why
 caused h w changing i job s status why e a (inl c) = inl (pick h w changing i job status why (s.job i).session.met a c)
-caused h w changing i job s status why e a (inr c) = inr (forced_same h w i job s e c.0, c.1)
+caused h w changing i job s status why e a (inr c) = inr (forced_same h w i job s e c.0.0 c.0.1, c.1)
 
 -- all of its causes are so
 judge_all : (h : History) (w : WorldCore) (changing : List JointEvent) (i : ℕ) (job : Job) (s : SystemState) (stage : JobStage) → (s.job i).client.stage ≡ stage → Here h i job s → AllByRecursion (Evid h w changing i job) (s.job i).session.met → Judged h w changing i job (s.job i).session.met (s.job i).client.pages stage

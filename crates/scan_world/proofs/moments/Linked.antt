@@ -1,7 +1,7 @@
 -- A job that runs and was connected is linked, and the loss of that link ends it.
 use Rattle.std.specs.Prelude.{slice_get, slice_set, option_map, Contains, is_some, IsSome, if◌then◌else◌, nat_lt, ◌&&◌, ◌+◌}
 use Rattle.std.proofs.Common.{◌≡◌, ◌∙◌, ◌⊎◌, ℕ, zero, suc, List, [], ◌∷◌, Bool, true, false, Option, Some, None, refl, sym, ap, subst, inl, inr, arith}
-use Rattle.page_picture.specs.SourceView.{source_state}
+use Rattle.page_sources.specs.SourceView.{source_state}
 use Rattle.sane_fixed.specs.declared.status.Status.TheVariants.{IoError}
 use Rattle.client_replies.specs.ProtocolStates.{is_batch, is_running}
 use Rattle.saned_core.specs.declared.session_slot.Fed.{Fed}

@@ -37,6 +37,7 @@ use Rattle.world_refines.proofs.state.Finding.{find_there, names_at}
 use Rattle.scan_world.specs.Endings.{HasPassed, WasOpened}
 use Rattle.scan_world.specs.Histories.{History}
 use Rattle.scan_world.specs.Sessions.{Has, StrangerHas}
+use Rattle.scan_world.proofs.Evident.{Opens}
 use Rattle.scan_world.proofs.Along.{Here, Laws, own_place}
 use Rattle.scan_world.proofs.Begun.{job_stays, party_stays}
 use Rattle.scan_world.proofs.Pages.{HasDevice, IsOfOne, name_there}
@@ -180,9 +181,9 @@ none_shares t w name k h free named x =
     let same : m.place ≡ k = h.is_of.apart m.place k name m.named named in
     let clash : None ≡ Some (stranger_of w m.number) = sym free ∙ (ap (λ (n : ℕ). (t.system.device n).holder) (sym same) ∙ m.held) in cc
 
-permitted_by : (h : History) (w : WorldCore) (i : ℕ) (job : Job) (s : SystemState) → Here h i job s → IsUnderWay (s.job i).client.stage → (s.job i).served ≡ true → (a : Front h w job s i) → ((s.job i).session.job.guarded ≡ false) ⊎ ((c : Challenge) × ((s.job i).session.awaited ≡ Some c) × ((s.job i).session.job.allows c ≡ true)) → (is_guarded h.users (backend_of job.device) ≡ false) ⊎ HasPassed h a.1.at.before i job true
-permitted_by h w i job s e on served a (inl unguarded) = inl (ap (λ (j : AbstractJob). j.guarded) (sym e.is) ∙ unguarded)
-permitted_by h w i job s e on served a (inr (c, awaited, allows)) = inr (judged_by h w i job s true e on served a c awaited allows)
+permitted_by : (h : History) (w : WorldCore) (i : ℕ) (job : Job) (s : SystemState) → Here h i job s → IsUnderWay (s.job i).client.stage → (s.job i).served ≡ true → (a : Front h w job s i) → Opens (s.job i) → ((s.job i).session.job.guarded ≡ false) ⊎ ((c : Challenge) × ((s.job i).session.awaited ≡ Some c) × ((s.job i).session.job.allows c ≡ true)) → (is_guarded h.users (backend_of job.device) ≡ false) ⊎ HasPassed h a.1.at.before i job true
+permitted_by h w i job s e on served a o (inl unguarded) = inl (ap (λ (j : AbstractJob). j.guarded) (sym e.is) ∙ unguarded)
+permitted_by h w i job s e on served a o (inr (c, awaited, allows)) = inr (judged_by h w i job s true e on served a o c awaited allows)
 
 -- it was opened, and there is such a device
 abbrev pub IsOpened : History → WorldCore → ℕ → Job → Type 0
@@ -205,7 +206,7 @@ opened_by h w i job s x q rest e on served a todo guards allows g =
       listed = listed_found t a.1.at.before job.device (wanted_place s i) a.1.stands (ap (λ (dev : AbstractDevice). dev.listed) same ∙ g.listed) named;
       free = none_has t a.1.at.before job.device (wanted_place s i) a.1.stands (ap (λ (dev : AbstractDevice). dev.holder) same ∙ g.free) named;
       unshared = none_shares t a.1.at.before job.device (wanted_place s i) a.1.stands (ap (λ (dev : AbstractDevice). dev.holder) same ∙ g.free) named;
-      permitted = permitted_by h w i job s e on served a may;
+      permitted = permitted_by h w i job s e on served a (q, rest, todo, g.opens) may;
     } in
     (opened, there)
 

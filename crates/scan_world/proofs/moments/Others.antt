@@ -1,10 +1,10 @@
 -- What comes to others leaves a session as it stands.
-use Rattle.std.specs.Prelude.{Contains, if◌then◌else◌, ◌==◌, ◌<◌, slice_get}
+use Rattle.std.specs.Prelude.{Contains, if◌then◌else◌, ◌==◌, slice_get}
 use Rattle.std.specs.List.{list_any}
 use Rattle.std.proofs.Common.{◌≡◌, ◌≢◌, ◌∙◌, ◌⊎◌, inl, inr, ℕ, zero, suc, List, [], ◌∷◌, Option, Some, None, Bool, true, false, refl, sym, ap, subst, arith}
 use Rattle.std.proofs.lemmas.Bool.Decides.{nat_tests}
 use Rattle.page_picture.specs.Source.{SourceState}
-use Rattle.page_picture.specs.SourceView.{source_state}
+use Rattle.page_sources.specs.SourceView.{source_state}
 use Rattle.device_api.specs.State.{DeviceState, is_at_rest}
 use Rattle.dispatch.specs.declared.table.place.Lease.{Lease}
 use Rattle.dispatch.specs.Table.{after_unplug, loaded_device, table_after_load}
@@ -15,7 +15,7 @@ use Rattle.saned_core.specs.DaemonStates.{Core, is_slot_number, session_in, sess
 use Rattle.saned_core.specs.Loading.{core_after_load, held_with, holds, is_lease_named, lease_with, on_first, slot_with_page}
 use Rattle.scan_job.specs.declared.job.Job.{Job}
 use Rattle.event_world.specs.declared.endpoint.Endpoint.{Endpoint}
-use Rattle.page_picture.specs.declared.sources.kinds.Source.{Source}
+use Rattle.page_sources.specs.declared.kinds.Source.{Source}
 use Rattle.event_world.specs.declared.event.Event.{Event}
 use Rattle.event_world.specs.declared.event.Event.TheVariants as events
 use Rattle.event_world.specs.declared.event.JobEvent.{JobEvent}

@@ -2,7 +2,7 @@
 use Rattle.std.specs.Prelude.{◌<◌, eqb, map, slice_get}
 use Rattle.std.proofs.Common.{◌≡◌, ◌∙◌, ℕ, zero, suc, arith, List, [], ◌∷◌, Bool, true, false, Some, refl, sym, ap, subst, eqb-true}
 use Rattle.page_picture.specs.Shows.{Frame}
-use Rattle.page_picture.specs.SourceView.{source_state}
+use Rattle.page_sources.specs.SourceView.{source_state}
 use Rattle.sane_fixed.specs.declared.device_info.DeviceInfo.{DeviceInfo}
 use Rattle.frame_join.specs.FrameHistory.{JoinHistory}
 use Rattle.client_replies.specs.ProtocolStates.{is_running, target_of}

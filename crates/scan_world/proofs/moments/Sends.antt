@@ -6,7 +6,7 @@ use Rattle.sane_fixed.specs.Status.{status_code}
 use Rattle.sane_fixed.specs.declared.status.Status.TheVariants as codes
 use Rattle.sane_fixed.specs.declared.device_info.DeviceInfo.{DeviceInfo}
 use Rattle.data_records.specs.Records.{end_record}
-use Rattle.page_picture.specs.SourceView.{source_state}
+use Rattle.page_sources.specs.SourceView.{source_state}
 use Rattle.daemon_refines.proofs.Moved.{own}
 use Rattle.system_model.specs.Actions as model_actions
 use Rattle.system_model.specs.SystemStates.{with_entry}

@@ -16,7 +16,6 @@ use Rattle.system_model.specs.Invariants.{PagesAreOfStarts}
 use Rattle.system_model.specs.Sync.{Ready}
 use Rattle.system_model.specs.SystemStates.{JobState, SystemState, device_for, listed_devices, make_for, wanted_place}
 use Rattle.system_model.specs.Transitions.{By, IsEnabled, IsHistory, IsUnderWay, Loads, Transition, Unplugs, Uses, after_all, after_transition}
-use Rattle.event_world.specs.declared.event.Event.{Event}
 use Rattle.event_world.specs.Worlds.{WorldCore}
 use Rattle.world_refines.specs.FailedSources.{AllAlong}
 use Rattle.world_refines.specs.GhostStates.{place_named}

@@ -7,7 +7,7 @@ use Rattle.scan_laws.specs.Passes.{IsInScan}
 use Rattle.system_model.specs.AbstractMessages.{AbstractRequest, Start}
 use Rattle.system_model.specs.AbstractDevices.{AbstractDevice, Begin, Between, Resting, is_resting}
 use Rattle.system_model.specs.Actions.{is_some_begun}
-use Rattle.system_model.specs.Client.{AbstractProgress, JobStage, Idle, Running, Done, Ended, Greeting, Listing, Opening, Allowing, Describing, Putting, Getting, Starting, Shaping, Imaging, ClientView, request_awaited}
+use Rattle.system_model.specs.Client.{AbstractProgress, JobStage, Idle, Running, Done, Ended, Starting, ClientView, request_awaited}
 use Rattle.system_model.specs.Devices.{Make}
 use Rattle.system_model.specs.Invariants.{StageInvariant}
 use Rattle.system_model.specs.SystemStates.{JobState, SessionView}

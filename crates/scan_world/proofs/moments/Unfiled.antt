@@ -1,7 +1,7 @@
 -- A job that does not scan keeps its empty file.
 use Rattle.std.specs.Prelude.{if◌then◌else◌, ◌&&◌, ◌+◌, nat_lt, slice_get, slice_set}
 use Rattle.std.proofs.Common.{◌≡◌, ◌∙◌, ℕ, zero, suc, List, [], ◌∷◌, Bool, true, false, Option, Some, None, inl, inr, refl, sym, ap, subst}
-use Rattle.page_picture.specs.SourceView.{source_state}
+use Rattle.page_sources.specs.SourceView.{source_state}
 use Rattle.client_replies.specs.ProtocolStates.{is_batch, is_running, scans}
 use Rattle.saned_core.specs.declared.session_slot.Fed.{Fed}
 use Rattle.saned_core.specs.declared.session_slot.Fed.TheVariants as feds
@@ -19,7 +19,7 @@ use Rattle.event_world.specs.declared.event.JobEvent.{JobEvent}
 use Rattle.event_world.specs.declared.event.JobEvent.TheVariants.{Connect, ToDaemon, ToClient, DataConnect, DataTurn, DataToClient, LoseControl, LoseImage, Cancel}
 use Rattle.event_world.specs.Endpoints.{after_move, laid_by, shut_out, with_image_link, with_link, without_image_link, without_link}
 use Rattle.event_world.specs.JobEvents.{Connects, Does, Happens, HeedsPiece, IfLinked, SendsRecord, SendsStep, TakesDataPiece, after_fed, is_done, with_last_page, without_sent}
-use Rattle.event_world.specs.Worlds.{AreNew, AtEndpoint, Leads, Runs, WorldCore}
+use Rattle.event_world.specs.Worlds.{AreNew, AtEndpoint, Leads, WorldCore}
 use Rattle.event_world.proofs.Deciding.{can_or_not}
 use Rattle.strangers.specs.Together.{JointEvent, RunsAmong}
 use Rattle.strangers.specs.Together.JointEvent.{OfJobs, OfStranger}

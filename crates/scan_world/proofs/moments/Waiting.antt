@@ -5,10 +5,9 @@ use Rattle.client_replies.specs.declared.progress.Progress.TheVariants as stages
 use Rattle.system_model.specs.AbstractMessages.{AbstractRequest, GetDevices, Open, Authorize, Start}
 use Rattle.system_model.specs.Transitions.{IsUnderWay}
 use Rattle.event_world.specs.Worlds.{WorldCore}
-use Rattle.world_refines.specs.FailedSources.{AwaitsAnswer}
 use Rattle.world_refines.specs.GhostStates.{Ghost}
 use Rattle.world_refines.specs.WorldRefinement.{WorldRefines}
-use Rattle.world_refines.proofs.requests.Waiting.{waits_there as waits_so}
+use Rattle.world_refines.proofs.requests.Waiting.{AwaitsAnswer, waits_there as waits_so}
 use Rattle.scan_world.specs.Sessions.{IsAtList, IsAtOpen, IsAtStart}
 use Rattle.scan_world.proofs.Rows.{WaitsAt}
 

@@ -1,4 +1,4 @@
-use config_pages::{DeviceFault, Inputs, NoPage, ScannerFault, scanners};
+use config_pages::{Inputs, scanners, text_of};
 use device_api::Device;
 use dispatch::parse_config;
 use sane_fixed::ByteOrder;
@@ -6,8 +6,9 @@ use saned_cli::{DaemonEnding, DaemonOptions, config_lines, read_options, users_o
 use std::alloc::Global;
 use std::io::{self, ErrorKind};
 use std::process::Abort;
+use std::test::Fail;
 
-/// A text on standard input, and one for each of the two files.
+/// A text on standard input, and one in a file of that name.
 struct Texts {
     standard: &'static [u8],
     text: &'static [u8],
@@ -37,11 +38,11 @@ impl Inputs for Texts {
 
 const TEXTS: Texts = Texts {
     standard: b"hand 3 26 a.pnm\n",
-    text: b"flatbed 0 26 a.pnm\n",
+    text: b"user:pass:flatbed\n",
 };
 
-/// The options of these two words behind the program's name.
-fn options(rt: &impl Abort, alloc: Global, words: [&str; 6]) -> DaemonOptions {
+/// The options of these words behind the program's name.
+fn options(rt: &impl Abort, alloc: Global, words: &[&str]) -> DaemonOptions {
     let mut all = Vec::new(alloc);
     for word in words {
         let word = String::from_str(alloc, word).expect(rt, "memory");
@@ -50,59 +51,33 @@ fn options(rt: &impl Abort, alloc: Global, words: [&str; 6]) -> DaemonOptions {
     read_options(alloc, all.as_slice()).expect(rt, "options")
 }
 
-/// Where the config is, and the index of the device that its only line tells of, if it is read.
-const CONFIGS: [(&str, Option<u32>); 3] = [("-", Some(3)), ("file", Some(0)), ("other", None)];
-
-/// The config that is named is read, and no other.
+/// The config and the users that are named are read, and no other.
 #[test]
-fn the_config_that_is_named(rt: HostRuntime) {
+fn the_files_that_are_named(rt: HostRuntime) {
     let alloc = rt.alloc();
-    for (path, index) in CONFIGS {
-        let words = ["saned", "--config", path, "--port", "0", "--pad-strings"];
-        let options = options(&rt, alloc, words);
-        let lines = config_lines(alloc, &TEXTS, &options);
-        let found = match &lines {
-            Ok(lines) => lines.first().map(|line| line.index),
-            Err(_) => None,
-        };
-        assert!(&rt; found == index);
-        drop(lines);
-        drop(options);
-    }
-}
-
-const USERS: Texts = Texts {
-    standard: b"",
-    text: b"user:pass:flatbed\n",
-};
-
-/// The users of the file that is named are taken, and none where no file is.
-#[test]
-fn the_users_that_are_named(rt: HostRuntime) {
-    let alloc = rt.alloc();
-    let words = ["saned", "--config", "-", "--port", "0", "--pad-strings"];
-    let none = options(&rt, alloc, words);
-    let Ok(users) = users_of(alloc, &USERS, &none) else {
+    let found = options(
+        &rt,
+        alloc,
+        &["saned", "--config=-", "--users=file", "--seed=0"],
+    );
+    let Ok(lines) = config_lines(alloc, &TEXTS, &found) else {
+        panic!(&rt; "no lines")
+    };
+    assert!(&rt; lines.len() == 1 && lines.as_slice().iter().all(|line| line.index == 3));
+    let Ok(users) = users_of(alloc, &TEXTS, &found) else {
         panic!(&rt; "no users")
     };
-    assert!(&rt; !users.needs(b"flatbed"));
-    let words = ["saned", "--config=-", "--users", "file", "--seed", "00"];
-    let file = options(&rt, alloc, words);
-    let Ok(users) = users_of(alloc, &USERS, &file) else {
-        panic!(&rt; "no users of a file")
-    };
-    assert!(&rt; users.needs(b"flatbed"));
-    let words = ["saned", "--config=-", "--users", "other", "--seed", "00"];
-    let other = options(&rt, alloc, words);
-    assert!(&rt;
-        matches!(
-            users_of(alloc, &USERS, &other),
-            Err(DaemonEnding::CannotRead(_))
-        )
+    assert!(&rt; users.needs(b"flatbed") && !users.needs(b"hand"));
+    let other = options(
+        &rt,
+        alloc,
+        &["saned", "--config=-", "--users=other", "--seed=0"],
     );
+    let read = users_of(alloc, &TEXTS, &other);
+    assert!(&rt; matches!(read, Err(DaemonEnding::CannotRead(_))));
 }
 
-/// A scanner of each kind, on a page of one gray place, and a feeder with three of them.
+/// A scanner of each kind, on a page of one gray place, and a feeder with two of them.
 const FOUR: &[u8] = b"threepass 7 26 hex:50350a3120310a3235350a0b\n\
     feeder 2 26 hex:50350a3120310a3235350a0b hex:50350a3120310a3235350a0c\n\
     hand 0 26 hex:50350a3120310a3235350a0d\n\
@@ -112,30 +87,22 @@ const NAMES: [&[u8]; 4] = [b"threepass:7", b"feeder:2", b"hand:0", b"flatbed:9"]
 
 /// The scanners of a config are one of each line, in their order.
 #[test]
-fn scanners_of_the_lines(rt: HostRuntime) {
-    let alloc = rt.alloc();
-    let lines = parse_config(alloc, FOUR).expect(&rt, "a config");
-    let made = scanners(&rt, lines.as_slice(), ByteOrder::Big).expect(&rt, "scanners");
-    assert!(&rt; made.len() == 4);
+fn scanners_of_the_lines(rt: HostRuntime) -> Result<(), Fail> {
+    let lines = parse_config(rt.alloc(), FOUR)?;
+    let made = scanners(&rt, lines.as_slice(), ByteOrder::Big)?;
+    assert!(rt; made.len() == 4);
     for (scanner, name) in made.as_slice().iter().zip(NAMES) {
-        assert!(&rt; scanner.info().name.as_bytes() == name);
-        assert!(&rt; scanner.order() == ByteOrder::Big);
-        assert!(&rt; scanner.at_rest());
+        assert!(rt; scanner.info().name.as_bytes() == name && scanner.at_rest());
+        assert!(rt; scanner.order() == ByteOrder::Big);
     }
+    Ok(())
 }
 
-/// The first line whose page is not there is told.
+/// No more is read of a text than its limit.
 #[test]
-fn a_line_without_its_page(rt: HostRuntime) {
-    let alloc = rt.alloc();
-    let text = b"\nflatbed 1 26 hex:50350a3120310a3235350a0b\nhand 0 26 hex:5\nhand 1 26 hex:\n";
-    let lines = parse_config(alloc, text).expect(&rt, "a config");
-    let Err(why) = scanners(&rt, lines.as_slice(), ByteOrder::Big) else {
-        panic!(&rt; "scanners")
-    };
-    let told = ScannerFault {
-        line: 3,
-        fault: DeviceFault::NoPage(NoPage::BadMagic),
-    };
-    assert!(&rt; why == told);
+fn texts_are_read_to_their_limit(rt: HostRuntime) -> Result<(), Fail> {
+    let (front, whole) = (b"ab".as_slice(), b"abc".as_slice());
+    assert!(rt; text_of(rt.alloc(), whole, 2)?.as_slice() == front);
+    assert!(rt; text_of(rt.alloc(), whole, 9)?.as_slice() == whole);
+    Ok(())
 }

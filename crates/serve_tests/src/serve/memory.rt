@@ -10,13 +10,14 @@ use std::process::Abort;
 #[derive(Drop)]
 pub struct MemorySocket {
     pub script: Vec<u8>,
-    at: usize,
+    /// How many bytes of its script were read.
+    pub at: usize,
     /// The most that a call moves.
-    piece: usize,
+    pub piece: usize,
     /// How many writes, the first ones, take nothing.
-    deaf: u64,
+    pub deaf: u64,
     /// It is lost behind its script, and once it has taken all that it takes.
-    is_cut: bool,
+    pub is_cut: bool,
     pub out: Vec<u8>,
     /// How many bytes more it takes.
     room: usize,
@@ -37,29 +38,6 @@ impl MemorySocket {
             out: Vec::new(alloc),
             room,
         })
-    }
-
-    /// At most so many bytes move in a call.
-    pub fn by(mut self, piece: usize) -> MemorySocket {
-        self.piece = piece;
-        self
-    }
-
-    /// So many writes take nothing.
-    pub fn deaf(mut self, writes: u64) -> MemorySocket {
-        self.deaf = writes;
-        self
-    }
-
-    /// It is lost behind its script, and once it has taken all that it takes.
-    pub fn cut(mut self) -> MemorySocket {
-        self.is_cut = true;
-        self
-    }
-
-    /// How many bytes of its script were read.
-    pub fn heard(&self) -> usize {
-        self.at
     }
 }
 

@@ -384,6 +384,7 @@ turn_failed t w i p id mid fault h at link shows f =
           named = lease_named i t.system.make t.users t.infos (t.jobs i) (core_context w.daemon shows.session) t.system.device (t.system.job i) f.device_word l (h.endpoints i p at).job_is h.is_of.infos shows.shows held;
           after = f.failed.after;
           stopped = f.failed.failed.stopped;
+          amid = f.failed.failed.left;
           left = inl (record { session = f.new; stands = stands; held = f.failed.stands });
         }
 

@@ -1,7 +1,7 @@
 -- What no event changes: the users, the devices' infos, the jobs, and what never changes of each device.
 use Rattle.std.proofs.Common.{◌≡◌, ◌∙◌, ◌⊎◌, ℕ, List, [], ◌∷◌, inl, inr, refl, ap}
 use Rattle.page_picture.specs.Source.{SourceState}
-use Rattle.page_picture.specs.declared.sources.kinds.Source.{Source}
+use Rattle.page_sources.specs.declared.kinds.Source.{Source}
 use Rattle.sane_fixed.specs.declared.device_info.DeviceInfo.{DeviceInfo}
 use Rattle.md5_auth.specs.declared.users.Entry.{Entry}
 use Rattle.scan_job.specs.declared.job.Job.{Job}

@@ -7,7 +7,7 @@ use Rattle.page_picture.specs.Source.{SourceState}
 use Rattle.sane_fixed.specs.declared.device_info.DeviceInfo.{DeviceInfo}
 use Rattle.device_api.specs.Kinds.{Page}
 use Rattle.system_model.specs.Devices.{Make}
-use Rattle.page_picture.specs.declared.sources.kinds.Source.{Source}
+use Rattle.page_sources.specs.declared.kinds.Source.{Source}
 use Rattle.system_model.specs.Actions.{Action as Ruled}
 use Rattle.system_model.specs.Actions as model_actions
 use Rattle.saned_core.specs.DaemonStates.{Core}

@@ -1,5 +1,5 @@
 -- The event of a delivery to the daemon.
-use Rattle.std.specs.Prelude.{is_some, length, map, not, IsSome}
+use Rattle.std.specs.Prelude.{Any, is_some, length, map, not, IsSome}
 use Rattle.std.specs.List.{AllByRecursion}
 use Rattle.std.proofs.Common.{◌≡◌, ◌≢◌, ◌⊎◌, inl, inr, ◌∙◌, ℕ, zero, suc, ◌<◌, List, [], ◌∷◌, ◌++◌, Option, Some, None, Bool, true, false, refl, sym, ap, subst, slice_get, slice_set, append_assoc, append-nil, arith}
 use Rattle.sane_fixed.specs.declared.status.Status.{Status}
@@ -22,7 +22,7 @@ use Rattle.wire_message.specs.declared.message.Request.{Request as WireRequest}
 use Rattle.net_client.specs.Sending.{requests_text}
 use Rattle.client_refines.specs.RequestRefinement.{AreRequests}
 use Rattle.saned_core.specs.Feeding as daemon
-use Rattle.saned_core.specs.Feeding.{Feeds, input_in, core_context}
+use Rattle.saned_core.specs.Feeding.{Feeds, IsUnsaid, input_in, core_context}
 use Rattle.saned_core.specs.Inside.{FeedsIn, slot_or_none_after_feed}
 use Rattle.saned_core.proofs.FeedCases.{feeds_in}
 use Rattle.scan_job.specs.declared.job.Job.{Job}
@@ -56,7 +56,7 @@ use Rattle.world_refines.specs.Wires.{FlightMatches, FlowsBy, SpellsAsked, Spell
 use Rattle.world_refines.specs.WorldRefinement.{HasNoEnd, IsFaithfulLease, IsFaithfulSessionSlot, IsFaithfulSession, IsServed, WorldRefines, slot_of_link, session_by, AreStartedViews}
 use Rattle.world_refines.specs.Speaks.{Speaks}
 use Rattle.world_refines.specs.GhostEvents.{GhostCan, GhostLeads}
-use Rattle.world_refines.specs.FailedSources.{AllAlong, AwaitsAnswer, CutIn, FailedIn, FailsIn, FailsSo, HoldsLease, InEvent}
+use Rattle.world_refines.specs.FailedSources.{AllAlong, CutIn, FailedIn, FailsIn, FailsSo, HoldsLease, InEvent}
 use Rattle.saned_requests.specs.LeaseLaws.{HoldsWell, IsIn}
 use Rattle.saned_requests.proofs.Returning.{all_return}
 use Rattle.world_refines.proofs.requests.Lent.{holds_well}
@@ -67,7 +67,7 @@ use Rattle.world_refines.proofs.requests.Closing.{Closed, broken, keeps_stayed}
 use Rattle.world_refines.proofs.requests.FedSlot.{HeldTrue, IsNotOn, leaves_fed, left_down, replaces_fed, slot_on, slot_over}
 use Rattle.world_refines.proofs.state.Faithful.{TakesSlot, slot_all}
 use Rattle.world_refines.proofs.requests.Fed.{FedSo, fed_stands, fed_wires}
-use Rattle.world_refines.proofs.requests.Waiting.{waits_there}
+use Rattle.world_refines.proofs.requests.SameRequest.{any_amid, asked_there}
 use Rattle.daemon_refines.proofs.Moved.{unsome}
 use Rattle.world_refines.proofs.requests.RequestDeliveries.{UnsaidAt, IsCountedAlone, counted_alone, cut_piece, is_over, is_starved, same_count}
 use Rattle.world_refines.proofs.requests.FailedRequests.{counted_fails, fails_alone, lease_named}
@@ -210,6 +210,7 @@ failed_by t w i p id session e context fault r left f well = record {
   named = lease_named i t.system.make t.users t.infos (t.jobs i) (core_context w.daemon session) t.system.device (t.system.job i) 0 f.lease r.in_context.job_is r.in_context.infos r.in_context.shows f.stood;
   after = f.after;
   stopped = f.failed.stopped;
+  amid = f.failed.left;
   left = left_by e id.number 0 context (record f.lease { device = f.after }) left well f.stands;
 }
 
@@ -224,8 +225,6 @@ fails_here t w i p id session e context chances asked later r count are counted 
 -- a reply that could not be said
 cut_there : (t : Ghost) (w : WorldCore) (i : ℕ) (p : Endpoint) (id : SessionId) (session : RequestSession DeviceState) → Ready t w i p id session → IsUnderWay (t.system.job i).client.stage → UnsaidAt t i (core_context w.daemon session) (t.system.job i).todo → CutIn w i (t.jobs i)
 cut_there t w i p id session r on u =
-    let waits = waits_there t w i u.next u.later r.stands on u.todo_is in
-    let one : waits.0 ≡ p = unsome waits.0 p (sym waits.1 ∙ r.at) in
     record {
       endpoint = p;
       is_there = r.at;
@@ -234,18 +233,11 @@ cut_there t w i p id session r on u =
       session = session;
       stands = ap session_in r.slot_is ∙ r.going;
       request = u.request;
-      known = (t.system.job i).client.known;
-      asked = u.next;
-      is = u.is;
-      waits = subst (λ (x : Endpoint). AwaitsAnswer u.next x.client.progress) one waits.2;
+      waits = asked_there t w i p u.next u.later u.request r.stands r.at on u.todo_is u.is;
       said = u.said;
       then_is = u.then_is;
       answers = subst (λ (users : List Entry). AnswersRequest users (core_context w.daemon session) u.request u.said u.then_is) r.stands.is_of.users u.answers;
-      front = u.front;
-      reply = u.reply;
-      behind = u.behind;
-      among = u.among;
-      unsaid = u.unsaid;
+      unsaid = subst (Any IsUnsaid) (sym u.among) (any_amid IsUnsaid u.front u.behind u.reply u.unsaid);
     }
 
 broken_fails : (F : Bool → ℕ → Type 0) (i : ℕ) (memory : Bool) (s : SystemState) → (memory ≡ false → IsUnderWay (s.job i).client.stage → F false i) → FailsSo F s (broken i memory)

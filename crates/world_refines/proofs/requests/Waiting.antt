@@ -13,7 +13,7 @@ use Rattle.client_replies.specs.declared.progress.Progress.{Progress}
 use Rattle.client_replies.specs.declared.progress.Progress.TheVariants as stages
 use Rattle.client_refines.specs.ClientRefinement.{OutcomeRefines, WaitsAs, requested_setting}
 use Rattle.system_model.specs.AbstractDevices.{AbstractDevice}
-use Rattle.system_model.specs.AbstractMessages.{AbstractRequest, Set}
+use Rattle.system_model.specs.AbstractMessages.{AbstractRequest, Init, GetDevices, Open, Authorize, Describe, Get, Set, Parameters, Start}
 use Rattle.system_model.specs.Client.{AbstractJob, AbstractProgress, JobStage, Idle, Running, Done, Ended, Greeting, Listing, Opening, Allowing, Describing, Putting, Getting, Starting, Shaping, Imaging, ClientView, request_awaited}
 use Rattle.system_model.specs.Devices.{Make}
 use Rattle.system_model.specs.Invariants.{StageInvariant}
@@ -21,7 +21,6 @@ use Rattle.system_model.specs.SystemStates.{JobState, device_for, make_for}
 use Rattle.system_model.specs.Transitions.{IsUnderWay}
 use Rattle.event_world.specs.declared.endpoint.Endpoint.{Endpoint}
 use Rattle.event_world.specs.Worlds.{WorldCore}
-use Rattle.world_refines.specs.FailedSources.{AwaitsAnswer}
 use Rattle.world_refines.specs.GhostStates.{Ghost, place_of_info}
 use Rattle.world_refines.specs.WorldRefinement.{WorldRefines, client_at_greeting}
 
@@ -30,6 +29,19 @@ end_of [] j e = omega arith
 end_of (x ∷ xs) zero e = absurd (let clash : Some x ≡ None = e in cc)
 end_of (x ∷ xs) (suc j) e = omega (arith, end_of xs j e)
 
+-- the client waits for the answer to that request of the model
+abbrev pub AwaitsAnswer : AbstractRequest → Progress → Type 0
+AwaitsAnswer Init stages.Greeting = Unit {0}
+AwaitsAnswer GetDevices stages.Listing = Unit {0}
+AwaitsAnswer Open stages.Opening = Unit {0}
+AwaitsAnswer (Authorize challenge) (stages.Allowing resource answer) = Unit {0}
+AwaitsAnswer Describe stages.Describing = Unit {0}
+AwaitsAnswer (Set n value) (stages.Putting m kind name asked) = Unit {0}
+AwaitsAnswer (Get n) (stages.Getting m kind size) = Unit {0}
+AwaitsAnswer Start (stages.Starting first) = Unit {0}
+AwaitsAnswer Parameters (stages.Shaping port order) = Unit {0}
+AwaitsAnswer q progress = ⊥
+
 by_ask : (progress : Progress) (q r : AbstractRequest) (rest : List AbstractRequest) → q ∷ rest ≡ r ∷ [] → AwaitsAnswer r progress → AwaitsAnswer q progress
 by_ask progress q r rest e waits = let same : r ≡ q = cc in subst (λ (x : AbstractRequest). AwaitsAnswer x progress) same waits
 
@@ -37,10 +49,10 @@ by_ask progress q r rest e waits = let same : r ≡ q = cc in subst (λ (x : Abs
 asks : (m : ClientView) (g h : AbstractProgress) (q : AbstractRequest) (rest : List AbstractRequest) → m.stage ≡ Running g → m.stage ≡ Running h → q ∷ rest ≡ request_awaited g → q ∷ rest ≡ request_awaited h
 asks m g h q rest at is e = let same : g ≡ h = (let both : Running g ≡ Running h = sym at ∙ is in cc) in e ∙ ap request_awaited same
 
-abbrev Silent : Progress → Type 0
+abbrev pub Silent : Progress → Type 0
 Silent progress = progress ≡ stages.Reopening → ⊥
 
-abbrev Unturned : Progress → Type 0
+abbrev pub Unturned : Progress → Type 0
 Unturned progress = progress ≡ stages.Turning → ⊥
 
 waits_for : (job : AbstractJob) (progress : Progress) (notes : Notes) (past : JoinHistory) (m : ClientView) (g : AbstractProgress) (q : AbstractRequest) (rest : List AbstractRequest) → m.stage ≡ Running g → q ∷ rest ≡ request_awaited g → Silent progress → Unturned progress → WaitsAs job progress notes past m → AwaitsAnswer q progress
@@ -73,7 +85,7 @@ pub record Runs (p : JobState) (q : AbstractRequest) (rest : List AbstractReques
   pub stage : p.client.stage ≡ Running progress
   pub asked : q ∷ rest ≡ request_awaited progress
 
-none_asked : {A : Type 0} (todo rest : List AbstractRequest) (q : AbstractRequest) → todo ≡ [] → todo ≡ q ∷ rest → A
+pub none_asked : {A : Type 0} (todo rest : List AbstractRequest) (q : AbstractRequest) → todo ≡ [] → todo ≡ q ∷ rest → A
 none_asked todo rest q none e = absurd (let clash : [] ≡ q ∷ rest = sym none ∙ e in cc)
 
 pub runs_by : (i : ℕ) (k : Make) (p : JobState) (dev : AbstractDevice) (stage : JobStage) (q : AbstractRequest) (rest : List AbstractRequest) → p.client.stage ≡ stage → IsUnderWay stage → StageInvariant i k p dev stage → p.todo ≡ q ∷ rest → Runs p q rest

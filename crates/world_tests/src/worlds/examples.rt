@@ -1,251 +1,148 @@
 //! The worked examples of worlds whose calls promise, run to their bytes.
 
 use super::*;
-use page_picture::{FailingPage, Page};
+use page_picture::Page;
+use page_sources::read_page;
+use sane_fixed::Text;
 use scan_world::{scan_beside, scan_once, scan_with_another};
 use worked_worlds::{
     NoFile, list_both, scan_both_surely, scan_no_page, scan_of_taken_out, scan_pages, scan_surely,
     scan_with_password, scan_with_wrong_password, show_options,
 };
 
-/// A page of one gray dot, and its file.
-const DOT: &[u8] = b"P5\n1 1\n255\n\x07";
+/// A device's name, a page of one dot, 7, the users of these lines, and the job.
+pub fn parts(
+    rt: &impl Abort,
+    alloc: Global,
+    name: &[u8],
+    lines: &[u8],
+    asked: &Asked,
+) -> (Text, Page, Users, Job) {
+    let name = text(alloc, name).expect(rt, "a name");
+    let users = Users::parse(alloc, lines).expect(rt, "users");
+    let job = job(alloc, asked).expect(rt, "a job");
+    (name, dot(rt, alloc, SEVEN_DOT), users, job)
+}
 
-const DOT_FILE: &[u8] = b"P5\n# SANE data follows\n1 1\n255\n\x07";
+fn dot(rt: &impl Abort, alloc: Global, file: &[u8]) -> Page {
+    read_page(alloc, file, 26).expect(rt, "a page")
+}
 
-/// A scan of 1 by 1 mm at 26 dots per inch, which is one dot.
-const SCAN_DOT: Asked<'static> = Asked {
-    device: b"flatbed:0",
-    settings: &[(b"resolution", b"26"), (b"br-x", b"1"), (b"br-y", b"1")],
-    task: Task::Scan,
-};
-
+/// The other flatbed's page fails as soon as it is read; and a client that asks for a device that another one has is told so.
 #[test]
 fn one_client_scans_a_dot(rt: HostRuntime) {
     let alloc = rt.alloc();
-    let page = read_page(alloc, DOT, 26).expect(&rt, "a page");
-    let users = Users::parse(alloc, b"").expect(&rt, "users");
-    let name = text(&rt, alloc, b"flatbed:0");
-    let file = scan_once(alloc, name, page, users, job(&rt, alloc, &SCAN_DOT));
-    assert!(rt; file.expect(&rt, "a file").as_slice() == DOT_FILE);
+    let (name, page, users, asked) = parts(&rt, alloc, FLATBED.name, b"", &SCAN_DOT);
+    let alone = scan_once(alloc, name, page, users, asked).expect(&rt, "a file");
+    assert!(rt; alone.as_slice() == SEVEN);
+    let (name, page, users, asked) = parts(&rt, alloc, FLATBED.name, b"", &SCAN_DOT);
+    let other_name = text(alloc, b"flatbed:1").expect(&rt, "a name");
+    let other = testing::failing_source(alloc, SEVEN_DOT, 26, 1).expect(&rt, "another page");
+    let beside = scan_with_another(alloc, name, page, other_name, other, users, asked);
+    assert!(rt; beside.expect(&rt, "a file").as_slice() == SEVEN);
+    let (name, page, users, first) = parts(&rt, alloc, FLATBED.name, b"", &SCAN_DOT);
+    let second = job(alloc, &SHOW).expect(&rt, "a job");
+    let shared = scan_beside(alloc, name, page, users, first, second);
+    let (file, was_busy) = shared.expect(&rt, "a file");
+    assert!(rt; file.as_slice() == SEVEN && was_busy);
 }
 
-/// The other flatbed's page fails as soon as it is read.
-#[test]
-fn one_client_scans_a_dot_beside_another_flatbed(rt: HostRuntime) {
-    let alloc = rt.alloc();
-    let page = read_page(alloc, DOT, 26).expect(&rt, "a page");
-    let other_page = read_page(alloc, DOT, 26).expect(&rt, "another page");
-    let other = Source::Failing(FailingPage::new(other_page, 1));
-    let users = Users::parse(alloc, b"").expect(&rt, "users");
-    let name = text(&rt, alloc, b"flatbed:0");
-    let other_name = text(&rt, alloc, b"flatbed:1");
-    let asked = job(&rt, alloc, &SCAN_DOT);
-    let file = scan_with_another(alloc, name, page, other_name, other, users, asked);
-    assert!(rt; file.expect(&rt, "a file").as_slice() == DOT_FILE);
-}
+/// A scan at the defaults, and one of a feeder's pages.
+const PLAIN: Asked = Asked {
+    settings: "",
+    ..SCAN_DOT
+};
 
-/// The first client has the device as the second one asks for it.
-#[test]
-fn two_clients_ask_for_one_flatbed(rt: HostRuntime) {
-    let alloc = rt.alloc();
-    let page = read_page(alloc, DOT, 26).expect(&rt, "a page");
-    let users = Users::parse(alloc, b"").expect(&rt, "users");
-    let name = text(&rt, alloc, b"flatbed:0");
-    let first = job(&rt, alloc, &SCAN_DOT);
-    let second = job(&rt, alloc, &SHOW);
-    let (file, was_busy) = scan_beside(alloc, name, page, users, first, second).expect(
-        &rt, "a file",
-    );
-    assert!(rt; file.as_slice() == DOT_FILE);
-    assert!(rt; was_busy);
-}
+const FED: Asked = Asked {
+    device: b"feeder:0",
+    ..PLAIN
+};
 
-/// A job of `user`, whose password is `bc`, without settings.
-fn plain(rt: &impl Abort, alloc: Global, device: &[u8], task: Task) -> Job {
-    let asked = Asked {
-        device,
-        settings: &[],
-        task,
-    };
-    job(rt, alloc, &asked)
-}
+const LIST: Asked = Asked {
+    device: b"",
+    task: Task::List,
+    ..PLAIN
+};
 
-fn dot(rt: &impl Abort, alloc: Global) -> Page {
-    read_page(alloc, DOT, 26).expect(rt, "a page")
-}
-
-fn users_of(rt: &impl Abort, alloc: Global, lines: &[u8]) -> Users {
-    Users::parse(alloc, lines).expect(rt, "users")
-}
-
-const FLATBED_0: &[u8] = b"flatbed:0";
-
-/// What these users ask for is right, and so is it refused, where one has another password.
+/// The password of the job, and another one.
 const RIGHT: &[u8] = b"user:bc:flatbed\n";
 
 const WRONG: &[u8] = b"user:cb:flatbed\n";
 
+/// A list of two flatbeds, options shown, one that was taken out, and an empty tray.
 #[test]
-fn one_client_lists_two_flatbeds(rt: HostRuntime) {
+fn one_client_is_told(rt: HostRuntime) {
     let alloc = rt.alloc();
-    let other = text(&rt, alloc, b"flatbed:1");
-    let asked = plain(&rt, alloc, b"", Task::List);
-    let name = text(&rt, alloc, FLATBED_0);
-    let users = users_of(&rt, alloc, b"");
-    assert!(rt;
-        list_both(
-            alloc,
-            name,
-            dot(&rt, alloc),
-            other,
-            dot(&rt, alloc),
-            users,
-            asked
-        )
-    );
+    let (name, page, users, asked) = parts(&rt, alloc, FLATBED.name, b"", &LIST);
+    let other = text(alloc, b"flatbed:1").expect(&rt, "a name");
+    let other_page = dot(&rt, alloc, NINE_DOT);
+    assert!(rt; list_both(alloc, name, page, other, other_page, users, asked));
+    let (name, page, users, asked) = parts(&rt, alloc, FLATBED.name, b"", &SHOW);
+    assert!(rt; show_options(alloc, name, page, users, asked));
+    let (name, page, users, asked) = parts(&rt, alloc, FLATBED.name, b"", &PLAIN);
+    let taken = text(alloc, FLATBED.name).expect(&rt, "a name");
+    assert!(rt; scan_of_taken_out(alloc, name, page, taken, users, asked));
+    let (name, page, users, asked) = parts(&rt, alloc, b"feeder:0", b"", &FED);
+    drop(page);
+    assert!(rt; scan_no_page(alloc, name, users, asked));
 }
 
 #[test]
-fn one_client_shows_a_flatbed(rt: HostRuntime) {
+fn one_client_has_a_password(rt: HostRuntime) {
     let alloc = rt.alloc();
-    let asked = plain(&rt, alloc, FLATBED_0, Task::Show);
-    let name = text(&rt, alloc, FLATBED_0);
-    assert!(rt;
-        show_options(
-            alloc,
-            name,
-            dot(&rt, alloc),
-            users_of(&rt, alloc, b""),
-            asked
-        )
-    );
-}
-
-#[test]
-fn one_client_has_the_right_password(rt: HostRuntime) {
-    let alloc = rt.alloc();
-    let asked = plain(&rt, alloc, FLATBED_0, Task::Scan);
-    let name = text(&rt, alloc, FLATBED_0);
-    assert!(rt;
-        scan_with_password(
-            alloc,
-            name,
-            dot(&rt, alloc),
-            users_of(&rt, alloc, RIGHT),
-            asked
-        )
-    );
-}
-
-#[test]
-fn one_client_has_a_wrong_password(rt: HostRuntime) {
-    let alloc = rt.alloc();
-    let asked = plain(&rt, alloc, FLATBED_0, Task::Scan);
-    let name = text(&rt, alloc, FLATBED_0);
-    let users = users_of(&rt, alloc, WRONG);
-    assert!(rt; scan_with_wrong_password(alloc, name, dot(&rt, alloc), users, asked));
-}
-
-#[test]
-fn one_client_wants_a_flatbed_that_was_taken_out(rt: HostRuntime) {
-    let alloc = rt.alloc();
-    let asked = plain(&rt, alloc, FLATBED_0, Task::Scan);
-    let name = text(&rt, alloc, FLATBED_0);
-    let taken = text(&rt, alloc, FLATBED_0);
-    let users = users_of(&rt, alloc, b"");
-    assert!(rt; scan_of_taken_out(alloc, name, dot(&rt, alloc), taken, users, asked));
-}
-
-#[test]
-fn one_client_finds_an_empty_tray(rt: HostRuntime) {
-    let alloc = rt.alloc();
-    let asked = plain(&rt, alloc, b"feeder:0", Task::Scan);
-    let name = text(&rt, alloc, b"feeder:0");
-    assert!(rt; scan_no_page(alloc, name, users_of(&rt, alloc, b""), asked));
-}
-
-/// Another page of one gray dot, and its file.
-const OTHER_DOT: &[u8] = b"P5\n1 1\n255\n\x09";
-
-const OTHER_DOT_FILE: &[u8] = b"P5\n# SANE data follows\n1 1\n255\n\x09";
-
-#[test]
-fn one_client_scans_two_pages(rt: HostRuntime) {
-    let alloc = rt.alloc();
-    let asked = Asked {
-        device: b"feeder:0",
-        task: Task::Batch(2),
-        ..SCAN_DOT
-    };
-    let name = text(&rt, alloc, b"feeder:0");
-    let other = read_page(alloc, OTHER_DOT, 26).expect(&rt, "a page");
-    let batch = job(&rt, alloc, &asked);
-    let files = scan_pages(
-        alloc,
-        name,
-        dot(&rt, alloc),
-        other,
-        users_of(&rt, alloc, b""),
-        batch,
-    );
-    let (first, second) = files.expect(&rt, "two files");
-    assert!(rt; first.as_slice() == DOT_FILE);
-    assert!(rt; second.as_slice() == OTHER_DOT_FILE);
-}
-
-#[test]
-fn one_client_surely_scans_a_dot(rt: HostRuntime) {
-    let alloc = rt.alloc();
-    let asked = plain(&rt, alloc, FLATBED_0, Task::Scan);
-    let name = text(&rt, alloc, FLATBED_0);
-    let users = users_of(&rt, alloc, RIGHT);
-    match scan_surely(alloc, name, dot(&rt, alloc), users, asked) {
-        Ok(file) => assert!(rt; is_whole(alloc, Some(file.as_slice()))),
+    let (name, page, users, asked) = parts(&rt, alloc, FLATBED.name, RIGHT, &PLAIN);
+    assert!(rt; scan_with_password(alloc, name, page, users, asked));
+    let (name, page, users, asked) = parts(&rt, alloc, FLATBED.name, WRONG, &PLAIN);
+    assert!(rt; scan_with_wrong_password(alloc, name, page, users, asked));
+    let (name, page, users, asked) = parts(&rt, alloc, FLATBED.name, RIGHT, &PLAIN);
+    match scan_surely(alloc, name, page, users, asked) {
+        Ok(file) => assert!(rt; is_at_defaults(&file, 7)),
         Err(_) => panic!(rt; "no file"),
     }
 }
 
 /// At the defaults a file of 157 by 196 dots, of which the four that show the page's one dot have this byte, and all others
 /// are white.
-fn dot_at_defaults(rt: &impl Abort, alloc: Global, byte: u8) -> Vec<u8> {
-    let mut file = Vec::new(alloc);
-    file.extend_from_slice(b"P5\n# SANE data follows\n157 196\n255\n")
-        .expect(rt, "memory");
-    for y in 0..196u32 {
-        for x in 0..157u32 {
-            let shown = if x < 2 && y < 2 { byte } else { 255 };
-            file.push(shown).expect(rt, "memory");
-        }
+fn is_at_defaults(file: &[u8], byte: u8) -> bool {
+    let (head, raster) = file.split_at(file.len().min(35));
+    let mut is_so = head == b"P5\n# SANE data follows\n157 196\n255\n".as_slice();
+    is_so &= raster.len() == 30_772;
+    for (at, dot) in raster.iter().enumerate() {
+        let is_shown = at % 157 < 2 && at < 314;
+        is_so &= *dot == if is_shown { byte } else { 255 };
     }
-    file
+    is_so
 }
 
-/// A batch of that many pages on a feeder of two, whose backend the users guard.
+/// What two pages of a feeder, whose backend the users guard, come to in a batch of that many.
 fn both_dots(rt: &impl Abort, alloc: Global, count: u32) -> Result<(Vec<u8>, Vec<u8>), NoFile> {
-    let asked = plain(rt, alloc, b"feeder:0", Task::Batch(count));
-    let name = text(rt, alloc, b"feeder:0");
-    let other = read_page(alloc, OTHER_DOT, 26).expect(rt, "a page");
-    let users = users_of(rt, alloc, b"user:bc:feeder\n");
-    scan_both_surely(alloc, name, dot(rt, alloc), other, users, asked)
-}
-
-#[test]
-fn one_client_surely_scans_two_pages(rt: HostRuntime) {
-    let alloc = rt.alloc();
-    match both_dots(&rt, alloc, 2) {
-        Ok((first, second)) => {
-            assert!(rt; first.as_slice() == dot_at_defaults(&rt, alloc, 7).as_slice());
-            assert!(rt; second.as_slice() == dot_at_defaults(&rt, alloc, 9).as_slice());
-        }
-        Err(_) => panic!(rt; "no files"),
-    }
+    let batch = Asked {
+        task: Task::Batch(count),
+        ..FED
+    };
+    let (name, first, users, asked) = parts(rt, alloc, FED.device, b"user:bc:feeder\n", &batch);
+    scan_both_surely(alloc, name, first, dot(rt, alloc, NINE_DOT), users, asked)
 }
 
 /// A batch of one leaves the other page in the tray.
 #[test]
-fn one_client_scans_one_page_of_two(rt: HostRuntime) {
+fn one_client_scans_two_pages(rt: HostRuntime) {
     let alloc = rt.alloc();
+    let batch = Asked {
+        settings: ONE_DOT,
+        task: Task::Batch(2),
+        ..FED
+    };
+    let (name, first, users, asked) = parts(&rt, alloc, FED.device, b"", &batch);
+    let files = scan_pages(alloc, name, first, dot(&rt, alloc, NINE_DOT), users, asked);
+    let (first, second) = files.expect(&rt, "two files");
+    assert!(rt; first.as_slice() == SEVEN && second.as_slice() == NINE);
+    match both_dots(&rt, alloc, 2) {
+        Ok((first, second)) => {
+            assert!(rt; is_at_defaults(&first, 7) && is_at_defaults(&second, 9));
+        }
+        Err(_) => panic!(rt; "no files"),
+    }
     match both_dots(&rt, alloc, 1) {
         Ok(_) => panic!(rt; "two files"),
         Err(why) => assert!(rt; why == NoFile::TooFewPages),

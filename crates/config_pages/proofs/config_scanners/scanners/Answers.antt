@@ -1,7 +1,7 @@
 use Rattle.std.proofs.Common.{rules, ◌≡◌, ◌+◌, ◌++◌, ◌∷◌, [], subst, sym, map, take}
 use Rattle.std.specs.List.{AllZip}
 use Rattle.config_pages.specs.Devices.{IsDeviceOfKind}
-use Rattle.config_pages.specs.ScannerStates.{scanner_state}
+use Rattle.virtual_scanner.specs.Scanners.{scanner_state}
 use Rattle.config_pages.proofs.PageLists.{one_more}
 use Rattle.config_pages.proofs.config_scanners.scanners.Goals as goal
 

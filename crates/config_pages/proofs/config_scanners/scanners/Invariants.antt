@@ -1,6 +1,6 @@
 use Rattle.std.proofs.Common.{map, take}
 use Rattle.config_pages.specs.Devices.{AreDevicesOf}
-use Rattle.config_pages.specs.ScannerStates.{scanner_state}
+use Rattle.virtual_scanner.specs.Scanners.{scanner_state}
 use Rattle.config_pages.proofs.config_scanners.scanners.Given as goal
 
 -- the lines so far have each its scanner

@@ -1,7 +1,7 @@
 use Rattle.std.proofs.Common.{rules, ◌≡◌, ◌+◌, ◌++◌, ◌∷◌, [], subst, sym}
 use Rattle.std.specs.List.{AllZip}
 use Rattle.std.proofs.Common.{map, take}
-use Rattle.page_picture.specs.SourceView.{source_state}
+use Rattle.page_sources.specs.SourceView.{source_state}
 use Rattle.config_pages.specs.Devices.{IsPageOfText}
 use Rattle.config_pages.proofs.PageLists.{one_more}
 use Rattle.config_pages.proofs.devices.pages.Goals as goal

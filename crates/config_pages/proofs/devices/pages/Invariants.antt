@@ -1,5 +1,5 @@
 use Rattle.std.proofs.Common.{map, take}
-use Rattle.page_picture.specs.SourceView.{source_state}
+use Rattle.page_sources.specs.SourceView.{source_state}
 use Rattle.std.specs.List.{AllZip}
 use Rattle.config_pages.specs.Devices.{IsPageOfText}
 use Rattle.config_pages.proofs.devices.pages.Given as goal

@@ -1,7 +1,7 @@
 use Rattle.std.proofs.Common.{◌≡◌, true, ◌<◌, ◌≤◌, ◌+◌, ◌-◌, ℕ, length, take, drop, arith, rules, sym, ap, ◌∙◌}
 use Rattle.std.specs.Prelude.{min}
 use Rattle.std.proofs.lemmas.Slice.{take-put_mid_below}
-use Rattle.page_picture.proofs.RowLemmas.{slice_range-put_mid}
+use Rattle.page_picture.proofs.PartLemmas.{slice_range-put_mid}
 use Rattle.scan_frames.specs.Inside.{is_frame_over, state_of}
 use Rattle.scan_frames.proofs.Giving.{gives_on, gives_all, stops_on, fails_before_the_end}
 use Rattle.scan_frames.proofs.buffers.read_on.Goals.{then-loop-n-test+else-not-is_frame_over, else-loop-n-test}

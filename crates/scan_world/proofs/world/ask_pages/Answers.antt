@@ -1,5 +1,5 @@
 use Rattle.std.proofs.Common.{arith}
-use Rattle.page_picture.specs.SourceView.{source_state}
+use Rattle.page_sources.specs.SourceView.{source_state}
 use Rattle.world_refines.specs.MainTheorem.{IsTrueLoad}
 use Rattle.scan_world.proofs.Lists.{below, next_too}
 use Rattle.scan_world.proofs.world.ask_pages.Goals as goal

@@ -1,5 +1,5 @@
 use Rattle.std.proofs.Common.{ℕ, ◌<◌, length, slice_index_or}
-use Rattle.page_picture.specs.SourceView.{source_state}
+use Rattle.page_sources.specs.SourceView.{source_state}
 use Rattle.world_refines.specs.MainTheorem.{IsTrueLoad}
 use Rattle.scan_world.proofs.world.ask_pages.Given as goal
 

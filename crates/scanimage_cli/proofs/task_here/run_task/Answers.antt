@@ -1,6 +1,6 @@
-use Rattle.std.proofs.Common.{rules, ◌≡◌, ◌≢◌, refl, sym, ap, ◌∙◌, [], Ok}
-use Rattle.scan_job.specs.declared.job.Task.TheVariants.{List as ListTask, Scan}
-use Rattle.config_pages.specs.ScannerStates.{scanner_state}
+use Rattle.std.proofs.Common.{rules, ◌≡◌, ◌≢◌, refl, sym, ap, ◌∙◌, Ok}
+use Rattle.scan_job.specs.declared.job.Task.TheVariants.{List as ListTask}
+use Rattle.virtual_scanner.specs.Scanners.{scanner_state}
 use Rattle.dispatch.specs.Table.{seen_unplug, table, unplug_answer}
 use Rattle.scanimage_cli.proofs.Carried.{listed, on_ok_of, on_ok_of_two, scan_prints_none, well_is_no_end}
 use denote.Param.Object.{read_made}

@@ -1,6 +1,6 @@
 use Rattle.std.proofs.Common.{drop, map}
 use Rattle.std.specs.Prelude.{All}
-use Rattle.page_picture.specs.SourceView.{source_state}
+use Rattle.page_sources.specs.SourceView.{source_state}
 use Rattle.device_api.specs.ScannerLimits.{IsHeldPage}
 use Rattle.device_api.specs.State.{held_from}
 use Rattle.virtual_scanner.proofs.tray.see_limits.Given as goal

@@ -1,8 +1,8 @@
 use Rattle.std.proofs.Common.{◌∙◌, List, [], refl, ap}
 use denote.Param.Object.{read_made}
 use Rattle.std.specs.Prelude.{map}
-use Rattle.page_picture.specs.SourceView.{source_state}
-use Rattle.page_picture.specs.declared.sources.kinds.Source.{Source}
+use Rattle.page_sources.specs.SourceView.{source_state}
+use Rattle.page_sources.specs.declared.kinds.Source.{Source}
 use Rattle.page_picture.specs.declared.scene.DeviceKind.TheVariants.{Feeder}
 use Rattle.sane_fixed.specs.declared.byte_order.ByteOrder.TheVariants.{Little}
 use Rattle.virtual_scanner.specs.New.{new_device}

@@ -1,5 +1,5 @@
 use Rattle.std.proofs.Common.{◌≡◌, length, arith}
-use Rattle.page_picture.specs.SourceView.{source_state}
+use Rattle.page_sources.specs.SourceView.{source_state}
 use Rattle.event_world.specs.Worlds.{seen_world}
 use Rattle.event_world.proofs.Falling.{part_by_stayed, part_by_went, part_whole}
 use Rattle.event_world.proofs.world.EventWorld.round.Goals as goal

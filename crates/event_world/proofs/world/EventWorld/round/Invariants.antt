@@ -1,4 +1,4 @@
-use Rattle.page_picture.specs.SourceView.{source_state}
+use Rattle.page_sources.specs.SourceView.{source_state}
 use Rattle.event_world.specs.Worlds.{seen_world}
 use Rattle.event_world.proofs.Falling.{IsPart}
 use Rattle.event_world.proofs.world.EventWorld.round.Given as goal

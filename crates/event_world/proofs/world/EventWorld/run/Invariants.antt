@@ -1,4 +1,4 @@
-use Rattle.page_picture.specs.SourceView.{source_state}
+use Rattle.page_sources.specs.SourceView.{source_state}
 use Rattle.event_world.specs.Worlds.{Runs, seen_world}
 use Rattle.event_world.proofs.world.EventWorld.run.Given as goal
 

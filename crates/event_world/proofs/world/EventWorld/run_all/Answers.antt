@@ -1,5 +1,5 @@
 use Rattle.std.proofs.Common.{rules}
-use Rattle.page_picture.specs.SourceView.{source_state}
+use Rattle.page_sources.specs.SourceView.{source_state}
 use Rattle.event_world.specs.Worlds.{seen_world}
 use Rattle.event_world.proofs.Falling.{less_by, out_by, rounds_begun, rounds_by}
 use Rattle.event_world.proofs.world.EventWorld.run_all.Goals as goal

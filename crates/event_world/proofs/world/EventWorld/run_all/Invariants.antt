@@ -1,5 +1,5 @@
 use Rattle.std.proofs.Common.{◌+◌, cond}
-use Rattle.page_picture.specs.SourceView.{source_state}
+use Rattle.page_sources.specs.SourceView.{source_state}
 use Rattle.event_world.specs.Rounds.{total_left}
 use Rattle.event_world.specs.Worlds.{seen_world}
 use Rattle.event_world.proofs.Falling.{AreRounds}

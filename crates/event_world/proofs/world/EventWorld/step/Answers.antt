@@ -1,5 +1,5 @@
 use Rattle.std.proofs.Common.{◌∙◌, List, ℕ, ap}
-use Rattle.page_picture.specs.SourceView.{source_state}
+use Rattle.page_sources.specs.SourceView.{source_state}
 use Rattle.saned_core.specs.DaemonStates.{Core, core}
 use Rattle.saned_core.specs.Loading.{core_after_load}
 use Rattle.event_world.specs.declared.endpoint.Endpoint.{Endpoint}

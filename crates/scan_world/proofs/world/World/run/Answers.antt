@@ -1,5 +1,7 @@
 use Rattle.scan_world.proofs.Calls.{asked_true}
 use Rattle.scan_world.proofs.Clear.{clears_by}
+use Rattle.scan_world.proofs.Idle.{idle_stays, starves_by}
+use Rattle.scan_world.proofs.Laid.{load_lays, unplug_takes}
 use Rattle.scan_world.proofs.Led.{led_then}
 use Rattle.scan_world.proofs.Over.{cancel_ends, move_lowers, moves_fall, other_jobs_stay, over_stays}
 use Rattle.scan_world.proofs.Starved.{starved_stays}
@@ -22,6 +24,10 @@ returns g c =
       starved = starved_stays c.args.events.items _ _ c.run.ensures;
       moves = moves_fall c.args.events.items _ _ c.run.ensures;
       lowers = move_lowers c.args.events.items _ _ c.run.ensures;
+      idle = idle_stays c.args.events.items _ _ c.run.ensures;
+      starves = starves_by c.args.events.items _ _ c.run.ensures;
+      loads = load_lays c.args.events.items _ _ c.run.ensures;
+      unplugs = unplug_takes c.args.events.items _ _ c.run.ensures;
       cancel = cancel_ends c.args.events.items _ _ c.run.ensures;
       loss = λ h l. loss_ends kept h c.args.events.items _ _ l loads c.run.ensures;
       image_loss = λ h l. image_loss_ends kept h c.args.events.items _ _ l loads c.run.ensures;

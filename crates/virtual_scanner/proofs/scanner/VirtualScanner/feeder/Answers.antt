@@ -1,8 +1,8 @@
 use Rattle.std.proofs.Common.{◌≡◌, ◌≤◌, ◌∙◌, ap, sym, subst, map, rules, arith, false, List, length}
 use Rattle.std.specs.Prelude.{All, vec_capacity}
-use Rattle.page_picture.specs.SourceView.{source_state}
+use Rattle.page_sources.specs.SourceView.{source_state}
 use Rattle.page_picture.specs.declared.scene.DeviceKind.TheVariants.{Feeder}
-use Rattle.page_picture.specs.declared.sources.kinds.Source.{Source}
+use Rattle.page_sources.specs.declared.kinds.Source.{Source}
 use Rattle.device_api.specs.ScannerLimits.{IsHeldPage}
 use Rattle.device_api.specs.State.{held_from, tray_room}
 use Rattle.device_api.specs.State.Phase.{AtRest}

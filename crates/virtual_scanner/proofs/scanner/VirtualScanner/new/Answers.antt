@@ -1,8 +1,8 @@
 use Rattle.std.proofs.Common.{◌≡◌, ◌∙◌, ap, sym, subst, map, rules, refl, false, [], ◌∷◌, List, Bool}
 use Rattle.std.proofs.lemmas.Bool.{false≢true}
 use Rattle.std.proofs.lemmas.List.Elements.{All-cons, All-nil}
-use Rattle.page_picture.specs.SourceView.{source_state}
-use Rattle.page_picture.specs.declared.sources.kinds.Source.{Source}
+use Rattle.page_sources.specs.SourceView.{source_state}
+use Rattle.page_sources.specs.declared.kinds.Source.{Source}
 use Rattle.device_api.specs.ScannerLimits.{HasLimits, IsHeldPage, IsPageCount}
 use Rattle.device_api.specs.Kinds.{is_feeder}
 use Rattle.device_api.specs.State.{held_from}

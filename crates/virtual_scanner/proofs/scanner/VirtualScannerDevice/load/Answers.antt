@@ -1,4 +1,4 @@
-use Rattle.page_picture.specs.SourceView.{source_state}
+use Rattle.page_sources.specs.SourceView.{source_state}
 use Rattle.std.proofs.Common.{map}
 use Rattle.virtual_scanner.specs.Phases.{phase_of}
 use Rattle.virtual_scanner.proofs.Limits.{kept_frame, limits_loaded, more_room}

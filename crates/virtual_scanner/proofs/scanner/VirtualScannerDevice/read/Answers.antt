@@ -1,6 +1,6 @@
 use Rattle.std.proofs.Common.{◌≡◌, ◌∙◌, ap, sym, subst, map, ℕ, List}
 use Rattle.std.specs.Prelude.{Option, Ok, Err}
-use Rattle.page_picture.specs.SourceView.{source_state}
+use Rattle.page_sources.specs.SourceView.{source_state}
 use Rattle.page_picture.specs.Source.{SourceState}
 use Rattle.sane_fixed.specs.declared.status.Status.{Status}
 use Rattle.scan_frames.specs.PassReading.{FrameProgress, given_in}

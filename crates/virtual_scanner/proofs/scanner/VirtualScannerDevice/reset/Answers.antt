@@ -1,5 +1,5 @@
 use Rattle.std.proofs.Common.{◌≡◌, ap, sym, ◌∙◌, map, false}
-use Rattle.page_picture.specs.SourceView.{source_state}
+use Rattle.page_sources.specs.SourceView.{source_state}
 use Rattle.device_api.specs.Kinds.{is_feeder}
 use Rattle.device_api.specs.State.Phase.{AtRest}
 use Rattle.virtual_scanner.specs.Phases.{phase_of}

@@ -1,5 +1,5 @@
 use Rattle.std.proofs.Common.{◌≡◌, ap, sym, ◌∙◌, map}
-use Rattle.page_picture.specs.SourceView.{source_state}
+use Rattle.page_sources.specs.SourceView.{source_state}
 use Rattle.device_api.specs.Kinds.{is_feeder}
 use Rattle.virtual_scanner.specs.Phases.{phase_of}
 use Rattle.virtual_scanner.proofs.Limits.{limits_set, kind_after, kept_frame}

@@ -1,6 +1,6 @@
 use Rattle.std.proofs.Common.{◌≡◌, ◌∙◌, sym, subst, map}
 use Rattle.std.specs.Prelude.{Some, Ok, Err, Result}
-use Rattle.page_picture.specs.SourceView.{source_state}
+use Rattle.page_sources.specs.SourceView.{source_state}
 use Rattle.sane_fixed.specs.declared.status.Status.{Status}
 use Rattle.scan_frames.specs.PassReading.{BeginsPass, FrameProgress, given_in}
 use Rattle.scan_frames.specs.declared.faults.BeginFault.{BeginFault}

@@ -1,3 +1,0 @@
-pub mod PassRuns
-pub mod PictureLaws
-pub mod MapsUpTo

@@ -1,9 +1,0 @@
-use Rattle.std.proofs.Common.{◌≡◌, ℕ, ◌<◌, ◌*◌, length}
-use Rattle.std.specs.Prelude.{slice_index}
-use Rattle.page_picture.proofs.sources.raster_rows.write_colors.Given as goal
-
-abbrev pub invariant-loop-j : goal.invariant-loop-j
-invariant-loop-j l = record {
-  size : length l.row ≡ length l.fn.row;
-  each : (j : ℕ) → j < l.j → slice_index l.row j ≡ 257 * slice_index l.bytes j;
-}

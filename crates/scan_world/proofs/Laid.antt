@@ -1,0 +1,43 @@
+-- A page that is laid in, and a device that is taken out.
+use Rattle.std.specs.Prelude.{Ok, Err}
+use Rattle.std.proofs.Common.{◌≡◌, ◌∙◌, ℕ, List, [], ◌∷◌, Option, Some, None, refl, sym, ap, subst}
+use Rattle.page_sources.specs.SourceView.{source_state}
+use Rattle.sane_fixed.specs.declared.status.Status.{Status}
+use Rattle.device_api.specs.State.{DeviceState}
+use Rattle.dispatch.specs.Table.{Table, after_unplug, find_name, held_at, unplug_answer, unplug_at, unplug_of, unplugged_at, unplugged_of}
+use Rattle.event_world.specs.declared.event.Event.{Event}
+use Rattle.event_world.specs.declared.event.Event.TheVariants.{Load, Unplug}
+use Rattle.event_world.specs.Worlds.{Leads, Runs, WorldCore}
+use Rattle.scan_world.specs.Calls.{LoadLays, UnplugTakes}
+use Rattle.scan_world.proofs.Taken.{refused_same}
+
+-- one event alone
+alone : (e : Event) (es : List Event) (w v : WorldCore) → es ≡ e ∷ [] → Runs source_state es w v → Leads source_state e w v
+alone e es w v is runs = by_one (subst (λ (xs : List Event). Runs source_state xs w v) is runs)
+  where
+    by_one : Runs source_state (e ∷ []) w v → Leads source_state e w v
+    by_one (u, leads, rest) = subst (Leads source_state e w) (sym rest) leads
+
+pub load_lays : (es : List Event) (w v : WorldCore) → Runs source_state es w v → LoadLays es w v
+load_lays es w v runs name source is =
+    let leads = alone (Load name source) es w v is runs in
+    (λ refused. refused_same name source w v refused leads, λ taken. leads)
+
+of_held : (t : Table) (k : ℕ) (o : Option DeviceState) (status : Status) → unplug_of o ≡ Err status → unplugged_of t k o ≡ t
+of_held t k None status is = refl
+of_held t k (Some s) status is = absurd (let clash : Ok s ≡ Err status = is in cc)
+
+of_name : (t : Table) (o : Option ℕ) (status : Status) → unplug_at t o ≡ Err status → unplugged_at t o ≡ t
+of_name t None status is = refl
+of_name t (Some k) status is = of_held t k (held_at t k) status is
+
+stays_in : (t : Table) (name : List ℕ) (status : Status) → unplug_answer t name ≡ Err status → after_unplug t name ≡ t
+unfolding unplug_answer after_unplug
+stays_in t name status is = of_name t (find_name name t) status is
+
+pub unplug_takes : (es : List Event) (w v : WorldCore) → Runs source_state es w v → UnplugTakes es w v
+unplug_takes es w v runs name is =
+    let leads = alone (Unplug name) es w v is runs in (
+      λ status refused. leads ∙ ap (λ (t : Table). record w { daemon = record w.daemon { registry = t } }) (stays_in w.daemon.registry name status refused),
+      λ device taken. leads,
+    )
