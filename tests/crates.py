@@ -16,9 +16,32 @@ def listed(text):
     return found
 
 
+def layers(text):
+    """The layers of the text of a crates.txt, the lowest first, each with its crates and what the line of each says of it. A layer
+    begins with a line `# NAME` behind a blank one, and may come again."""
+    found, layer, last = {}, None, "#"
+    for line in text.splitlines():
+        head, mark, told = line.partition("#")
+        if not last.strip() and line.startswith("# "):
+            layer = line[2:].strip()
+        if ":" in head:
+            found.setdefault(layer, {})[head.split(":")[0].split()[0]] = told.strip() if mark else ""
+        last = line
+    return found
+
+
+def untold(text):
+    """The crates of the text of a crates.txt that stand in no layer, or whose line says nothing of them."""
+    return [name for layer, them in layers(text).items() for name, told in them.items() if not (layer and told)]
+
+
+def text_of(root=ROOT):
+    with open(f"{root}/crates.txt", encoding="utf-8") as file:
+        return file.read()
+
+
 def crates():
-    with open(f"{ROOT}/crates.txt", encoding="utf-8") as file:
-        return listed(file.read())
+    return listed(text_of())
 
 
 def below(known, name):

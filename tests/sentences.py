@@ -1,24 +1,27 @@
-"""The sentences that stand beside what they tell of, and the two pages that are made of them.
+"""The sentences that stand beside what they tell of, and the pages that are made of them and of crates.txt.
 
-A promise: a comment `///` directly above an `ensures` clause. Each paragraph is a row of docs/PROMISES.md. It tells of that
+A promise: a comment `///` directly above an `ensures` clause. Each paragraph is a line of docs/PROMISES.md. It tells of that
 clause and of those that follow it up to the next comment; or where other clauses, laws or definitions carry it, of what its
 last lines name: `Carried by: ..`. A paragraph that ends so may stand above any item too, as above a trait. A `//` there is a remark:
 it tells of its clauses in the text alone. A public clause has a sentence where one of these comments tells of it, where a line
 `Carried by:` names it or its function, or where no clause of its function has such a comment and the function has one.
 
 A definition: a paragraph that begins with its name in bold, as `-- **extent (`extent_of`)**: ..`, above a definition of
-specs/ or, as `///`, above a type. It is an item of docs/DEFINITIONS.md.
+specs/ or, as `///`, above a type. No page repeats it; tests/docs looks up the names in it.
 
-Headings, introductions and the order stand in docs/frames. There a line `@ file.rt name ..` under the heading of a crate
-stands for the promises of these files of its src/, or of these functions; `@ crate: File.antt ..` for the definitions of
-these files of its specs/, or of src/ where the name begins so.
+docs/PROMISES.md has the crates in the order of crates.txt; in each the files by name, and in a file the sentences as they stand
+there, those of a function below one link to the file. crates/README.md and the table of docs/ARCHITECTURE.md are made of the
+layers of crates.txt and of what each of its lines says behind its `#`.
 """
 import os
 import re
 
+from crates import below, layers, listed, text_of, untold as without_line
+
 ENSURES = re.compile(r"\s*ensures(?: (\w+))? \{")
 FUNCTION = re.compile(r"(\s*)(pub(?:\([^)]*\))? )?(?:const )?fn (\w+)")
-DEFINED = re.compile(r"(?:\w+ )*?pub (?:record |data )?([^\s:(]+)")
+ITEM = re.compile(r"pub (?:const )?(?:fn|struct|enum|trait) (\w+)|impl(?:<(?:[^<>]|<[^<>]*>)*>)? (.*?)(?: \{.*)?$")
+LASTS = ("laws.rt", "lies.rt", "example.rt")
 CARRIED = "Carried by: "
 
 
@@ -148,7 +151,7 @@ class Crate:
                 if line.startswith(("pub ", "impl", "#[")) and not lines[at - 1].startswith("#["):
                     told = [it for it in paragraphs(above(lines, at, "///")) if it[1]]
                     self.promises += [Promise(path, at, "", *it) for it in told]
-        self.promises.sort(key=lambda it: (it.path, it.line))
+        self.promises.sort(key=lambda it: (it.path in LASTS, it.path, it.line))
 
     def untold(self, named):
         """Public clauses without a sentence: none tells of them, and no comment stands above them or, where no clause of their
@@ -182,103 +185,123 @@ def untold(read_crates):
             yield f"crates/{name}/src/{path}:{clause.line + 1}: a public clause without a sentence: {clause.name or ''} of {function.full}"
 
 
-def promises_page(root, read_crates):
-    """The page of the promises, and what of them has no place on it."""
-    page, crate, used, lost = [], None, set(), []
-    for line in read(f"{root}/docs/frames/promises.md"):
-        crate = line[3:].strip() if line.startswith("## ") else crate
-        if not line.startswith("@"):
-            page.append(line)
-            continue
-        entries, promises = line[1:].split(), read_crates[crate].promises
-        rows = []
-        for entry in entries:
-            alone = {it for it in entries if not it.endswith(".rt")}
-            here = [it for it in promises if it.full == entry or it.path == entry and it.full not in alone]
-            rows += here
-            lost += [] if here else [f"docs/frames/promises.md: {crate} has no promises at {entry}"]
-        used |= set(rows)
-        page += ["| Promise | Carried by |", "|---|---|", *(f"| {it.sentence} | {it.cell} |" for it in rows)]
-    for name, each in read_crates.items():
-        lost += [f"crates/{name}/src/{it.path}:{it.line + 1}: docs/frames/promises.md has no place for this promise" for it in each.promises if it not in used]
-    return "\n".join(page), lost
-
-
-def definitions_of(root, crate, path):
-    """The paragraphs of a file that tell definitions, in their order."""
-    at = path if path.startswith("src/") else f"specs/{path}"
-    mark = "///" if path.endswith(".rt") else "--"
-    lines = [it.strip() for it in read(f"{root}/crates/{crate}/{at}")] + [""]
-    begin = None
-    for number, line in enumerate(lines):
-        is_comment = line.startswith(mark)
-        if is_comment and begin is None:
-            begin = number
-        elif not is_comment and begin is not None:
-            for sentence, cell in paragraphs([it[len(mark) :].strip() for it in lines[begin:number]]):
-                if sentence.startswith("**") and not cell:
-                    yield sentence
-            begin = None
-
-
-def homes(root):
-    """In which file of specs/ each definition of each crate stands, and in which of src/ each type."""
+def homes(crate):
+    """The file of each function of a crate, by its name and by that of its type with it."""
     found = {}
-    for crate in crates(root):
-        for path in files(f"{root}/crates/{crate}/specs", ".antt"):
-            for line in read(f"{root}/crates/{crate}/specs/{path}"):
-                name = DEFINED.match(line)
-                if name and not line.startswith(("pub use", "pub mod")):
-                    found.setdefault(name[1], {})[crate] = path
-        for path in files(f"{root}/crates/{crate}/src", ".rt"):
-            for line in read(f"{root}/crates/{crate}/src/{path}"):
-                name = re.match(r"pub (?:struct|enum|trait) (\w+)", line)
-                if name and crate not in found.get(name[1], {}):
-                    found.setdefault(name[1], {})[crate] = f"src/{path}"
+    for path, function in crate.functions:
+        found.setdefault(function.full, path)
+        found.setdefault(function.name, path)
     return found
 
 
-def files_told(where, crate, path, sentence):
-    """The files in which what an item names in its head stands, its own first."""
-    told = [(crate, path)]
-    for name in re.findall(r"`([^`]+)`", re.match(r"((?:,? ?\*\*.*?\*\*(?: \([^)]*\))?)+)", sentence)[1]):
-        at = where.get(name, {})
-        home = crate if crate in at else next(iter(at)) if len(at) == 1 else None
-        told += [(home, at[home])] if home and (home, at[home]) not in told else []
-    return told
+def item_at(lines, at):
+    """What an item is called that begins at a line or behind the attributes there."""
+    while lines[at].startswith("#["):
+        at += 1
+    named = ITEM.match(lines[at])
+    return named[1] or named[2] if named else ""
 
 
-def definitions_page(root):
-    """The page of the definitions, and what of them has no place on it."""
-    page, used, lost, where, folder = [], set(), [], homes(root), None
-    for line in read(f"{root}/docs/frames/definitions.md"):
-        if line.startswith("## "):
-            named = re.findall(r"`crates/(\w+)/specs`", line)
-            folder = named[0] if len(named) == 1 else None
-        if not line.startswith("@"):
-            page.append(line)
-            continue
-        crate, _, paths = line[1:].strip().partition(":")
-        for path in paths.split():
-            items = list(definitions_of(root, crate, path))
-            lost += [] if items else [f"docs/frames/definitions.md: crates/{crate} has no definitions told in {path}"]
-            used.add((crate, path))
-            for sentence in items:
-                told = [
-                    f"`{at}`" if home == folder else f"`crates/{home}/{at}`" if at.startswith("src/") else f"`crates/{home}/specs/{at}`"
-                    for home, at in files_told(where, crate, path, sentence)
-                ]
-                page.append(f"- {sentence} {', '.join(told)}")
+def also(promise, where, heads, link):
+    """The other functions of the crate that carry a promise and have no sentence of their own."""
+    told = []
+    for name in re.findall(r"(?<! of )`([\w:]+)`(?!(?:, `\w+`| and `\w+`)* of)", promise.cell):
+        at = where.get(name)
+        if at and name.split("::")[-1] not in heads:
+            told.append(f"`{name}`" if at == promise.path else link(name, at))
+    return f" ({', '.join(dict.fromkeys(told))})" if told else ""
+
+
+def promises_of(name, crate, root, links):
+    """The lines of docs/PROMISES.md on a crate: of each function, or other item, a link to its file and its sentences; and behind them
+    where the links lead."""
+    where, texts, groups, before = homes(crate), {}, {}, len(links)
+    link = lambda shown, path: f"[`{shown}`][{links.setdefault(f'../crates/{name}/src/{path}', len(links) + 1)}]"
+    heads = {it.full.split("::")[-1] for it in crate.promises}
+    for promise in crate.promises:
+        lines = texts.setdefault(promise.path, read(f"{root}/crates/{name}/src/{promise.path}"))
+        groups.setdefault((promise.path, promise.full or item_at(lines, promise.line)), []).append(promise)
+    for (path, head), promises in groups.items():
+        yield from (link(head, path), *(f"- {it.sentence}{also(it, where, heads, link)}" for it in promises), "")
+    yield from (*(f"[{number}]: {path}" for path, number in links.items() if number > before), "")
+
+
+def promises_page(root, read_crates):
+    """The page of the promises: its introduction by hand, and behind it all that is made."""
+    page, links = read(f"{root}/docs/frames/promises.md"), {}
+    for name, crate in read_crates.items():
+        if crate.promises:
+            page += [f"## {name}", "", *promises_of(name, crate, root, links)]
+    return "\n".join(page)
+
+
+def definitions(root):
+    """The paragraphs that tell definitions, each with its file and the line where its comment begins."""
     for crate in crates(root):
-        there = [*files(f"{root}/crates/{crate}/specs", ".antt"), *(f"src/{it}" for it in files(f"{root}/crates/{crate}/src", ".rt"))]
-        for path in there:
-            if (crate, path) not in used and any(definitions_of(root, crate, path)):
-                lost.append(f"crates/{crate}: docs/frames/definitions.md has no place for the definitions told in {path}")
-    return "\n".join(page), lost
+        for path in [*(f"specs/{it}" for it in files(f"{root}/crates/{crate}/specs", ".antt")), *(f"src/{it}" for it in files(f"{root}/crates/{crate}/src", ".rt"))]:
+            mark, begin = "///" if path.endswith(".rt") else "--", None
+            lines = [it.strip() for it in read(f"{root}/crates/{crate}/{path}")] + [""]
+            for number, line in enumerate(lines):
+                is_comment = line.startswith(mark)
+                if is_comment and begin is None:
+                    begin = number
+                elif not is_comment and begin is not None:
+                    for sentence, cell in paragraphs([it[len(mark) :].strip() for it in lines[begin:number]]):
+                        if sentence.startswith("**") and not cell:
+                            yield f"crates/{crate}/{path}", begin + 1, sentence
+                    begin = None
+
+
+# The pages that are made of crates.txt.
+
+BEGIN, END = "<!-- made of crates.txt by make docs -->", "<!-- to here -->"
+README = """# The crates
+
+`make docs` makes this page of [crates.txt](../crates.txt), which names them in the order in which they can be proved. What a crate stands on is named without what that stands on in turn. [ARCHITECTURE](../docs/ARCHITECTURE.md) tells how they fit together, [PROMISES](../docs/PROMISES.md) what is proved of each.
+"""
+
+
+def direct(known, name):
+    """The crates that a crate stands on and that no other of these stands on."""
+    named = [it for it in known[name] if it in known]
+    under = {each for it in named for each in below(known, it) if each != it}
+    return [it for it in named if it not in under]
+
+
+def from_above(text):
+    """The layers from above: first those of code, behind them the laws, and then the tests."""
+    found = layers(text)
+    lasts = [it for it in found if it and it.startswith(("Laws", "Tests"))]
+    return {it: found[it] for it in [*(it for it in reversed(found) if it not in lasts), *lasts]}
+
+
+def crates_page(root):
+    known, page = listed(text_of(root)), [README]
+    for layer, them in from_above(text_of(root)).items():
+        page += [f"## {layer}", "", "| Crate | What it is | Stands on |", "|---|---|---|"]
+        page += [f"| [{it}]({it}) | {told} | {', '.join(direct(known, it))} |" for it, told in reversed(them.items())]
+        page.append("")
+    return "\n".join(page)
+
+
+def layers_table(root):
+    anchor = lambda layer: layer.lower().replace(" ", "-")
+    rows = [f"| [{layer}](../crates/README.md#{anchor(layer)}) | {', '.join(f'`{it}`' for it in reversed(them))} |" for layer, them in from_above(text_of(root)).items()]
+    return "\n".join([BEGIN, "", "| Layer | Crates |", "|---|---|", *rows, "", END])
+
+
+def architecture_page(root):
+    """docs/ARCHITECTURE.md with its table made anew, or none where it has no place for it."""
+    page = "\n".join(read(f"{root}/docs/ARCHITECTURE.md"))
+    before, begun, rest = page.partition(BEGIN)
+    _, ended, behind = rest.partition(END)
+    return before + layers_table(root) + behind if begun and ended else None
 
 
 def pages(root, read_crates):
     """The pages that are made, by their paths, and what has no place on them."""
-    promises, first = promises_page(root, read_crates)
-    definitions, second = definitions_page(root)
-    return {"docs/PROMISES.md": promises, "docs/DEFINITIONS.md": definitions}, first + second
+    lost = [f"crates.txt: {it} stands in no layer, or has no line behind a #" for it in without_line(text_of(root))]
+    lost += [f"crates.txt: the crate {it} is not there" for it in crates(root) if not os.path.isdir(f"{root}/crates/{it}")]
+    made = {"docs/PROMISES.md": promises_page(root, read_crates), "crates/README.md": crates_page(root), "docs/ARCHITECTURE.md": architecture_page(root)}
+    lost += [f"{path}: it has no place for what is made of crates.txt" for path, text in made.items() if text is None]
+    return {path: text for path, text in made.items() if text is not None}, lost
