@@ -79,7 +79,8 @@ check: need-rt need-crate
 above: need-rt need-crate
 	tests/above $(CRATE)
 
-# Makes docs/PROMISES.md and docs/DEFINITIONS.md of the sentences that stand beside clauses and definitions.
+# Makes docs/PROMISES.md of the sentences that stand beside clauses, and of crates.txt crates/README.md, the table of
+# docs/ARCHITECTURE.md and the picture of the house.
 docs:
 	docs/make
 
@@ -102,10 +103,10 @@ gate: need-rt
 quick: need-rt
 	tests/quick $(BASE)
 
-# Tries all edits of crates/*/mutants and must-fail, which the prover must refuse, and writes docs/MUTANTS.md: hours. After the
-# change of one crate: tests/mutants CRATE.
+# Tries all edits of crates/*/mutants and must-fail, which the prover must refuse, and writes what they came to into dist/MUTANTS.md:
+# hours. After the change of one crate: tests/mutants CRATE, which prints it.
 mutants: need-rt
-	tests/mutants
+	tests/mutants --page dist/MUTANTS.md
 
 # Runs the proved program with each allocation refused in turn. It needs a C compiler, so the gate leaves it out.
 failing-allocations: build
