@@ -1,7 +1,7 @@
 -- All pulls of a file, one after another.
 use Rattle.std.proofs.Common.{◌≡◌, ◌≢◌, ◌∙◌, ℕ, ◌+◌, ◌<◌, ◌≤◌, ◌^◌, Bool, true, false, List, [], ◌∷◌, ◌++◌, None, length, refl, sym, ap, subst, arith, length-append, append_assoc}
 use Rattle.std.proofs.lemmas.List.{append-nil}
-use Rattle.netpbm.specs.Pnm.{Denotes, IsWhole}
+use Rattle.netpbm.specs.Pnm.{IsWhole}
 use Rattle.frame_join.specs.FrameHistory.{JoinHistory, empty_history, after_pull}
 use Rattle.frame_join.specs.JoinStates.{JoinState, Represents}
 use Rattle.client_replies.specs.ProtocolStates.{is_ended, scans, turns}
@@ -10,6 +10,7 @@ use Rattle.event_world.specs.declared.endpoint.Endpoint.{Endpoint}
 use Rattle.event_world.specs.declared.draining.Pull.TheVariants.{More}
 use Rattle.event_world.specs.FileDraining.{HasPlace, HoldsHistory, IsGiven, TurnsTo, RunsDry, Pulls, HasDrained}
 use Rattle.event_world.proofs.Pulls.{calm_by}
+use Rattle.frame_join.specs.PictureText.{IsPictureFile}
 
 -- after so many pulls that gave bytes
 pub record IsUnderway (past : JoinHistory) (pages : List JoinHistory) (old : Endpoint) (pulls : ℕ) (now : Endpoint) : Type 0 where
@@ -71,7 +72,7 @@ ran_dry past pages i old was new u d = record {
   bytes = u.bytes ++ d.bytes;
   holds = subst (λ (q : JoinHistory). HoldsHistory q pages new) (pulled_twice past u.bytes d.bytes) d.holds;
   given = given_then old was new u.given d.given;
-  denotes = λ alive joined p shows. subst (λ (l : List ℕ). Denotes l p) (append_assoc past.given u.bytes d.bytes) (d.denotes (ended_as old was u.given ∙ alive) joined p shows);
+  denotes = λ alive joined p shows. subst (λ (l : List ℕ). IsPictureFile l p) (append_assoc past.given u.bytes d.bytes) (d.denotes (ended_as old was u.given ∙ alive) joined p shows);
 }
 
 pub turned_on : (past : JoinHistory) (pages : List JoinHistory) (i : ℕ) (old was new : Endpoint) (u : IsUnderway past pages old i was) → TurnsTo (after_pull u.bytes past) pages was new → TurnsTo past pages old new
@@ -79,7 +80,7 @@ turned_on past pages i old was new u t = record {
   turned = sym (turns_as old was u.given) ∙ t.turned;
   bytes = u.bytes ++ t.bytes;
   whole = subst IsWhole (append_assoc past.given u.bytes t.bytes) t.whole;
-  denotes = λ p shows. subst (λ (l : List ℕ). Denotes l p) (append_assoc past.given u.bytes t.bytes) (t.denotes p shows);
+  denotes = λ p shows. subst (λ (l : List ℕ). IsPictureFile l p) (append_assoc past.given u.bytes t.bytes) (t.denotes p shows);
   join = t.join;
   client = subst (λ (v : ClientState). TurnsPage v new.client) (ap (λ (v : ClientState). record v { join = t.join }) u.given.client) t.client;
   holds = subst (λ (q : JoinHistory). HoldsHistory empty_history (pages ++ q ∷ []) new) (pulled_twice past u.bytes t.bytes) t.holds;

@@ -217,7 +217,7 @@ pub last_page : (past : JoinHistory) (pages : List JoinHistory) (p : Endpoint) �
 last_page past pages p u done joined =
     let shown = whole_shows past p.client.join u.holds.serves.stands joined in
     let denotes = u.done done joined in
-    record { whole = (shown.0, denotes shown.0 shown.1); denotes = denotes }
+    record { whole = (shown.0, (denotes shown.0 shown.1).denotes); denotes = denotes }
 
 all_laid : (past : JoinHistory) (pages : List JoinHistory) (p : Endpoint) → FileIsUnderWay past pages p → is_done p.client.outcome ≡ true → IsJoined past → length pages < 16 → p.task ≡ tasks.Batch (length pages + 1) → FilesRepresent (laid_by p)
 all_laid past pages p u done joined less all =

@@ -3,7 +3,6 @@ use Rattle.std.proofs.Common.{◌≡◌, ◌≢◌, ◌∙◌, ℕ, zero, suc, i
 use Rattle.std.proofs.lemmas.List.{append-nil, length-set}
 use Rattle.std.proofs.lemmas.Option.{slice_get_within}
 use Rattle.netpbm.specs.Picture.{Picture}
-use Rattle.netpbm.specs.Pnm.{Denotes}
 use Rattle.page_picture.specs.Shows.{ShowsFrames, Frame}
 use Rattle.frame_join.specs.declared.join_stage.JoinFault.{JoinFault}
 use Rattle.frame_join.specs.FrameHistory.{JoinHistory, IsJoined, empty_history, after_pull, answer_by}
@@ -21,6 +20,8 @@ use Rattle.net_client.proofs.Hearings.{calm_at}
 use Rattle.event_world.specs.declared.endpoint.Endpoint.{Endpoint}
 use Rattle.event_world.specs.Endpoints.{IsKept, laid_by}
 use Rattle.event_world.specs.FileDraining.{KeepsFile, HasFiles, HoldsHistory, IsGiven, IsLaid, TurnsTo, RunsDry}
+use Rattle.netpbm.specs.Pnm.{Denotes}
+use Rattle.frame_join.specs.PictureText.{IsPictureFile}
 
 -- ---- no fault stands in a scan that has not ended otherwise
 
@@ -167,13 +168,13 @@ errand_kept was now e = ap (λ (v : ClientState). v.target) e
 
 pub dry : (b : Bool) (past : JoinHistory) (pages : List JoinHistory) (bytes : List ℕ) (old new : Endpoint) (c : ClientState) → bytes ≡ [] → IsKept b bytes (record old { client = c }) new → c ≡ record old.client { join = c.join } → ClientRepresents (after_pull bytes past) c
     → turns old.client.outcome old.client.progress ≡ false
-    → (is_ended old.client.outcome ≡ false → IsJoined past → (p : Picture) → ShowsFrames past.ended p → Denotes past.given p) → HoldsHistory past pages old → RunsDry past pages old new
+    → (is_ended old.client.outcome ≡ false → IsJoined past → (p : Picture) → ShowsFrames past.ended p → IsPictureFile past.given p) → HoldsHistory past pages old → RunsDry past pages old new
 dry b past pages bytes old new c none kept same serves still denotes h = record {
   bytes = bytes;
   still = still;
   holds = holds_more b past pages bytes old new c kept (errand_kept old.client c same) serves h;
   given = given_more b bytes old new c kept same;
-  denotes = λ alive joined p shows. subst (λ (l : List ℕ). Denotes l p) (sym (append-nil past.given) ∙ ap (λ (l : List ℕ). past.given ++ l) (sym none)) (denotes alive joined p shows);
+  denotes = λ alive joined p shows. subst (λ (l : List ℕ). IsPictureFile l p) (sym (append-nil past.given) ∙ ap (λ (l : List ℕ). past.given ++ l) (sym none)) (denotes alive joined p shows);
 }
 
 -- ---- the page of a batch
@@ -237,12 +238,12 @@ page_turns b past pages bytes old new c (Turns whole shows turned serves) kept o
 
 -- a page that is whole is not dry
 pub page_dry : (b : Bool) (past : JoinHistory) (bytes : List ℕ) (old new : Endpoint) (c : ClientState) → TakesPage old.client past bytes c → IsKept b bytes (record old { client = c }) new → IsStill new.client → IsStill old.client → bytes ≡ []
-    → ((q : JoinHistory) (join : JoinState) → Represents q join → IsJoined q → (p : Picture) × ShowsFrames q.ended p) → ((p : Picture) → IsJoined past → is_ended old.client.outcome ≡ false → ShowsFrames past.ended p → Denotes past.given p) → ClientRepresents past old.client → ⊥
+    → ((q : JoinHistory) (join : JoinState) → Represents q join → IsJoined q → (p : Picture) × ShowsFrames q.ended p) → ((p : Picture) → IsJoined past → is_ended old.client.outcome ≡ false → ShowsFrames past.ended p → IsPictureFile past.given p) → ClientRepresents past old.client → ⊥
 page_dry b past bytes old new c (Stays short same serves) kept still on none law denotes at =
     let joined = turns_joined old.client.target.task old.client.outcome old.client.progress past on at.fits in
     let shown = law past old.client.join at.stands joined in
-    let text : Denotes past.given shown.0 = denotes shown.0 joined (turns_alive old.client.outcome old.client.progress on) shown.1 in
-    short (shown.0, subst (λ (l : List ℕ). Denotes l shown.0) (sym (append-nil past.given) ∙ ap (λ (l : List ℕ). past.given ++ l) (sym none)) text)
+    let text : IsPictureFile past.given shown.0 = denotes shown.0 joined (turns_alive old.client.outcome old.client.progress on) shown.1 in
+    short (shown.0, subst (λ (l : List ℕ). Denotes l shown.0) (sym (append-nil past.given) ∙ ap (λ (l : List ℕ). past.given ++ l) (sym none)) text.denotes)
 page_dry b past bytes old new c (Turns whole shows turned serves) kept still on none law denotes at =
     no_still (turns new.client.outcome new.client.progress) true still (ap (λ (v : ClientState). turns v.outcome v.progress) (kept_client b bytes old new c kept) ∙ turned_off old.client c turned)
 

@@ -2,7 +2,7 @@
 use Rattle.std.specs.Prelude.{ℕ, ◌≡◌, ◌≢◌, ◌<◌, Bool, true, false, Option, Some, None, List, [], ◌∷◌, ◌++◌, length}
 use Rattle.std.specs.Prelude.{slice_get}
 use Rattle.netpbm.specs.Picture.{Picture}
-use Rattle.netpbm.specs.Pnm.{Denotes, IsWhole}
+use Rattle.netpbm.specs.Pnm.{IsWhole}
 use Rattle.page_picture.specs.Shows.{ShowsFrames}
 use Rattle.frame_join.specs.FrameHistory.{JoinHistory, IsJoined, empty_history, after_pull}
 use Rattle.frame_join.specs.JoinStates.{JoinState}
@@ -11,6 +11,7 @@ use Rattle.net_client.specs.ClientStates.{ClientRepresents, TurnsPage}
 use Rattle.event_world.specs.declared.endpoint.Endpoint.{Endpoint}
 use Rattle.event_world.specs.declared.draining.Pull.{Pull}
 use Rattle.event_world.specs.declared.draining.Pull.TheVariants.{More, Dry, NextPage}
+use Rattle.frame_join.specs.PictureText.{IsPictureFile}
 
 -- the bytes given of a file are there, or none once a growth was refused
 abbrev pub KeepsFile : Bool → List ℕ → Option (List ℕ) → Type 0
@@ -60,7 +61,7 @@ pub record TurnsTo (past : JoinHistory) (pages : List JoinHistory) (old new : En
   pub turned : turns old.client.outcome old.client.progress ≡ true
   pub bytes : List ℕ
   pub whole : IsWhole (past.given ++ bytes)
-  pub denotes : (p : Picture) → ShowsFrames past.ended p → Denotes (past.given ++ bytes) p
+  pub denotes : (p : Picture) → ShowsFrames past.ended p → IsPictureFile (past.given ++ bytes) p
   pub join : JoinState
   pub client : TurnsPage (record old.client { join = join }) new.client
   pub holds : HoldsHistory empty_history (pages ++ after_pull bytes past ∷ []) new
@@ -73,7 +74,7 @@ pub record RunsDry (past : JoinHistory) (pages : List JoinHistory) (old new : En
   pub holds : HoldsHistory (after_pull bytes past) pages new
   pub given : IsGiven old new
   pub denotes : is_ended old.client.outcome ≡ false → IsJoined past → (p : Picture) → ShowsFrames past.ended p
-      → Denotes (past.given ++ bytes) p
+      → IsPictureFile (past.given ++ bytes) p
 
 -- one pull: some bytes, none, or the last ones of a page
 abbrev pub Pulls : JoinHistory → List JoinHistory → Endpoint → Pull → Endpoint → Type 0

@@ -1,7 +1,7 @@
 -- What stands of the files of a job, whatever happens: they are those of what its client was told.
 use Rattle.std.specs.Prelude.{ℕ, ◌≡◌, ◌+◌, ◌<◌, ◌≤◌, true, Some, List, [], length, slice_get}
 use Rattle.netpbm.specs.Picture.{Picture}
-use Rattle.netpbm.specs.Pnm.{Denotes, IsWhole}
+use Rattle.netpbm.specs.Pnm.{IsWhole}
 use Rattle.page_picture.specs.Shows.{ShowsFrames}
 use Rattle.frame_join.specs.FrameHistory.{JoinHistory, IsJoined}
 use Rattle.scan_job.specs.declared.job.Task.{Task}
@@ -13,11 +13,12 @@ use Rattle.client_replies.specs.ProtocolStates.{is_turning}
 use Rattle.event_world.specs.declared.endpoint.Endpoint.{Endpoint}
 use Rattle.event_world.specs.JobEvents.{is_done}
 use Rattle.event_world.specs.FileDraining.{HasFiles, HoldsHistory}
+use Rattle.frame_join.specs.PictureText.{IsPictureFile}
 
 -- the file of a page is whole, and that of the picture that the page's frames show
 pub record IsPage (page : JoinHistory) : Type 0 where
   pub whole : IsWhole page.given
-  pub denotes : (p : Picture) → ShowsFrames page.ended p → Denotes page.given p
+  pub denotes : (p : Picture) → ShowsFrames page.ended p → IsPictureFile page.given p
 
 abbrev pub ArePages : List JoinHistory → Type 0
 ArePages pages = (k : ℕ) (page : JoinHistory) → slice_get pages k ≡ Some page → IsPage page
@@ -53,7 +54,7 @@ pub record FileIsUnderWay (past : JoinHistory) (pages : List JoinHistory) (p : E
   pub number : HasNumber p.task p.client.outcome p.client.progress p.client.notes.file (length pages)
   pub pages_are : ArePages pages
   pub done : is_done p.client.outcome ≡ true → IsJoined past → (q : Picture) → ShowsFrames past.ended q
-      → Denotes past.given q
+      → IsPictureFile past.given q
 
 -- a batch is done with its last page: all its files are laid by
 pub record IsAllLaid (pages : List JoinHistory) (p : Endpoint) : Type 0 where

@@ -2,7 +2,7 @@
 use Rattle.std.proofs.Common.{◌≡◌, ℕ, ◌<◌, ◌+◌, ◌*◌, ◌⊎◌, inl, inr, Bool, true, false, List, [], ◌∷◌, ◌++◌, length, arith, refl, sym, ap, ◌∙◌, subst}
 use Rattle.std.specs.Prelude.{nat_lt, ◌↔◌, if◌then◌else◌, Option, Some, None, Ok, Err, slice_index}
 use Rattle.netpbm.specs.Picture.{Picture}
-use Rattle.netpbm.specs.Pnm.{Denotes, IsWhole}
+use Rattle.netpbm.specs.Pnm.{IsWhole}
 use Rattle.sane_fixed.specs.declared.frame_format.FrameFormat.{FrameFormat}
 use Rattle.sane_fixed.specs.declared.frame_format.FrameFormat.TheVariants.{Gray, Rgb, Red, Green, Blue}
 use Rattle.frame_join.specs.declared.join_stage.JoinFault.{JoinFault}
@@ -18,6 +18,7 @@ use Rattle.frame_join.specs.FrameHistory.{JoinHistory, after_feed, after_end, af
 use Rattle.frame_join.specs.FrameFile.{file_front, file_of, AllGone, with_height, frame_height}
 use Rattle.frame_join.specs.JoinStages.{fault_in, is_under}
 use Rattle.frame_join.specs.PixelJoinStates.{PixelJoinState, PixelRepresents, AreColors, IsPartOfColors}
+use Rattle.frame_join.specs.PictureText.{IsPictureFile}
 use Rattle.frame_join.specs.Inside.{value_ended, answer_at}
 use Rattle.frame_join.proofs.AcceptLaws.{alone_is}
 use Rattle.frame_join.proofs.FrameLaws.{denotes_shown}
@@ -25,6 +26,7 @@ use Rattle.frame_join.proofs.StreamLaws.{grown, goes_is_not_whole, nothing_is_no
 use Rattle.frame_join.proofs.KeptLaws.{open_parts, pass_parts}
 use Rattle.frame_join.proofs.SideLaws.{three_parts, side_shows, colors_show}
 use Rattle.frame_join.proofs.HeightLaws.{shown_full, color_full, settled_shows, unsettled_shows}
+use Rattle.frame_join.proofs.OwnText.{is_file}
 use Rattle.frame_join.proofs.JoinLaws.{at_stage, fault_at, end_none, end_under, end_carries, past_fed, past_ended, part_parts, kept_sort}
 
 -- ---- what `end` answers
@@ -148,20 +150,20 @@ joined_shows past v stands joined = elim (joined_stage past v stands joined) [
 ]
 
 -- once nothing more may go out of a whole picture, what went out denotes what the frames show
-pub gone_denotes : (past : JoinHistory) (v : PixelJoinState) → PixelRepresents past v → IsJoined past → AllGone past.under past.ended past.given → (p : Picture) → ShowsFrames past.ended p → Denotes past.given p
-gone_denotes past v stands joined gone p shows = by_stage (joined_stage past v stands joined)
+pub gone_file : (past : JoinHistory) (v : PixelJoinState) → PixelRepresents past v → IsJoined past → AllGone past.under past.ended past.given → (p : Picture) → ShowsFrames past.ended p → IsPictureFile past.given p
+gone_file past v stands joined gone p shows = by_stage (joined_stage past v stands joined)
   where
     all : past.given ≡ file_of past.ended
     all = subst (λ (u : Option Frame). AllGone u past.ended past.given) (joined_under past v stands joined) gone
 
-    by_stage : (v.stage ≡ Whole) ⊎ (v.stage ≡ WholeColors) → Denotes past.given p
+    by_stage : (v.stage ≡ Whole) ⊎ (v.stage ≡ WholeColors) → IsPictureFile past.given p
     by_stage (inl whole) =
         let at = at_stage Whole past v whole stands in
         let f = at.0 in
         let alone : ShowsAlone f p = subst (λ (es : List Frame). ShowsFrames es p) at.1 shows in
         let file : past.given ≡ file_front (with_height f) (frame_height f) = all ∙ (ap file_of at.1 ∙ ap (λ (t : Bool). if t then file_front (with_height f) (frame_height f) else []) at.4.goes.alone.format) in
         let parts = at.4.goes.alone in
-        subst (λ (l : List ℕ). Denotes l p) (sym file) (denotes_shown (with_height f) p parts (settled_shows f p (omega (arith, parts.shape.row_some, parts.shape.fits)) alone))
+        subst (λ (l : List ℕ). IsPictureFile l p) (sym file) (is_file (with_height f) p parts at.4.goes.bytes (settled_shows f p (omega (arith, parts.shape.row_some, parts.shape.fits)) alone))
     by_stage (inr colors) =
         let at = at_stage WholeColors past v colors stands in
         let a = at.0 in
@@ -169,7 +171,7 @@ gone_denotes past v stands joined gone p shows = by_stage (joined_stage past v s
         let c = at.2 in
         let three = three_parts a b c at.5.colors in
         let three_shows : ShowsColors a b c p = subst (λ (es : List Frame). ShowsFrames es p) at.3 shows in
-        subst (λ (l : List ℕ). Denotes l p) (sym (all ∙ ap file_of at.3)) (denotes_shown (side_by_side c (planes_of (a ∷ b ∷ c ∷ []))) p at.5.goes.alone (side_shows a b c p three three_shows))
+        subst (λ (l : List ℕ). IsPictureFile l p) (sym (all ∙ ap file_of at.3)) (is_file (side_by_side c (planes_of (a ∷ b ∷ c ∷ []))) p at.5.goes.alone at.5.goes.bytes (side_shows a b c p three three_shows))
 
 -- the file of a whole picture is that of one frame
 pub joined_file : (past : JoinHistory) (v : PixelJoinState) → PixelRepresents past v → IsJoined past → (f : Frame) × (is_alone f.params ≡ true) × ((i : ℕ) → slice_index f.payload i < 256) × (file_of past.ended ≡ file_front f (lines_in f.params.lines))

@@ -3,7 +3,7 @@ use Rattle.std.proofs.Common.{◌≡◌, ℕ, ◌*◌, ◌≤◌, length, Bool, 
 use Rattle.std.specs.Prelude.{◌&&◌, ◌||◌, ◌↔◌, Option, Some, None, option_map, Result, Ok, Err}
 use Rattle.std.proofs.lemmas.Bool.{and_parts}
 use Rattle.netpbm.specs.Picture.{Picture}
-use Rattle.netpbm.specs.Pnm.{Denotes, IsWhole}
+use Rattle.netpbm.specs.Pnm.{IsWhole}
 use Rattle.page_picture.specs.Shows.{Frame, ShowsFrames}
 use Rattle.frame_join.specs.declared.join_stage.JoinFault.{JoinFault}
 use Rattle.frame_join.specs.declared.join_stage.JoinFault.TheVariants.{Short}
@@ -16,10 +16,11 @@ use Rattle.frame_join.specs.FrameHistory.{JoinHistory, is_full, is_full_at, with
 use Rattle.frame_join.specs.JoinStages.{is_keeping, is_between, is_colors}
 use Rattle.frame_join.specs.PixelJoinStates.{PixelJoinState, PixelRepresents, PixelRepresentsAt}
 use Rattle.frame_join.specs.Pixels.{is_kept, pixels_of, pixel_history}
+use Rattle.frame_join.specs.PictureText.{IsPictureFile}
 use Rattle.frame_join.specs.JoinStates.{JoinState, Represents}
 use Rattle.frame_join.proofs.TestLemmas.{or_left, or_right, not_true}
 use Rattle.frame_join.proofs.KeptLaws.{kept_shape}
-use Rattle.frame_join.proofs.EndLaws.{joined_shows, gone_denotes, not_whole}
+use Rattle.frame_join.proofs.EndLaws.{joined_shows, gone_file, not_whole}
 use Rattle.frame_join.proofs.PixelPasts.{end_same, answer_same, frames_same, shown_wide, shown_narrow, IsSure, AreSure, sure, sure-append}
 use Rattle.frame_join.proofs.PixelSteps.{under_alone, alone_not_kept, fails_kept, in_kept}
 use Rattle.frame_join.proofs.PixelParams.{pixels_kept}
@@ -132,13 +133,13 @@ whole_shows past v stands joined =
     let h = joined_shows (pixel_history past) v.pixels stands.pixels (joined_less past joined) in
     (h.0, shown_more past v stands h.0 h.1)
 
-pub all_denotes : (past : JoinHistory) (v : JoinState) → Represents past v → IsJoined past → AllGone past.under past.ended past.given → (p : Picture) → ShowsFrames past.ended p → Denotes past.given p
+pub all_denotes : (past : JoinHistory) (v : JoinState) → Represents past v → IsJoined past → AllGone past.under past.ended past.given → (p : Picture) → ShowsFrames past.ended p → IsPictureFile past.given p
 all_denotes past v stands joined gone p shows =
     let rest = rest_joined past v stands joined in
     let calm = calm_joined past v stands joined in
     let file : past.given ≡ file_of past.ended = subst (λ (u : Option Frame). AllGone u past.ended past.given) rest gone in
     let less : AllGone (option_map pixels_of past.under) (map pixels_of past.ended) past.given = subst (λ (u : Option Frame). AllGone u (map pixels_of past.ended) past.given) (sym (ap (option_map pixels_of) rest)) (file ∙ sym (file_joined past v stands calm rest)) in
-    gone_denotes (pixel_history past) v.pixels stands.pixels (joined_less past joined) less p (shown_less past v stands p shows)
+    gone_file (pixel_history past) v.pixels stands.pixels (joined_less past joined) less p (shown_less past v stands p shows)
 
 -- ---- how much is kept
 

@@ -201,13 +201,13 @@ sample_eight c f x y k deep = rw deep refl
 pub sample_sixteen : (c : ℕ) (f : Frame) (x y k : ℕ) → f.params.depth ≡ 16 → frame_sample c f x y k ≡ two_bytes f.order f.payload (y * f.params.bytes_per_line + 2 * (c * x + k))
 sample_sixteen c f x y k deep = rw deep refl
 
-record RasterOf (f : Frame) (n : ℕ) (g : PnmFormat) (m c : ℕ) : Type 0 where
-  channels : channels_of g ≡ c
-  bits : g ≡ Pbm → m ≡ 1
-  some : 1 ≤ m
-  most : m ≤ 65535
-  size : length (rows_front f n) ≡ raster_length g f.params.pixels_per_line n m
-  samples : (x y k : ℕ) → x < f.params.pixels_per_line → y < n → k < c → sample_in g f.params.pixels_per_line m (rows_front f n) x y k ≡ frame_sample c f x y k
+pub record RasterOf (f : Frame) (n : ℕ) (g : PnmFormat) (m c : ℕ) : Type 0 where
+  pub channels : channels_of g ≡ c
+  pub bits : g ≡ Pbm → m ≡ 1
+  pub some : 1 ≤ m
+  pub most : m ≤ 65535
+  pub size : length (rows_front f n) ≡ raster_length g f.params.pixels_per_line n m
+  pub samples : (x y k : ℕ) → x < f.params.pixels_per_line → y < n → k < c → sample_in g f.params.pixels_per_line m (rows_front f n) x y k ≡ frame_sample c f x y k
 
 raster_one : (f : Frame) (n : ℕ) → f.params.depth ≡ 1 → RasterOf f n Pbm 1 1
 raster_one f n deep = record {
@@ -291,7 +291,7 @@ bits_channels g c a e = some_same 1 c (rw a at e)
 one_greatest : (d : ℕ) → d ≡ 1 → greatest_at d ≡ 1
 one_greatest d e = rw e refl
 
-raster_of : (f : Frame) (n c : ℕ) → AloneParts f.params → channels_alone f.params.format ≡ Some c → RasterOf f n (format_alone f.params.format f.params.depth) (greatest_at f.params.depth) c
+pub raster_of : (f : Frame) (n c : ℕ) → AloneParts f.params → channels_alone f.params.format ≡ Some c → RasterOf f n (format_alone f.params.format f.params.depth) (greatest_at f.params.depth) c
 raster_of f n c parts channels = by_depth parts.shape.depths
   where
     by_depth : (f.params.depth ≡ 1) ⊎ ((f.params.depth ≡ 8) ⊎ (f.params.depth ≡ 16)) → RasterOf f n (format_alone f.params.format f.params.depth) (greatest_at f.params.depth) c

@@ -203,8 +203,11 @@ row_is f y parts small = by_depth parts.shape.depths
         moved f y Pbm (format_alone f.params.format f.params.depth) 1 (greatest_at f.params.depth) 1 (channels_within f.params.format) (bits_format f.params.format f.params.depth (parts.shape.bits deep) deep) (one_greatest f.params.depth deep) (bits_channels f.params.format (parts.shape.bits deep)) (row_one f y deep small)
     by_depth (inr deep) = by_format f.params.depth f.params.format refl refl parts.format deep
 
-pub front_is_text : (f : Frame) (n : ℕ) → is_alone f.params ≡ true → ((i : ℕ) → slice_index f.payload i < 256) → file_front f n ≡ header_text (header_alone f.params) ++ concat_up_to (λ y. row_text (header_alone f.params).format (header_alone f.params).maxval (header_alone f.params).width (λ x k. frame_sample (channels_within f.params.format) f x y k)) n
+pub front_by_parts : (f : Frame) (n : ℕ) → AloneParts f.params → ((i : ℕ) → slice_index f.payload i < 256) → file_front f n ≡ header_text (header_alone f.params) ++ concat_up_to (λ y. row_text (header_alone f.params).format (header_alone f.params).maxval (header_alone f.params).width (λ x k. frame_sample (channels_within f.params.format) f x y k)) n
 unfolding rows_front
-front_is_text f n alone small =
+front_by_parts f n parts small =
     ap (λ (l : List ℕ). header_text (header_alone f.params) ++ l)
-    (joined_same (λ y. row_front f y (row_bytes f.params)) (λ y. row_text (format_alone f.params.format f.params.depth) (greatest_at f.params.depth) f.params.pixels_per_line (λ x k. frame_sample (channels_within f.params.format) f x y k)) n (λ y _. row_is f y (alone_parts f.params alone) small))
+    (joined_same (λ y. row_front f y (row_bytes f.params)) (λ y. row_text (format_alone f.params.format f.params.depth) (greatest_at f.params.depth) f.params.pixels_per_line (λ x k. frame_sample (channels_within f.params.format) f x y k)) n (λ y _. row_is f y parts small))
+
+pub front_is_text : (f : Frame) (n : ℕ) → is_alone f.params ≡ true → ((i : ℕ) → slice_index f.payload i < 256) → file_front f n ≡ header_text (header_alone f.params) ++ concat_up_to (λ y. row_text (header_alone f.params).format (header_alone f.params).maxval (header_alone f.params).width (λ x k. frame_sample (channels_within f.params.format) f x y k)) n
+front_is_text f n alone small = front_by_parts f n (alone_parts f.params alone) small

@@ -1,13 +1,14 @@
 -- The whole file of a picture has gone exactly where nothing more of it may go.
 use Rattle.std.proofs.Common.{◌≡◌, ◌∙◌, Bool, true, false, not, ◌↔◌, Option, [], ◌∷◌, Ok, refl, sym, subst}
 use Rattle.netpbm.specs.Picture.{Picture}
-use Rattle.netpbm.specs.Pnm.{Denotes, IsWhole}
+use Rattle.netpbm.specs.Pnm.{IsWhole}
 use Rattle.page_picture.specs.Shows.{Frame, ShowsFrames}
 use Rattle.frame_join.specs.FrameFile.{AllGone, file_of}
 use Rattle.frame_join.specs.FrameHistory.{JoinHistory, IsJoined, after_pull}
 use Rattle.frame_join.specs.PixelJoinStates.{PixelJoinState, PixelRepresents}
+use Rattle.frame_join.specs.PictureText.{IsPictureFile}
 use Rattle.frame_join.specs.Inside.{answer_at, may_go}
-use Rattle.frame_join.proofs.EndLaws.{answers, gone_denotes, joined_no_fault, joined_shows, joined_under, not_whole}
+use Rattle.frame_join.proofs.EndLaws.{answers, gone_file, joined_no_fault, joined_shows, joined_under, not_whole}
 use Rattle.frame_join.proofs.FrontLaws.{no_front}
 use Rattle.frame_join.proofs.PullLaws.{after_next, next_byte, next_carries, spent}
 
@@ -21,7 +22,7 @@ pub some_left : (past : JoinHistory) (v : PixelJoinState) → PixelRepresents pa
 some_left past v stands goes joined all =
     let shown = joined_shows past v stands joined in
     let gone = subst (λ (u : Option Frame). AllGone u past.ended past.given) (sym (joined_under past v stands joined)) all in
-    let whole : IsWhole past.given = (shown.0, gone_denotes past v stands joined gone shown.0 shown.1) in
+    let whole : IsWhole past.given = (shown.0, (gone_file past v stands joined gone shown.0 shown.1).denotes) in
     no_front (after_pull (next_byte v ∷ []) past) (after_next v) past.given (next_byte v ∷ []) (next_carries past v goes stands) (joined_no_fault past v stands joined) refl (λ e. cc) whole
 
 pub given_exactly : (past : JoinHistory) (v : PixelJoinState) (goes : Bool) → PixelRepresents past v → answer_at v.stage ≡ Ok true → goes ≡ may_go v → (not goes ≡ true) ↔ (IsJoined past × (past.given ≡ file_of past.ended))
@@ -32,23 +33,23 @@ pub no_more_whole : (past : JoinHistory) (v : PixelJoinState) → PixelRepresent
 no_more_whole past v stands goes joined whole =
     no_front (after_pull (next_byte v ∷ []) past) (after_next v) past.given (next_byte v ∷ []) (next_carries past v goes stands) (joined_no_fault past v stands joined) refl (λ e. cc) whole
 
-pub given_denotes : (past : JoinHistory) (v : PixelJoinState) → PixelRepresents past v → answer_at v.stage ≡ Ok true → may_go v ≡ false → (p : Picture) → ShowsFrames past.ended p → Denotes past.given p
-given_denotes past v stands answer stops p shows =
+pub given_file : (past : JoinHistory) (v : PixelJoinState) → PixelRepresents past v → answer_at v.stage ≡ Ok true → may_go v ≡ false → (p : Picture) → ShowsFrames past.ended p → IsPictureFile past.given p
+given_file past v stands answer stops p shows =
     let joined : IsJoined past = answers past v stands ∙ answer in
-    gone_denotes past v stands joined (spent past v stands stops (joined_no_fault past v stands joined)) p shows
+    gone_file past v stands joined (spent past v stands stops (joined_no_fault past v stands joined)) p shows
 
 pub given_whole : (past : JoinHistory) (v : PixelJoinState) (goes : Bool) → PixelRepresents past v → answer_at v.stage ≡ Ok true → goes ≡ may_go v → (not goes ≡ true) ↔ IsWhole past.given
 given_whole past v true stands answer is = (λ no. (let clash : false ≡ true = no in cc), λ whole. absurd (no_more_whole past v stands (sym is) (answers past v stands ∙ answer) whole))
 given_whole past v false stands answer is = (
   λ _.
       let shown = joined_shows past v stands (answers past v stands ∙ answer) in
-      (shown.0, given_denotes past v stands answer (sym is) shown.0 shown.1),
+      (shown.0, (given_file past v stands answer (sym is) shown.0 shown.1).denotes),
   λ _. refl,
 )
 
-pub given_shown : (past : JoinHistory) (v : PixelJoinState) (goes : Bool) → PixelRepresents past v → answer_at v.stage ≡ Ok true → goes ≡ may_go v → not goes ≡ true → (p : Picture) → ShowsFrames past.ended p → Denotes past.given p
+pub given_shown : (past : JoinHistory) (v : PixelJoinState) (goes : Bool) → PixelRepresents past v → answer_at v.stage ≡ Ok true → goes ≡ may_go v → not goes ≡ true → (p : Picture) → ShowsFrames past.ended p → IsPictureFile past.given p
 given_shown past v true stands answer is none p shows = absurd (let clash : false ≡ true = none in cc)
-given_shown past v false stands answer is _ p shows = given_denotes past v stands answer (sym is) p shows
+given_shown past v false stands answer is _ p shows = given_file past v stands answer (sym is) p shows
 
 pub never_whole : (past : JoinHistory) (v : PixelJoinState) → PixelRepresents past v → (answer_at v.stage ≡ Ok true → ⊥) → (false ≡ true) ↔ IsWhole past.given
 never_whole past v stands other = (λ no. absurd (let clash : false ≡ true = no in cc), λ whole. absurd (not_whole past v stands (λ joined. other (sym (answers past v stands) ∙ joined)) whole))

@@ -10,6 +10,7 @@ pub mod KeptLaws
 pub mod ColorLaws
 pub mod SideLaws
 pub mod HeightLaws
+pub mod OwnText
 pub mod EndLaws
 pub mod PullLaws
 pub mod GivenLaws

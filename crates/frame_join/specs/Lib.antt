@@ -3,6 +3,7 @@ pub mod KeptFrame
 pub mod ColorPlanes
 pub mod FrameHistory
 pub mod FrameFile
+pub mod PictureText
 pub mod JoinStages
 pub mod PixelJoinStates
 pub mod PlaneInside

@@ -1,6 +1,7 @@
 ghost use Rattle.std.specs.Prelude.{◌≡◌, ◌≢◌, ◌&&◌, [], ◌≤◌, ◌+◌, ◌-◌, ◌*◌, ◌^◌, ◌↔◌, Ok, not, true, None, length};
 ghost use Rattle.netpbm.specs.Picture.{Picture};
-ghost use Rattle.netpbm.specs.Pnm.{Denotes, IsWhole};
+ghost use Rattle.netpbm.specs.Pnm.{IsWhole};
+ghost use Rattle.frame_join.specs.PictureText.{IsPictureFile};
 ghost use Rattle.page_picture.specs.Shows.{Frame, ShowsFrames};
 ghost use Rattle.frame_join.specs.FrameFile.{file_of};
 ghost use Rattle.frame_join.specs.FrameHistory.{JoinHistory, empty_history, after_begin, after_feed, after_end, answer_of_end, history_frames, is_full_at, IsJoined};
@@ -183,8 +184,8 @@ impl FrameJoin {
         // That is exactly where what was given in all is a whole file, and it is that of the picture that the frames show.
         ensures whole { (past : JoinHistory)
             → Represents past self.now → (result ≡ true) ↔ IsWhole past.given }
-        ensures denotes { (past : JoinHistory) → Represents past self.now
-            → result ≡ true → (p : Picture) → ShowsFrames past.ended p → Denotes past.given p }
+        ensures denotes { (past : JoinHistory) → Represents past self.now → result ≡ true
+            → (p : Picture) → ShowsFrames past.ended p → IsPictureFile past.given p }
     {
         self.pixels.has_given_all()
     }

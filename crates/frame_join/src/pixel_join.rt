@@ -1,6 +1,7 @@
 ghost use Rattle.std.specs.Prelude.{◌≡◌, ◌≢◌, [], ◌≤◌, ◌<◌, ◌+◌, ◌++◌, ◌-◌, ◌*◌, ◌||◌, ◌↔◌, ◌⊎◌, Ok, IfOk, true, false, None, Some, ℕ, length, slice_index, take, drop, vec_len, vec_capacity};
 ghost use Rattle.netpbm.specs.Picture.{Picture};
-ghost use Rattle.netpbm.specs.Pnm.{Denotes, IsWhole};
+ghost use Rattle.netpbm.specs.Pnm.{IsWhole};
+ghost use Rattle.frame_join.specs.PictureText.{IsPictureFile};
 ghost use Rattle.page_picture.specs.Shows.{ShowsFrames};
 ghost use Rattle.frame_join.specs.AloneFrame.{AloneParts, ShapeParts, most_lines, row_bytes};
 ghost use Rattle.frame_join.specs.KeptFrame.{is_unknown, is_open_ended, is_pass};
@@ -377,8 +378,8 @@ impl PixelJoin {
             → result ≡ 0 → 0 < length buf.old → AllGone past.under past.ended past.given }
         // Then, where the picture is whole, what was given in all denotes the picture that the frames show.
         ensures denotes { (past : JoinHistory)
-            → PixelRepresents past self.old → IsJoined past → result ≡ 0
-            → 0 < length buf.old → (p : Picture) → ShowsFrames past.ended p → Denotes past.given p }
+            → PixelRepresents past self.old → IsJoined past → result ≡ 0 → 0 < length buf.old
+            → (p : Picture) → ShowsFrames past.ended p → IsPictureFile past.given p }
         // Before the picture is whole, what was given in all is not.
         ensures whole { (past : JoinHistory) → PixelRepresents past self.old
             → (IsJoined past → ⊥) → IsWhole (past.given ++ take result buf.new) → ⊥ }
@@ -629,8 +630,8 @@ impl PixelJoin {
         // That is exactly where what was given in all is a whole file, and it is that of the picture that the frames show.
         ensures whole { (past : JoinHistory)
             → PixelRepresents past self.now → (result ≡ true) ↔ IsWhole past.given }
-        ensures denotes { (past : JoinHistory) → PixelRepresents past self.now
-            → result ≡ true → (p : Picture) → ShowsFrames past.ended p → Denotes past.given p }
+        ensures denotes { (past : JoinHistory) → PixelRepresents past self.now → result ≡ true
+            → (p : Picture) → ShowsFrames past.ended p → IsPictureFile past.given p }
     {
         let Ok(true) = self.answer() else {
             return false;

@@ -1,6 +1,7 @@
 ghost use Rattle.std.specs.Prelude.{◌≡◌, ◌≤◌, ◌<◌, ◌++◌, Some, None, length, take, drop};
 ghost use Rattle.netpbm.specs.Picture.{Picture};
-ghost use Rattle.netpbm.specs.Pnm.{Denotes, IsWhole};
+ghost use Rattle.netpbm.specs.Pnm.{IsWhole};
+ghost use Rattle.frame_join.specs.PictureText.{IsPictureFile};
 ghost use Rattle.page_picture.specs.Shows.{ShowsFrames};
 ghost use Rattle.frame_join.specs.declared.join_stage.JoinFault.{JoinFault};
 ghost use Rattle.frame_join.specs.FrameHistory.{JoinHistory, after_pull, IsJoined};
@@ -44,8 +45,8 @@ impl PnmOut {
         /// What was pulled in all then denotes that picture, and before it is never whole.
         /// Carried by: `denotes`, `whole` of `PnmOut::pull`; `not_whole_before`
         ensures denotes { (past : JoinHistory)
-            → Represents past join.old → IsJoined past → result ≡ 0
-            → 0 < length buf.old → (p : Picture) → ShowsFrames past.ended p → Denotes past.given p }
+            → Represents past join.old → IsJoined past → result ≡ 0 → 0 < length buf.old
+            → (p : Picture) → ShowsFrames past.ended p → IsPictureFile past.given p }
         // Before the picture is whole, what was given in all is not.
         ensures whole { (past : JoinHistory) → Represents past join.old
             → (IsJoined past → ⊥) → IsWhole (past.given ++ take result buf.new) → ⊥ }

@@ -4,12 +4,13 @@ use Rattle.std.specs.Io.KnownBytes.{Appends}
 use Rattle.std.proofs.KnownBytes.{Appends-trans}
 use Rattle.std.proofs.lemmas.List.{append_assoc, append-nil, take-append-drop, length-drop}
 use Rattle.netpbm.specs.Picture.{Picture}
-use Rattle.netpbm.specs.Pnm.{Denotes, IsWhole}
+use Rattle.netpbm.specs.Pnm.{IsWhole}
 use Rattle.page_picture.specs.Shows.{ShowsFrames}
 use Rattle.local_job.specs.Inside.{JoinIsDrainedTo}
 use Rattle.scan_job.specs.FileOutputs.{StopsShort}
 use Rattle.frame_join.specs.FrameHistory.{JoinHistory, IsJoined, after_pull}
 use Rattle.frame_join.specs.JoinStates.{JoinState, Represents}
+use Rattle.frame_join.specs.PictureText.{IsPictureFile}
 
 -- after so many pulls: what was given, and that the output took it
 pub record IsUnderway (past : JoinHistory) (first : Option (List ℕ)) (pulls : ℕ) (join : JoinState) (contents : Option (List ℕ)) : Type 0 where
@@ -43,7 +44,7 @@ one_more past first old new i n was now piece some size carried took u = record 
 }
 
 pub at_end : (past : JoinHistory) (first contents : Option (List ℕ)) (i : ℕ) (was now : JoinState) (piece : List ℕ) → piece ≡ [] → ((q : JoinHistory) → Represents q was → Represents (after_pull piece q) now)
-    → ((q : JoinHistory) → Represents q was → IsJoined q → (p : Picture) → ShowsFrames q.ended p → Denotes q.given p) → IsUnderway past first i was contents → JoinIsDrainedTo past first now contents
+    → ((q : JoinHistory) → Represents q was → IsJoined q → (p : Picture) → ShowsFrames q.ended p → IsPictureFile q.given p) → IsUnderway past first i was contents → JoinIsDrainedTo past first now contents
 at_end past first contents i was now piece none carried denotes u = record {
   bytes = u.bytes;
   stands = subst (λ (q : JoinHistory). Represents q now) (ap (λ (l : List ℕ). after_pull l (after_pull u.bytes past)) none ∙ pulled_none (after_pull u.bytes past)) (carried (after_pull u.bytes past) u.stands);

@@ -124,7 +124,7 @@ all_scanned s passes bytes given first contents join limits there law shows few 
     record {
       text = past.given ++ d.bytes;
       taken = d.taken;
-      whole = (shown.0, d.denotes is shown.0 shown.1);
+      whole = (shown.0, (d.denotes is shown.0 shown.1).denotes);
       picture = λ steady.
           let p = picture_of (page_of s) s.setup.scene (width_of s.setup, height_of s.setup (page_of s)) in
           let of_scan : ShowsFrames (frames_of s.setup (page_of s)) p = law s.setup (page_of s) limits.setup.limits (steady_sheet s.pages limits.pages steady) limits.setup.gamma limits.setup.channel_gamma there in

@@ -1,12 +1,13 @@
 -- The frames of a scan on their way from a scanner to the output.
 use Rattle.std.specs.Prelude.{ℕ, ◌≡◌, ◌≢◌, Option, List, true, IsSomeAnd}
 use Rattle.std.specs.Io.KnownBytes.{Appends}
-use Rattle.netpbm.specs.Pnm.{Denotes, IsWhole}
+use Rattle.netpbm.specs.Pnm.{IsWhole}
 use Rattle.page_picture.specs.Meaning.{meaning_of}
 use Rattle.sane_fixed.specs.declared.status.Status.TheVariants.{Good, Eof}
 use Rattle.device_api.specs.State.{DeviceState, page_of, steady_of}
 use Rattle.scan_laws.specs.Stays.{IsSameScan}
 use Rattle.scan_job.specs.declared.stop.Stop.{Stop}
+use Rattle.frame_join.specs.PictureText.{IsPictureFile}
 
 -- what ends a job has a status that is no success
 pub record IsRefusal (stop : Stop) : Type 0 where
@@ -22,4 +23,4 @@ pub record IsScanned (s : DeviceState) (first contents : Option (List ℕ)) : Ty
   pub text : List ℕ
   pub taken : Appends first contents text
   pub whole : IsWhole text
-  pub picture : (steady_of s) ≡ true → IsSomeAnd (meaning_of (page_of s) s.setup.scene) (Denotes text)
+  pub picture : (steady_of s) ≡ true → IsSomeAnd (meaning_of (page_of s) s.setup.scene) (IsPictureFile text)

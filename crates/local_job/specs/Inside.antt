@@ -21,7 +21,7 @@ use Rattle.device_api.specs.InForce.{number_named}
 use Rattle.scan_job.specs.declared.report.Report.{Report}
 use Rattle.local_job.specs.Putting.{value_of_setting}
 use Rattle.netpbm.specs.Picture.{Picture}
-use Rattle.netpbm.specs.Pnm.{Denotes, IsWhole}
+use Rattle.netpbm.specs.Pnm.{IsWhole}
 use Rattle.page_picture.specs.Shows.{Frame, ShowsFrames}
 use Rattle.frame_join.specs.FrameHistory.{JoinHistory, IsJoined, after_pull, is_full, is_joined}
 use Rattle.frame_join.specs.AloneFrame.{most_bytes}
@@ -39,6 +39,7 @@ use Rattle.local_job.specs.LocalPages.{IsFileOfFirstPage}
 use Rattle.scan_laws.specs.Stays.{AreSamePages, LetsGo}
 use Rattle.frame_join.specs.declared.join_stage.JoinFault.TheVariants as fault
 use Rattle.sane_fixed.specs.declared.kind.Kind.TheVariants as kinds
+use Rattle.frame_join.specs.PictureText.{IsPictureFile}
 
 -- ---- what ends a job
 
@@ -120,7 +121,7 @@ pub record JoinIsDrainedTo (past : JoinHistory) (first : Option (List ℕ)) (joi
   pub bytes : List ℕ
   pub stands : Represents (after_pull bytes past) join
   pub taken : Appends first contents (past.given ++ bytes)
-  pub denotes : IsJoined past → (p : Picture) → ShowsFrames past.ended p → Denotes (past.given ++ bytes) p
+  pub denotes : IsJoined past → (p : Picture) → ShowsFrames past.ended p → IsPictureFile (past.given ++ bytes) p
 
 -- bytes came into the frame under way, and the output took what was given
 pub record FeedsJoin (past : JoinHistory) (frame : Frame) (first : Option (List ℕ)) (join : JoinState)

@@ -1,7 +1,7 @@
 -- Pages scanned one after another, each to an output of its own that a shelf gives.
 use Rattle.std.specs.Prelude.{ℕ, zero, suc, ◌+◌, ◌<◌, ◌≤◌, ◌≡◌, ◌≢◌, ◌⊎◌, Option, List, [], ◌∷◌, ◌++◌, true, false}
 use Rattle.std.specs.Prelude.{length, IsSomeAnd}
-use Rattle.netpbm.specs.Pnm.{Denotes, IsWhole}
+use Rattle.netpbm.specs.Pnm.{IsWhole}
 use Rattle.page_picture.specs.Meaning.{meaning_of}
 use Rattle.sane_fixed.specs.declared.status.Status.TheVariants.{Inval, NoDocs}
 use Rattle.scan_frames.specs.Frames.{has_picture}
@@ -13,13 +13,14 @@ use Rattle.scan_job.specs.Stops.{no_memory, failed_output}
 use Rattle.local_job.specs.FrameReading.{KeepsDevice}
 use Rattle.local_job.specs.ScanCauses.{ScanHasCause}
 use Rattle.scan_job.specs.FileOutputs.{AreLeft, TakesBack, output_of, refused_output}
+use Rattle.frame_join.specs.PictureText.{IsPictureFile}
 
 -- ---- files and the scanner
 
 -- a whole file, of the picture that the scanner's options mean on its first page where the page's source is steady
 pub record IsFileOfFirstPage (s : DeviceState) (text : List ℕ) : Type 0 where
   pub whole : IsWhole text
-  pub picture : steady_of s ≡ true → IsSomeAnd (meaning_of (page_of s) s.setup.scene) (Denotes text)
+  pub picture : steady_of s ≡ true → IsSomeAnd (meaning_of (page_of s) s.setup.scene) (IsPictureFile text)
 
 -- the scanner after whole scans of so many pages: a feeder let go of each
 abbrev pub after_pages : ℕ → DeviceState → DeviceState

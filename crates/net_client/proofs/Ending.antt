@@ -6,7 +6,7 @@ use Rattle.wire_format.specs.Writer.{behind}
 use Rattle.sane_fixed.specs.declared.status.Status.{Status}
 use Rattle.sane_fixed.specs.declared.status.Status.TheVariants as statuses
 use Rattle.netpbm.specs.Picture.{Picture}
-use Rattle.netpbm.specs.Pnm.{Denotes, IsWhole}
+use Rattle.netpbm.specs.Pnm.{IsWhole}
 use Rattle.frame_join.proofs.EndSteps.{whole_not}
 use Rattle.page_picture.specs.Shows.{Frame, ShowsFrames}
 use Rattle.frame_join.specs.declared.join_stage.JoinFault.{JoinFault}
@@ -37,6 +37,7 @@ use Rattle.net_client.specs.FramePieces.{TakesEndRecord, ReadsTo, ReadsEnd, Read
 use Rattle.client_replies.proofs.Fitting.{within_is_unjoined, faulty_is_unjoined, ended_unjoined}
 use Rattle.client_replies.proofs.TurnRows.{more_pages, EndRow, EndStops, EndMisfits, NextFrame, NextPage, LastPage, end_row}
 use Rattle.net_client.proofs.Hearings.{between, settles_well, differs, running_is}
+use Rattle.frame_join.specs.PictureText.{IsPictureFile}
 
 -- ---- what the join says at the end of a frame
 
@@ -264,7 +265,7 @@ pub page_stays : (old : ClientState) (past : JoinHistory) (bytes : List ℕ) (jo
 page_stays old past bytes join t serves stands short = Stays short refl (record { stands = stands; fits = page_fits old.target.task old.outcome old.progress past bytes t short serves.fits })
 
 pub page_turned : (old new : ClientState) (past : JoinHistory) (bytes : List ℕ) → turns old.outcome old.progress ≡ true → ClientRepresents past old → IsWhole (past.given ++ bytes)
-    → ((p : Picture) → ShowsFrames past.ended p → Denotes (past.given ++ bytes) p) → TurnsPage old new → TakesPage old past bytes new
+    → ((p : Picture) → ShowsFrames past.ended p → IsPictureFile (past.given ++ bytes) p) → TurnsPage old new → TakesPage old past bytes new
 page_turned old new past bytes t serves whole denotes turn_ = Turns whole denotes turn_ (page_turns old new past t serves turn_)
 
 pub ended_turns_none : (outcome : Outcome) (progress : Progress) → is_ended outcome ≡ true → turns outcome progress ≡ true → ⊥

@@ -3,7 +3,7 @@ use Rattle.std.specs.Prelude.{ℕ, ◌≡◌, ◌≢◌, ◌++◌, true, false, 
 use Rattle.wire_format.specs.Writer.{behind}
 use Rattle.sane_fixed.specs.declared.status.Status.{Status}
 use Rattle.netpbm.specs.Picture.{Picture}
-use Rattle.netpbm.specs.Pnm.{Denotes, IsWhole}
+use Rattle.netpbm.specs.Pnm.{IsWhole}
 use Rattle.page_picture.specs.Shows.{ShowsFrames}
 use Rattle.frame_join.specs.FrameHistory.{JoinHistory, empty_history, after_pull}
 use Rattle.frame_join.specs.JoinStates.{JoinState, Represents}
@@ -24,6 +24,7 @@ use Rattle.client_replies.specs.declared.progress.Next.TheVariants.{Wait, Finish
 use Rattle.client_replies.specs.Asking.{request_for, goodbye}
 use Rattle.client_replies.specs.ProtocolStates.{ProtocolState, HistoryFits, answer_to, target_of, next_file}
 use Rattle.net_client.specs.Sending.{requests_text, optional_request_text}
+use Rattle.frame_join.specs.PictureText.{IsPictureFile}
 
 -- **client (`ClientState`, `ClientRepresents`)**: the job, its outcome, what it waits for and knows, the bytes to go
 -- out, what came of the next reply, where it stands in a frame's records, and the join; it represents a history where
@@ -109,5 +110,6 @@ pub record TurnsPage (old new : ClientState) : Type 0 where
 pub data TakesPage (old : ClientState) (past : JoinHistory) (bytes : List ℕ) (new : ClientState) : Type 0 where
   Stays : (IsWhole (past.given ++ bytes) → ⊥) → new ≡ record old { join = new.join }
       → ClientRepresents (after_pull bytes past) new → TakesPage old past bytes new
-  Turns : IsWhole (past.given ++ bytes) → ((p : Picture) → ShowsFrames past.ended p → Denotes (past.given ++ bytes) p)
+  Turns : IsWhole (past.given ++ bytes)
+      → ((p : Picture) → ShowsFrames past.ended p → IsPictureFile (past.given ++ bytes) p)
       → TurnsPage old new → ClientRepresents empty_history new → TakesPage old past bytes new

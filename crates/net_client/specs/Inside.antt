@@ -15,7 +15,7 @@ use Rattle.net_client.specs.FramePieces.{ReadsTo, ReadsEnd, ReadsFault}
 use Rattle.net_client.specs.declared.imaging.PieceResult.{PieceResult}
 use Rattle.net_client.specs.declared.imaging.PieceResult.TheVariants.{More, Fault, End}
 use Rattle.netpbm.specs.Picture.{Picture}
-use Rattle.netpbm.specs.Pnm.{Denotes, IsWhole}
+use Rattle.netpbm.specs.Pnm.{IsWhole}
 use Rattle.page_picture.specs.Shows.{Frame, ShowsFrames}
 use Rattle.sane_fixed.specs.declared.status.Status.TheVariants as statuses
 use Rattle.scan_job.specs.declared.outcome.Outcome.{Outcome}
@@ -28,6 +28,7 @@ use Rattle.wire_message.specs.declared.message.Procedure.{Procedure}
 use Rattle.wire_message.specs.declared.message.Reply.{Reply}
 use Rattle.wire_message.specs.declared.message_fault.WireFault.{WireFault}
 use Rattle.wire_message.specs.declared.message_fault.WireFault.TheVariants as wire
+use Rattle.frame_join.specs.PictureText.{IsPictureFile}
 
 -- the text of a request of a code and a word
 abbrev pub word_request : ℕ → ℕ → List ℕ
@@ -130,5 +131,6 @@ StopsReading procedure old new = ((new ≡ old) × NeedsMore message_limit (repl
 -- These bytes were taken, where there was room for so many. Where the picture is whole and nothing more comes, what was
 -- given in all denotes it; before it is whole, what was given in all is not.
 pub record GivesPicture (past : JoinHistory) (room : ℕ) (bytes : List ℕ) : Type 0 where
-  pub denotes : IsJoined past → bytes ≡ [] → 0 < room → (p : Picture) → ShowsFrames past.ended p → Denotes past.given p
+  pub denotes : IsJoined past → bytes ≡ [] → 0 < room
+      → (p : Picture) → ShowsFrames past.ended p → IsPictureFile past.given p
   pub whole : (IsJoined past → ⊥) → IsWhole (past.given ++ bytes) → ⊥

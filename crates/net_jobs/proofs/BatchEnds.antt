@@ -72,7 +72,7 @@ last_refused (Err fault) page pages before was new out taken none some back =
     absurd (let clash : false ≡ true = none_kept was new out false (none (λ e. (let clash : Err fault ≡ Ok true = e in cc))) back in cc)
 
 file_is_some : (page : JoinHistory) → IsPageFile page → page.given ≢ []
-file_is_some page f e = nothing_is_not_whole (subst (λ (t : List ℕ). IsWhole t) e (f.picture, f.file))
+file_is_some page f e = nothing_is_not_whole (subst (λ (t : List ℕ). IsWhole t) e (f.picture, f.file.denotes))
 
 -- ---- the files of all pages, and the last one's
 

@@ -5,7 +5,7 @@ use Rattle.std.proofs.lemmas.List.{append-nil}
 use Rattle.std.proofs.lemmas.List.Elements.{All-append, All-nil, All-same}
 use Rattle.sane_fixed.specs.declared.status.Status.{Status}
 use Rattle.sane_fixed.specs.declared.status.Status.TheVariants as statuses
-use Rattle.netpbm.specs.Pnm.{Denotes, IsWhole}
+use Rattle.netpbm.specs.Pnm.{IsWhole}
 use Rattle.page_picture.specs.Shows.{Frame}
 use Rattle.frame_join.specs.declared.join_stage.JoinFault.{JoinFault}
 use Rattle.frame_join.specs.FrameHistory.{JoinHistory, IsJoined, is_joined, after_pull, answer_of_end, answer_by}
@@ -39,6 +39,7 @@ use Rattle.net_jobs.proofs.FileNumbers.{IsFew, HasSome, counts}
 use Rattle.net_jobs.proofs.JobEnds.{NoneBefore, WholeShows, stops_over, HasRefusal, Leaves, all_written, ran_refuses, cause_of, followed, unopened, task_is, ran_by, ends_well}
 use Rattle.net_jobs.proofs.Steps.{LastDelivers, same_steps, same_stop, stops_within}
 use Rattle.net_jobs.proofs.Shelving.{Shut, Stored, Lying, PageIsTurned, shut_parted, ended_part, one_file, page_turned, from_here}
+use Rattle.frame_join.specs.PictureText.{IsPictureFile}
 
 -- ---- a join between frames has given nothing, if its picture is not whole
 
@@ -118,7 +119,7 @@ came_done views left_of job first coming0 before notes links coming stream c now
     let given_is : d.given.bytes ≡ s.history.given = sym s.given_is in
     let file : IsJoined s.history → IsPageFile s.history = λ joined.
     (let p = shows s.history c.join s.serves.stands joined in
-    record { picture = p.0; shows = p.1; file = subst (λ (t : List ℕ). Denotes t p.0) given_is (d.shelf.shown refl (joined_scans job.task s.history fits joined) (ap is_ended done) joined p.0 p.1) }) in
+    record { picture = p.0; shows = p.1; file = subst (λ (t : List ℕ). IsPictureFile t p.0) given_is (d.shelf.shown refl (joined_scans job.task s.history fits joined) (ap is_ended done) joined p.0 p.1) }) in
     let counted = counts job s.did.events s.trace h s.did.runs in
     let steps = d.steps (inl refl) in (
       record {

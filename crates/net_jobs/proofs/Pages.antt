@@ -3,7 +3,7 @@ use Rattle.std.proofs.Common.{◌≡◌, ◌≢◌, ◌∙◌, ◌⊎◌, ℕ, �
 use Rattle.std.specs.Prelude.{◌&&◌}
 use Rattle.std.proofs.lemmas.List.{append-nil, take-append-drop, length-drop}
 use Rattle.netpbm.specs.Picture.{Picture}
-use Rattle.netpbm.specs.Pnm.{Denotes, IsWhole}
+use Rattle.netpbm.specs.Pnm.{IsWhole}
 use Rattle.page_picture.specs.Shows.{ShowsFrames}
 use Rattle.frame_join.specs.FrameHistory.{JoinHistory, IsJoined, after_pull}
 use Rattle.frame_join.specs.JoinStates.{JoinState, Represents}
@@ -20,6 +20,7 @@ use Rattle.net_client.proofs.Hearings.{calm_at}
 use Rattle.net_jobs.specs.Inside.{EndsFile, HasTaken, HasTakenBack, OutputIsUnderWay, PageGoesOn, SinkState, TurnsOn, FallsShort}
 use Rattle.scan_job.specs.FileOutputs.{returned_output}
 use Rattle.net_jobs.proofs.NetDrains.{joined_calm, pulled_none, pulled_twice, join_only, not_ended, unmoved}
+use Rattle.frame_join.specs.PictureText.{IsPictureFile}
 
 -- ---- no fault stands in a job that scans and has not ended otherwise
 
@@ -138,7 +139,7 @@ dry_by true was now q piece n e none p serves = dry_page was now q piece none (t
 dry_by false was now q piece n e none p serves = (p.carried q serves e, unmoved (is_ended was.outcome) was now refl (λ x. (p.ended x).1) (λ x. p.same x e))
 
 pub at_end : (past : JoinHistory) (old was now : ClientState) (k i n : ℕ) (before : SinkState) (outputs : List ReturnedOutput) (stock : SinkState) (bytes piece : List ℕ) → piece ≡ [] → Pulls was piece n now
-    → ((q : JoinHistory) → ClientRepresents q was → is_ended was.outcome ≡ false → IsJoined q → (p : Picture) → ShowsFrames q.ended p → Denotes q.given p)
+    → ((q : JoinHistory) → ClientRepresents q was → is_ended was.outcome ≡ false → IsJoined q → (p : Picture) → ShowsFrames q.ended p → IsPictureFile q.given p)
     → IsPulled past old k before outputs bytes i was stock → PageGoesOn past old k before outputs bytes now stock
 at_end past old was now k i n before outputs stock bytes piece none p denotes u =
     let goes = dry_by (turns was.outcome was.progress) was now (after_pull bytes past) piece n refl none p u.serves in
@@ -162,7 +163,7 @@ turned_by past old was now k n before outputs stock then_ kept bytes piece rest 
     record {
       turning = sym (ap (λ (v : ClientState). turns v.outcome v.progress) rest) ∙ turning;
       whole = subst (λ (l : List ℕ). IsWhole l) text whole;
-      denotes = λ p shows. subst (λ (l : List ℕ). Denotes l p) text (denotes p shows);
+      denotes = λ p shows. subst (λ (l : List ℕ). IsPictureFile l p) text (denotes p shows);
       join = was.join;
       client = subst (λ (v : ClientState). TurnsPage v now) rest client;
       serves = serves;

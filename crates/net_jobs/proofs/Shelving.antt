@@ -4,7 +4,7 @@ use Rattle.std.specs.Prelude.{All}
 use Rattle.std.proofs.lemmas.List.{append-nil, take-append-drop}
 use Rattle.std.proofs.lemmas.List.Elements.{All-append, All-nil, All-from_recursion}
 use Rattle.netpbm.specs.Picture.{Picture}
-use Rattle.netpbm.specs.Pnm.{Denotes, IsWhole}
+use Rattle.netpbm.specs.Pnm.{IsWhole}
 use Rattle.page_picture.specs.Shows.{ShowsFrames}
 use Rattle.frame_join.specs.FrameHistory.{JoinHistory, IsJoined, empty_history, after_pull}
 use Rattle.frame_join.specs.JoinStates.{JoinState, Represents}
@@ -41,13 +41,14 @@ use Rattle.net_jobs.proofs.JobEnds.{NoneBefore, WholeShows, falls_short, Leaves,
 use Rattle.net_jobs.proofs.Pages.{has_turned, turning_fits}
 use Rattle.net_jobs.proofs.Steps.{AllGiven, AreStepsSoFar, LastDelivers, StepsBy, StepsSoFar, ended_not_done, running_not_done, steps_at, steps_given, steps_quiet, steps_still, steps_turned}
 use Rattle.net_jobs.proofs.Shelves.{begins_with_none, none_under_way, outputs_more}
+use Rattle.frame_join.specs.PictureText.{IsPictureFile}
 
 -- what is stored of a job's files: the pages that were turned, each whole, and what was given of the one under way
 pub record Stored (whole : Bool) (job : Job) (before now : SinkState) (given : GivenFiles) (c : ClientState) (past : JoinHistory) : Type 0 where
   pub under_way : OutputIsUnderWay before (page_outputs_from 1 given.pages) now (length given.pages + 1) given.bytes
   pub files : All IsPageFile given.pages
   pub none : scans job.task ≡ false → given.bytes ≡ []
-  pub shown : whole ≡ true → scans job.task ≡ true → is_ended c.outcome ≡ false → IsJoined past → (p : Picture) → ShowsFrames past.ended p → Denotes given.bytes p
+  pub shown : whole ≡ true → scans job.task ≡ true → is_ended c.outcome ≡ false → IsJoined past → (p : Picture) → ShowsFrames past.ended p → IsPictureFile given.bytes p
 
 pub record Laid {C R : Type 0} (views : LinkViews C) (left_of : R → Option (List ℕ)) (job : Job) (first : C) (coming0 : Option (List (List ℕ))) (before : SinkState) (notes : CallNotes) (whole : Bool) (control : C) (coming : Option (List (List ℕ))) (stream : Option R) (c : ClientState) (now : SinkState) : Type 0 where
   pub given : GivenFiles
@@ -151,7 +152,7 @@ stage_turned left_of job moves read_ wrote left coming0 coming given stream c ne
 
 -- the file of a page that is turned
 turned_file : (past : JoinHistory) (join : JoinState) (bytes : List ℕ) → WholeShows → Represents past join → IsJoined past
-    → ((p : Picture) → ShowsFrames past.ended p → Denotes (past.given ++ bytes) p) → IsPageFile (after_pull bytes past)
+    → ((p : Picture) → ShowsFrames past.ended p → IsPictureFile (past.given ++ bytes) p) → IsPageFile (after_pull bytes past)
 turned_file past join bytes shows stands joined denotes = let p = shows past join stands joined in record { picture = p.0; shows = p.1; file = denotes p.0 p.1 }
 
 pub one_file : (page : JoinHistory) → IsPageFile page → All IsPageFile (page ∷ [])
@@ -173,13 +174,13 @@ goes_out c was now gives turning turned (inr ends) = ends
 
 -- a client that waits for its page's file to be taken does not go on with it once no bytes are left
 none_to_turn : (b : Bool) (c now : ClientState) (past : JoinHistory) (bytes : List ℕ) → turns c.outcome c.progress ≡ b → WholeShows → ClientRepresents past c
-    → now ≡ record c { join = now.join } → ClientRepresents (after_pull bytes past) now → (is_ended c.outcome ≡ false → IsJoined past → (p : Picture) → ShowsFrames past.ended p → Denotes (past.given ++ bytes) p) → turns c.outcome c.progress ≡ false
+    → now ≡ record c { join = now.join } → ClientRepresents (after_pull bytes past) now → (is_ended c.outcome ≡ false → IsJoined past → (p : Picture) → ShowsFrames past.ended p → IsPictureFile (past.given ++ bytes) p) → turns c.outcome c.progress ≡ false
 none_to_turn false c now past bytes e shows serves rest after denotes = e
 none_to_turn true c now past bytes e shows serves rest after denotes =
     let joined = (turning_fits c.target.task c.outcome c.progress past e serves.fits).0 in
     let p = shows past c.join serves.stands joined in
     let turning : turns now.outcome now.progress ≡ true = ap (λ (v : ClientState). turns v.outcome v.progress) rest ∙ e in
-    absurd ((turning_fits now.target.task now.outcome now.progress (after_pull bytes past) turning after.fits).1 (p.0, denotes (not_over c.outcome (turning_running c.outcome c.progress e)) joined p.0 p.1))
+    absurd ((turning_fits now.target.task now.outcome now.progress (after_pull bytes past) turning after.fits).1 (p.0, (denotes (not_over c.outcome (turning_running c.outcome c.progress e)) joined p.0 p.1).denotes))
 
 -- a job that turned a page, whether the shelf kept its output or refused it
 pub record PageIsTurned {C R : Type 0} (views : LinkViews C) (left_of : R → Option (List ℕ)) (job : Job) (first : C) (coming0 : Option (List (List ℕ))) (given : GivenFiles) (page : JoinHistory) (notes : CallNotes) (control : C) (coming : Option (List (List ℕ))) (stream : Option R) (now : ClientState) : Type 0 where
@@ -257,7 +258,7 @@ laid_more views left_of job first coming0 before notes control coming stream c n
         files = files;
         none = λ other. absurd (let clash : true ≡ false = sym scanning ∙ other in cc);
         shown = λ w scan alive joined p shows.
-            subst (λ (l : List ℕ). Denotes (l ++ bytes) p) s.given_is
+            subst (λ (l : List ℕ). IsPictureFile (l ++ bytes) p) s.given_is
             (e.denotes (sym (ap (λ (v : ClientState). is_ended v.outcome) e.rest) ∙ alive) (subst (λ (q : JoinHistory). IsJoined q) past_is joined) p (subst (λ (q : JoinHistory). ShowsFrames q.ended p) past_is shows));
       };
     }

@@ -3,7 +3,6 @@ use Rattle.std.proofs.Common.{◌≡◌, ◌≢◌, ◌∙◌, ◌⊎◌, ◌+�
 use Rattle.std.specs.Prelude.{IfErr, IsTrue}
 use Rattle.std.specs.Io.KnownBytes.{Appends}
 use Rattle.netpbm.specs.Picture.{Picture}
-use Rattle.netpbm.specs.Pnm.{Denotes}
 use Rattle.page_picture.specs.Shows.{ShowsFrames}
 use Rattle.frame_join.specs.declared.join_stage.JoinFault.{JoinFault}
 use Rattle.frame_join.specs.FrameHistory.{JoinHistory, answer_of_end}
@@ -25,6 +24,7 @@ use Rattle.net_jobs.specs.Outputs.{files_text, page_outputs_from}
 use Rattle.net_jobs.specs.RunPromises.{IfReports, JobStreams, RanDone, RanEnded, RefusesJob, SeenStreams}
 use Rattle.net_jobs.proofs.BatchEnds.{ran_alike, with_output}
 use Rattle.net_jobs.proofs.FileNumbers.{IsFew, counts}
+use Rattle.frame_join.specs.PictureText.{IsPictureFile}
 
 pub single_by : (task : Task) (b : Bool) → IsTrue b ↔ IsBatch task → b ≡ false → is_batch task ≡ false
 single_by (tasks.Batch count) b e unset = let clash : true ≡ false = sym (e.1 tt) ∙ unset in cc
@@ -81,7 +81,7 @@ one_page trace = last_whole_page (answer_of_end trace.protocol.history) trace.pr
 page_count : (trace : JobTrace) (n : ℕ) → trace.pages ≡ [] → length (pages_of trace) ≡ n → length (one_page trace) ≡ n
 page_count trace n none e = sym (ap (λ (l : List JoinHistory). length (l ++ one_page trace)) none) ∙ e
 
-file_shown : (page : JoinHistory) → IsPageFile page → (p : Picture) × ShowsFrames page.ended p × Denotes page.given p
+file_shown : (page : JoinHistory) → IsPageFile page → (p : Picture) × ShowsFrames page.ended p × IsPictureFile page.given p
 file_shown page f = (f.picture, f.shows, f.file)
 
 single_done : {L : Type 0} (views : LinkViews L) (job : Job) (was now : SeenStreams L (Option (List ℕ))) (reports : Reports) → is_batch job.task ≡ false

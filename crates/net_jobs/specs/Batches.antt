@@ -3,7 +3,6 @@ use Rattle.std.specs.Prelude.{ℕ, ◌+◌, ◌≡◌, ◌≢◌, ◌≤◌, ◌
 use Rattle.std.specs.Prelude.{◌∷◌, ◌++◌, All, length}
 use Rattle.sane_fixed.specs.declared.status.Status.TheVariants as statuses
 use Rattle.netpbm.specs.Picture.{Picture}
-use Rattle.netpbm.specs.Pnm.{Denotes}
 use Rattle.page_picture.specs.Shows.{ShowsFrames}
 use Rattle.frame_join.specs.declared.join_stage.JoinFault.{JoinFault}
 use Rattle.frame_join.specs.FrameHistory.{JoinHistory, answer_of_end}
@@ -28,12 +27,13 @@ use Rattle.net_jobs.specs.Outputs.{files_text, page_outputs_from}
 use Rattle.scan_job.specs.FileOutputs.{TakesBack, AreLeft, refused_output}
 use Rattle.net_jobs.specs.RunPromises.{JobStreams, SeenStreams, StreamViews, RanWithTrace, HasEndingCause, IsToldAs}
 use Rattle.net_jobs.specs.RunPromises.{refused_as, seen}
+use Rattle.frame_join.specs.PictureText.{IsPictureFile}
 
 -- what was given of a page is a whole file, that of the picture that its frames show
 pub record IsPageFile (page : JoinHistory) : Type 0 where
   pub picture : Picture
   pub shows : ShowsFrames page.ended picture
-  pub file : Denotes page.given picture
+  pub file : IsPictureFile page.given picture
 
 -- the page under way, if its picture is whole
 abbrev pub last_whole_page : Result Bool JoinFault → JoinHistory → List JoinHistory

@@ -14,7 +14,7 @@ use Rattle.client_replies.specs.ProtocolStates.{is_receiving, is_running, is_end
 use Rattle.scan_job.specs.declared.stop.Stop.{Stop}
 use Rattle.scan_job.specs.Stops.{no_memory, failed_output}
 use Rattle.netpbm.specs.Picture.{Picture}
-use Rattle.netpbm.specs.Pnm.{Denotes, IsWhole}
+use Rattle.netpbm.specs.Pnm.{IsWhole}
 use Rattle.page_picture.specs.Shows.{ShowsFrames}
 use Rattle.frame_join.specs.FrameHistory.{JoinHistory, IsJoined, after_pull, empty_history}
 use Rattle.scan_job.specs.Shelves.{Stock, ReturnedOutput}
@@ -38,6 +38,7 @@ use Rattle.net_jobs.specs.Links.{JobLinks, LinkViews, Called, DialBrings}
 use Rattle.net_jobs.specs.RunPromises.{SeenStreams, RanWithTrace, HasEndingCause, IsToldAs}
 use Rattle.net_jobs.specs.Batches.{IsPageFile, MayScan, pages_of}
 use Rattle.net_jobs.specs.Outputs.{files_text, page_outputs_from}
+use Rattle.frame_join.specs.PictureText.{IsPictureFile}
 
 -- ---- what a call on a connection comes to, by the result that the stream gave
 
@@ -364,7 +365,7 @@ pub record PageGoesOn (past : JoinHistory) (old : ClientState) (k : ℕ) (before
   pub rest : new ≡ record old { join = new.join }
   pub under_way : OutputIsUnderWay before outputs after k (past.given ++ bytes)
   pub denotes : is_ended old.outcome ≡ false → IsJoined past → (p : Picture) → ShowsFrames past.ended p
-      → Denotes (past.given ++ bytes) p
+      → IsPictureFile (past.given ++ bytes) p
 
 -- the client gave the last bytes of a page's file and turned to the next page, and the file's output was given back,
 -- which was kept or refused
@@ -373,7 +374,7 @@ pub record TurnsOn (past : JoinHistory) (old : ClientState) (k : ℕ) (before : 
     : Type 0 where
   pub turning : turns old.outcome old.progress ≡ true
   pub whole : IsWhole (past.given ++ bytes)
-  pub denotes : (p : Picture) → ShowsFrames past.ended p → Denotes (past.given ++ bytes) p
+  pub denotes : (p : Picture) → ShowsFrames past.ended p → IsPictureFile (past.given ++ bytes) p
   pub join : JoinState
   pub client : TurnsPage (record old { join = join }) new
   pub serves : ClientRepresents empty_history new

@@ -4,7 +4,7 @@ use Rattle.std.specs.Prelude.{Result, IfOk}
 use Rattle.std.specs.Io.KnownBytes.{Appends}
 use Rattle.sane_fixed.specs.declared.status.Status.TheVariants as statuses
 use Rattle.netpbm.specs.Picture.{Picture}
-use Rattle.netpbm.specs.Pnm.{Denotes, IsWhole}
+use Rattle.netpbm.specs.Pnm.{IsWhole}
 use Rattle.page_picture.specs.Shows.{Frame, ShowsFrames}
 use Rattle.frame_join.specs.AloneFrame.{most_bytes}
 use Rattle.wire_format.specs.Limit.{IsNoStart}
@@ -29,6 +29,7 @@ use Rattle.net_jobs.specs.JobJournal.{dialled_by, has_write_failed, HasLoss}
 use Rattle.net_jobs.specs.JobSteps.{MovesAreSteps, MovesStopWithin, given_by_steps}
 use Rattle.net_jobs.specs.JobTraces.{JobTrace, BytesMatchTrace, EndWell, ports_named}
 use Rattle.net_jobs.specs.Links.{JobLinks, LinkViews, Calls, HasBrought, BeginWith}
+use Rattle.frame_join.specs.PictureText.{IsPictureFile}
 
 -- ---- a job's streams
 
@@ -119,7 +120,8 @@ pub record RanDone {L : Type 0} (views : LinkViews L) (job : Job) (was now : See
   pub taken : Appends was.output now.output text
   pub gave : text ≡ given_by ran.moves
   pub went_out : text ≡ given_by_steps steps.steps
-  pub file : job.task ≡ tasks.Scan → (p : Picture) × ShowsFrames ran.trace.protocol.history.ended p × Denotes text p
+  pub file : job.task ≡ tasks.Scan
+      → (p : Picture) × ShowsFrames ran.trace.protocol.history.ended p × IsPictureFile text p
   pub none : job.task ≢ tasks.Scan → text ≡ []
 
 -- What ends a job that is in that trace, apart from its replies and the ends of its frames: a connection that was lost,

@@ -4,7 +4,7 @@ use Rattle.std.proofs.Common.{◌≡◌, ◌∙◌, ◌⊎◌, inl, inr, ℕ, ze
 use Rattle.std.proofs.lemmas.List.{length-set}
 use Rattle.std.proofs.lemmas.Option.{slice_get_within}
 use Rattle.netpbm.specs.Picture.{Picture}
-use Rattle.netpbm.specs.Pnm.{Denotes, IsWhole}
+use Rattle.netpbm.specs.Pnm.{IsWhole}
 use Rattle.page_picture.specs.Shows.{ShowsFrames}
 use Rattle.frame_join.specs.FrameHistory.{IsJoined, JoinHistory, after_pull}
 use Rattle.scan_job.specs.declared.job.Task.{Task}
@@ -29,6 +29,7 @@ use Rattle.event_world.proofs.Pulls.{laid_always, laid_as, laid_starved, laid_th
 use Rattle.programs_refine.specs.Programs.{HasFilesOf}
 use Rattle.programs_refine.proofs.Tracks.{FilesTrack, KeepsFiles, done_is_over, has_files}
 use Rattle.programs_refine.proofs.Tracks.FilesTrack.{UnderWay, AllFinished}
+use Rattle.frame_join.specs.PictureText.{IsPictureFile}
 
 abbrev pub more_of : List ℕ → Option (List ℕ) → Option (List ℕ)
 more_of given file = option_map (λ (f : List ℕ). f ++ given) file
@@ -80,16 +81,16 @@ gives_on past old (Loses link reason ∷ gives) new still serves are leads = abs
 
 -- once the client gives no more, all that was given of a whole picture denotes it
 all_given : (past : JoinHistory) (old : ClientState) (gives before : List JobMove) (new : ClientState) → turns old.outcome old.progress ≡ false → ClientRepresents past old → AreGives gives → MovesLead old gives new → gives ≡ Gives [] ∷ before
-    → is_ended old.outcome ≡ false → IsJoined past → (p : Picture) → ShowsFrames past.ended p → Denotes (past.given ++ given_by gives) p
+    → is_ended old.outcome ≡ false → IsJoined past → (p : Picture) → ShowsFrames past.ended p → IsPictureFile (past.given ++ given_by gives) p
 all_given past old gives before new still serves are leads e running joined p shows =
     let are_there : AreGives before = subst AreGives e are in
     let there : MovesLead old (Gives [] ∷ before) new = subst (λ (x : List JobMove). MovesLead old x new) e leads in
     let was = gives_on past old before there.0 still serves are_there there.1 in
     let last : GivesFileBytes there.0 [] new = there.2 in
-    let denotes : Denotes (past.given ++ given_by before) p =
+    let denotes : IsPictureFile (past.given ++ given_by before) p =
     (last.taken (after_pull (given_by before) past) was.serves).denotes (ap (λ (x : ClientState). is_ended x.outcome) was.rest ∙ running) joined refl last.some_room p shows in
     let same : given_by gives ≡ given_by before = ap given_by e ∙ append-nil (given_by before) in
-    subst (λ (x : List ℕ). Denotes (past.given ++ x) p) (sym same) denotes
+    subst (λ (x : List ℕ). IsPictureFile (past.given ++ x) p) (sym same) denotes
 
 -- ---- the world's client and file
 
@@ -102,7 +103,7 @@ files_more given more pages old c d h = record { file = keeps_more old.out_of_me
 
 -- whatever of a whole picture these bytes denote
 DenoteAll : (past : JoinHistory) (mid : ClientState) (gives : List JobMove) → Type 0
-DenoteAll past mid gives = turns mid.outcome mid.progress ≡ false → ClientRepresents past mid → is_ended mid.outcome ≡ false → IsJoined past → (q : Picture) → ShowsFrames past.ended q → Denotes (past.given ++ given_by gives) q
+DenoteAll past mid gives = turns mid.outcome mid.progress ≡ false → ClientRepresents past mid → is_ended mid.outcome ≡ false → IsJoined past → (q : Picture) → ShowsFrames past.ended q → IsPictureFile (past.given ++ given_by gives) q
 
 runs_dry : (p : Endpoint) (up : List ℕ) (mid c : ClientState) (gives : List JobMove) (past : JoinHistory) (pages : List JoinHistory) → turns mid.outcome mid.progress ≡ false → AreGives gives → MovesLead mid gives c → DenoteAll past mid gives → HoldsHistory past pages (record p { client = with_unheard up mid })
     → RunsDry past pages (record p { client = with_unheard up mid }) (laid p (with_unheard up c) (given_by gives))
@@ -209,7 +210,7 @@ page_taken past old mid new given bytes g off on (Stays partial rest serves) = a
 page_taken past old mid new given bytes g off on (Turns whole denotes turned serves) =
     let text : (past.given ++ given) ++ bytes ≡ past.given ++ (given ++ bytes) = append_assoc past.given given bytes in
     let from_old : TurnsPage (record old { join = mid.join }) new = subst (λ (x : ClientState). TurnsPage x new) g.rest turned in
-    Turns (subst IsWhole text whole) (λ p shows. subst (λ (l : List ℕ). Denotes l p) text (denotes p shows)) (record { rest = from_old.rest; text = from_old.text; stands = from_old.stands }) serves
+    Turns (subst IsWhole text whole) (λ p shows. subst (λ (l : List ℕ). IsPictureFile l p) text (denotes p shows)) (record { rest = from_old.rest; text = from_old.text; stands = from_old.stands }) serves
 
 page_ends : (past : JoinHistory) (old : ClientState) (gives : List JobMove) (new : ClientState) → PageEnds old gives new → ClientRepresents past old → TakesPage old past (given_by gives) new
 page_ends past old gives new e serves =

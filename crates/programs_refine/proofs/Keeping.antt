@@ -48,6 +48,7 @@ use Rattle.programs_refine.specs.WorldHistory.{AreLosses, AreOfConnections, IsLo
 use Rattle.programs_refine.proofs.Lists.{there}
 use Rattle.programs_refine.proofs.Outgoing.{never_both}
 use Rattle.programs_refine.proofs.Programs.{programs_are}
+use Rattle.md5_auth.specs.Challenges.{HasGiven}
 
 -- ---- a job that wants its data connection has no frame that flows
 
@@ -188,12 +189,13 @@ stopped_by right h v acts i job led at x =
       pages = λ n bytes at. page_kept h v i job p turned text n bytes x.files at (k.pages (n + 1));
     }
 
-led_by : (devices : List DeviceState) (jobs : List Job) (d : Core) (first v : WorldCore) (events : List Event) → AreFit devices jobs d → IsWorldOf d jobs first → LeadsBy source_state first events v → LedTo (history_of devices jobs d events) v
+led_by : (devices : List DeviceState) (jobs : List Job) (d : Core) (first v : WorldCore) (events : List Event) → (fit : AreFit devices jobs d) → IsWorldOf d jobs first → LeadsBy source_state first events v → LedTo (history_of devices fit.seed jobs d events) v
 led_by devices jobs d first v events fit is l = record {
   first = first;
   endpoints = is.endpoints;
   daemon = subst (IsNewDaemon devices) (sym is.daemon) fit.daemon;
   users_are = ap (λ (x : Core). x.users) is.daemon;
+  seeded = subst (λ (x : Core). HasGiven fit.seed 0 x.stream) (sym is.daemon) fit.seeded;
   names = fit.names;
   limits = fit.limits;
   fit = fit.fit;
@@ -225,12 +227,13 @@ keeps right devices jobs d acts end last fit a =
     let leads : LeadsBy source_state a.w events l.v = record { are = more_of_connections l.serves.events l.losses l.serves.leads.are l.are; runs = runs_then l.serves.events l.losses a.w l.serves.v l.v l.serves.leads.runs l.leads_on } in
     let led = led_by devices jobs d a.w l.v events fit a.is_of leads in
     record {
+      seed = fit.seed;
       events = events;
       are = leads.are;
       v = l.v;
       led = led;
-      each = λ i job at over. kept_by right (history_of devices jobs d events) l.v acts i job (last i) led at over (l.jobs_are i job at over);
-      stopped = λ i job at runs. stopped_by right (history_of devices jobs d events) l.v acts i job led at (l.stopped_are i job at runs);
+      each = λ i job at over. kept_by right (history_of devices fit.seed jobs d events) l.v acts i job (last i) led at over (l.jobs_are i job at over);
+      stopped = λ i job at runs. stopped_by right (history_of devices fit.seed jobs d events) l.v acts i job led at (l.stopped_are i job at runs);
     }
 
 -- of no job
@@ -238,6 +241,7 @@ keeps_none : (devices : List DeviceState) (d : Core) (acts : Acts) (last : ℕ �
 keeps_none devices d acts last fit =
     let w : WorldCore = record { daemon = d; endpoints = [] } in
     record {
+      seed = fit.seed;
       events = [];
       are = tt;
       v = w;

@@ -23,6 +23,7 @@ use Rattle.programs_refine.specs.ToldOfEach.{KilledAmongIsTold, ProgramsTellEach
 use Rattle.programs_refine.specs.WorkedRuns.{lost_client, new_core}
 use Rattle.programs_refine.proofs.StrangerComes.{stranger_comes}
 use Rattle.programs_refine.proofs.WorkedRuns.{loses_leads, none_owned}
+use Rattle.md5_auth.specs.Challenges.{HasGiven}
 
 -- ---- of two jobs
 
@@ -76,17 +77,17 @@ killed_run one two c b registry users strings stream port byte new newer count m
     )
 
 -- what a world takes of devices and jobs it takes of these
-killed_is_fit : (devices : List DeviceState) (one two : Job) (users : List Entry) (strings : StringSize) (stream : ChaCha) → HaveOwnNames devices → All HasLimits devices → IsFitJob one → IsFitJob two → AreFit devices (one ∷ two ∷ []) (new_core (fresh_table devices) users strings stream)
-killed_is_fit devices one two users strings stream names limits fit fitter = record { daemon = record { registry = refl; slots = refl; opened = refl }; names = names; limits = limits; fit = All-from_recursion (λ (j : Job). IsFitJob j) (one ∷ two ∷ []) (fit, (fitter, tt)) }
+killed_is_fit : (devices : List DeviceState) (one two : Job) (users : List Entry) (strings : StringSize) (stream : ChaCha) (seed : List ℕ) → HasGiven seed 0 stream → HaveOwnNames devices → All HasLimits devices → IsFitJob one → IsFitJob two → AreFit devices (one ∷ two ∷ []) (new_core (fresh_table devices) users strings stream)
+killed_is_fit devices one two users strings stream seed seeded names limits fit fitter = record { daemon = record { registry = refl; slots = refl; opened = refl }; seed = seed; seeded = seeded; names = names; limits = limits; fit = All-from_recursion (λ (j : Job). IsFitJob j) (one ∷ two ∷ []) (fit, (fitter, tt)) }
 
 pub killed_told : ProgramsTellEachAmongStrangers → KilledAmongIsTold
-killed_told all devices one two c b users strings stream port byte names limits fit fitter new newer =
+killed_told all devices one two c b users strings stream seed port byte seeded names limits fit fitter new newer =
     all devices (one ∷ two ∷ []) owned_by_none (new_core (fresh_table devices) users strings stream) but_the_second (killed_acts port byte) (lost_or_killed c b)
-    (killed_is_fit devices one two users strings stream names limits fit fitter) (killed_run one two c b (fresh_table devices) users strings stream port byte new newer fit.1 fitter.1).0
+    (killed_is_fit devices one two users strings stream seed seeded names limits fit fitter) (killed_run one two c b (fresh_table devices) users strings stream port byte new newer fit.1 fitter.1).0
 
 pub killed_kept : ProgramsKeepEachAmongStrangers → KilledAmongIsKept
-killed_kept all sources other devices one two c b users strings stream port byte names limits fit fitter new newer known =
+killed_kept all sources other devices one two c b users strings stream seed port byte seeded names limits fit fitter new newer known =
     all sources other devices (one ∷ two ∷ []) owned_by_none (new_core (fresh_table devices) users strings stream) but_the_second (killed_acts port byte) (lost_or_killed c b)
-    (killed_is_fit devices one two users strings stream names limits fit fitter)
+    (killed_is_fit devices one two users strings stream seed seeded names limits fit fitter)
     known
     (killed_run one two c b (fresh_table devices) users strings stream port byte new newer fit.1 fitter.1).0

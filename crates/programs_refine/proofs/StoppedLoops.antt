@@ -350,8 +350,9 @@ pub keeps_each : ProgramsKeepAll → ProgramsKeepEach
 keeps_each all devices jobs owner d whole acts last fit r =
     let other = cut whole acts in
     let k = all devices jobs owner d other last fit (cut_alone jobs owner d whole acts last r) in
-    let h = history_of devices jobs d k.events in
+    let h = history_of devices k.seed jobs d k.events in
     record {
+      seed = k.seed;
       events = k.events;
       are = k.are;
       v = k.v;
@@ -380,8 +381,9 @@ pub tells_each_among : ProgramsKeepAllAmongStrangers → ProgramsTellEachAmongSt
 tells_each_among all devices jobs owner d whole acts last fit r =
     let left = cut whole acts in
     let k = all devices jobs owner d left last fit (cut_run jobs owner d whole acts last r) in
-    let h = joint_history devices jobs d k.events in
+    let h = joint_history devices k.seed jobs d k.events in
     record {
+      seed = k.seed;
       events = k.events;
       are = k.are;
       strangers = k.strangers;

@@ -43,6 +43,6 @@ stranger_comes job c registry users strings stream port byte new count = (
 )
 
 pub stranger_kept : ProgramsKeepAmongStrangers → StrangerComesIsKept
-stranger_kept all sources other devices job c users strings stream port byte names limits fit new known =
-    all sources other devices (job ∷ []) _ (new_core (fresh_table devices) users strings stream) (stranger_acts port byte) _ (new_is_fit devices job users strings stream names limits fit) known
+stranger_kept all sources other devices job c users strings stream seed port byte seeded names limits fit new known =
+    all sources other devices (job ∷ []) _ (new_core (fresh_table devices) users strings stream) (stranger_acts port byte) _ (new_is_fit devices job users strings stream seed seeded names limits fit) known
     (stranger_comes job c (fresh_table devices) users strings stream port byte new fit.1).0

@@ -32,6 +32,7 @@ use Rattle.programs_refine.proofs.Outgoing.{never_both}
 use Rattle.programs_refine.proofs.Programs.{programs_among}
 use Rattle.programs_refine.proofs.StrangerComes.{stranger_comes}
 use Rattle.programs_refine.proofs.WorkedRuns.{new_is_fit}
+use Rattle.md5_auth.specs.Challenges.{HasGiven}
 
 some_known : (devices : List DeviceState) (job : Job) → AreKnown any_source (elsewhere devices job) devices
 some_known devices job = record { have = have_any devices; unnamed = unnamed devices job }
@@ -39,12 +40,13 @@ some_known devices job = record { have = have_any devices; unnamed = unnamed dev
 pub all_known : AllAreKnown
 all_known devices job = record { sources = any_source; other = elsewhere devices job; known = some_known devices job }
 
-led_among : (devices : List DeviceState) (jobs : List Job) (d : Core) (first v : WorldCore) (events : List JointEvent) → AreFit devices jobs d → IsWorldOf d jobs first → LeadsAmong source_state first events v → LedTo (joint_history devices jobs d events) v
+led_among : (devices : List DeviceState) (jobs : List Job) (d : Core) (first v : WorldCore) (events : List JointEvent) → (fit : AreFit devices jobs d) → IsWorldOf d jobs first → LeadsAmong source_state first events v → LedTo (joint_history devices fit.seed jobs d events) v
 led_among devices jobs d first v events fit is l = record {
   first = first;
   endpoints = is.endpoints;
   daemon = subst (IsNewDaemon devices) (sym is.daemon) fit.daemon;
   users_are = ap (λ (x : Core). x.users) is.daemon;
+  seeded = subst (λ (x : Core). HasGiven fit.seed 0 x.stream) (sym is.daemon) fit.seeded;
   names = fit.names;
   limits = fit.limits;
   fit = fit.fit;
@@ -57,6 +59,7 @@ told_none : (devices : List DeviceState) (owner : Owner) (d : Core) (acts : Acts
 told_none devices owner d acts last fit =
     let w : WorldCore = record { daemon = d; endpoints = [] } in
     record {
+      seed = fit.seed;
       events = [];
       are = tt;
       strangers = tt;
@@ -76,8 +79,9 @@ all_told kept right devices (job ∷ jobs) owner d acts last fit r =
     record { are = are_then x.serves.events x.losses x.serves.leads.are (losses_of_connections x.losses x.are); runs = runs_after x.serves.events x.losses a.w x.serves.v x.v x.serves.leads.runs x.leads_on }
     in
     let led = led_among devices (job ∷ jobs) d a.w x.v events fit a.is_of leads in
-    let h = joint_history devices (job ∷ jobs) d events in
+    let h = joint_history devices fit.seed (job ∷ jobs) d events in
     record {
+      seed = fit.seed;
       events = events;
       are = leads.are;
       strangers = theirs_then owner x.serves.events x.losses x.serves.strangers;
@@ -107,6 +111,6 @@ none_whole devices jobs owner d acts last k i job at undone whole = kept_complet
 -- ---- a run
 
 pub stranger_told : ProgramsKeepAllAmongStrangers → StrangerComesIsTold
-stranger_told all devices job c users strings stream port byte names limits fit new =
-    all devices (job ∷ []) _ (new_core (fresh_table devices) users strings stream) (stranger_acts port byte) _ (new_is_fit devices job users strings stream names limits fit)
+stranger_told all devices job c users strings stream seed port byte seeded names limits fit new =
+    all devices (job ∷ []) _ (new_core (fresh_table devices) users strings stream) (stranger_acts port byte) _ (new_is_fit devices job users strings stream seed seeded names limits fit)
     (stranger_comes job c (fresh_table devices) users strings stream port byte new fit.1).0

@@ -166,11 +166,11 @@ starved_at_once job c registry users strings stream port byte rest new count is 
 -- ---- the theorem, of that run
 
 pub new_is_fit : NewIsFit
-new_is_fit devices job users strings stream names limits fit = record { daemon = record { registry = refl; slots = refl; opened = refl }; names = names; limits = limits; fit = All-from_recursion (λ (j : Job). IsFitJob j) (job ∷ []) (fit, tt) }
+new_is_fit devices job users strings stream seed seeded names limits fit = record { daemon = record { registry = refl; slots = refl; opened = refl }; seed = seed; seeded = seeded; names = names; limits = limits; fit = All-from_recursion (λ (j : Job). IsFitJob j) (job ∷ []) (fit, tt) }
 
 pub kept : ProgramsKeepAll → StarvedIsKept
-kept all devices job c users strings stream port byte rest names limits fit new is =
-    all devices (job ∷ []) owned_by_first (new_core (fresh_table devices) users strings stream) (starved_acts port c byte) _ (new_is_fit devices job users strings stream names limits fit)
+kept all devices job c users strings stream seed port byte rest seeded names limits fit new is =
+    all devices (job ∷ []) owned_by_first (new_core (fresh_table devices) users strings stream) (starved_acts port c byte) _ (new_is_fit devices job users strings stream seed seeded names limits fit)
     (starved_at_once job c (fresh_table devices) users strings stream port byte rest new fit.1 is)
 
 -- ---- behind a loss

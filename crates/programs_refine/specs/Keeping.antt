@@ -19,10 +19,13 @@ use Rattle.scan_world.specs.Histories.{History, LedTo, of_jobs}
 use Rattle.scan_world.specs.Promise.{CountIsKept, FileIsKept, OutcomeIsKept, PageIsKept}
 use Rattle.programs_refine.specs.Programs.{Acts, EndsAlike, IsWorldOf, RunOverConnections, StopsAlike}
 use Rattle.programs_refine.specs.WorldHistory.{AlwaysHearsInTurn, AlwaysWantsBeforeItFlows, AreOfConnections}
+use Rattle.md5_auth.specs.Challenges.{HasGiven}
 
--- a new daemon of these devices, each within its limits, and jobs that a client takes
+-- a new daemon of these devices, each within its limits, and of a seed, and jobs that a client takes
 pub record AreFit (devices : List DeviceState) (jobs : List Job) (d : Core) : Type 0 where
   pub daemon : IsNewDaemon devices d
+  pub seed : List ℕ
+  pub seeded : HasGiven seed 0 d.stream
   -- no two have one name
   pub names : HaveOwnNames devices
   pub limits : All HasLimits devices
@@ -39,9 +42,10 @@ abbrev pub WorldsHearInTurn : Type 0
 WorldsHearInTurn = (devices : List DeviceState) (jobs : List Job) (other : Job) (d : Core) (w : WorldCore)
     → AreFit devices jobs d → IsWorldOf d jobs w → AlwaysHearsInTurn source_state w
 
--- these devices, users and jobs, and these events
-abbrev pub history_of : List DeviceState → List Job → Core → List Event → History
-history_of devices jobs d events = record { devices = devices; users = d.users; jobs = jobs; events = of_jobs events }
+-- these devices, users, seed and jobs, and these events
+abbrev pub history_of : List DeviceState → List ℕ → List Job → Core → List Event → History
+history_of devices seed jobs d events =
+    record { devices = devices; users = d.users; seed = seed; jobs = jobs; events = of_jobs events }
 
 -- **is kept (`LoopIsKept`, `StoppedIsKept`, `AllLoopsAreKept`)**: what a world promises of the outcome, the files and
 -- the count of pages of a job, of what its loop came to, by a history of such events that led to a world where it is
@@ -71,14 +75,15 @@ pub record StoppedIsKept (h : History) (v : WorldCore) (i : ℕ) (job : Job) (ac
 -- of each job that is over, and of each that was stopped, in a world that events of connections led to
 pub record AllLoopsAreKept (devices : List DeviceState) (jobs : List Job) (d : Core) (acts : Acts)
     (last : ℕ → ClientState) : Type 0 where
+  pub seed : List ℕ
   pub events : List Event
   pub are : AreOfConnections events
   pub v : WorldCore
-  pub led : LedTo (history_of devices jobs d events) v
+  pub led : LedTo (history_of devices seed jobs d events) v
   pub each : (i : ℕ) (job : Job) → slice_get jobs i ≡ Some job → is_running (last i).outcome ≡ false
-      → LoopIsKept (history_of devices jobs d events) v i job acts (last i)
+      → LoopIsKept (history_of devices seed jobs d events) v i job acts (last i)
   pub stopped : (i : ℕ) (job : Job) → slice_get jobs i ≡ Some job → is_running (last i).outcome ≡ true
-      → StoppedIsKept (history_of devices jobs d events) v i job acts
+      → StoppedIsKept (history_of devices seed jobs d events) v i job acts
 
 abbrev pub ProgramsKeepAll : Type 0
 ProgramsKeepAll =

@@ -41,6 +41,7 @@ use Rattle.programs_refine.specs.AmongStrangers.{AlwaysAmong, AreOfStrangers, Le
 use Rattle.programs_refine.specs.WorldHistory.{HearsInTurn, WantsBeforeItFlows}
 use Rattle.programs_refine.specs.Keeping.{AreFit}
 use Rattle.programs_refine.specs.WorkedRuns.{lost_client, loses, new_core}
+use Rattle.md5_auth.specs.Challenges.{HasGiven}
 
 -- ---- what is kept
 
@@ -148,7 +149,8 @@ StrangerComesIsARun =
 abbrev pub StrangerComesIsKept : Type 0
 StrangerComesIsKept =
     (sources : ℕ → PageSources) (other : Job) (devices : List DeviceState) (job : Job) (c : ClientState)
-    (users : List Entry) (strings : StringSize) (stream : ChaCha) (port byte : ℕ) → HaveOwnNames devices
+    (users : List Entry) (strings : StringSize) (stream : ChaCha) (seed : List ℕ) (port byte : ℕ)
+    → HasGiven seed 0 stream → HaveOwnNames devices
     → All HasLimits devices → IsFitJob job → IsNewClient job c → AreKnown sources other devices
     → AllLoopsAreKeptAmong sources other devices (job ∷ []) owned_by_none
     (new_core (fresh_table devices) users strings stream) (stranger_acts port byte) (λ i. lost_client c)

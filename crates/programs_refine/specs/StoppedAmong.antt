@@ -34,6 +34,7 @@ use Rattle.programs_refine.specs.StoppedLoops.{LoopsLeadOrStop}
 use Rattle.programs_refine.specs.WorkedRuns.{lost_client, new_core}
 use Rattle.programs_refine.specs.AmongStrangers.{AreOfStrangers, LeadsAmong, RunAmongStrangers}
 use Rattle.programs_refine.specs.KeepingAmong.{AreKnown, LoopIsKeptAmong, StoppedIsKeptAmong, stranger_acts}
+use Rattle.md5_auth.specs.Challenges.{HasGiven}
 
 -- a run among strangers, but that the loops of some jobs may stop within a step
 pub record RunOfAnyLoopsAmong (jobs : List Job) (owner : Owner) (d : Core) (whole : ℕ → Bool) (acts : Acts)
@@ -121,7 +122,8 @@ KilledAmongIsARun =
 abbrev pub KilledAmongIsKept : Type 0
 KilledAmongIsKept =
     (sources : ℕ → PageSources) (other : Job) (devices : List DeviceState) (one two : Job) (c b : ClientState)
-    (users : List Entry) (strings : StringSize) (stream : ChaCha) (port byte : ℕ) → HaveOwnNames devices
+    (users : List Entry) (strings : StringSize) (stream : ChaCha) (seed : List ℕ) (port byte : ℕ)
+    → HasGiven seed 0 stream → HaveOwnNames devices
     → All HasLimits devices → IsFitJob one → IsFitJob two → IsNewClient one c → IsNewClient two b
     → AreKnown sources other devices
     → WholeLoopsAreKeptAmong sources other devices (one ∷ two ∷ []) owned_by_none

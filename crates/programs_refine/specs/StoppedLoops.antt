@@ -56,14 +56,15 @@ pub record RunOfAnyLoops (jobs : List Job) (owner : Owner) (d : Core) (whole : �
 -- all that is promised of a loop, of each that did whole steps
 pub record WholeLoopsAreKept (devices : List DeviceState) (jobs : List Job) (d : Core) (whole : ℕ → Bool) (acts : Acts)
     (last : ℕ → ClientState) : Type 0 where
+  pub seed : List ℕ
   pub events : List Event
   pub are : AreOfConnections events
   pub v : WorldCore
-  pub led : LedTo (history_of devices jobs d events) v
+  pub led : LedTo (history_of devices seed jobs d events) v
   pub each : (i : ℕ) (job : Job) → slice_get jobs i ≡ Some job → whole i ≡ true → is_running (last i).outcome ≡ false
-      → LoopIsKept (history_of devices jobs d events) v i job acts (last i)
+      → LoopIsKept (history_of devices seed jobs d events) v i job acts (last i)
   pub stopped : (i : ℕ) (job : Job) → slice_get jobs i ≡ Some job → whole i ≡ true → is_running (last i).outcome ≡ true
-      → StoppedIsKept (history_of devices jobs d events) v i job acts
+      → StoppedIsKept (history_of devices seed jobs d events) v i job acts
 
 abbrev pub ProgramsKeepEach : Type 0
 ProgramsKeepEach =

@@ -28,10 +28,12 @@ use Rattle.programs_refine.specs.WorldHistory.{AreOfConnections}
 use Rattle.programs_refine.specs.Keeping.{AreFit, LoopIsKept, StoppedIsKept}
 use Rattle.programs_refine.specs.KeepingAmong.{AreKnown, stranger_acts}
 use Rattle.programs_refine.specs.WorkedRuns.{lost_client, new_core}
+use Rattle.md5_auth.specs.Challenges.{HasGiven}
 
--- these devices, users and jobs, and these events and acts
-abbrev pub joint_history : List DeviceState → List Job → Core → List JointEvent → History
-joint_history devices jobs d events = record { devices = devices; users = d.users; jobs = jobs; events = events }
+-- these devices, users, seed and jobs, and these events and acts
+abbrev pub joint_history : List DeviceState → List ℕ → List Job → Core → List JointEvent → History
+joint_history devices seed jobs d events =
+    record { devices = devices; users = d.users; seed = seed; jobs = jobs; events = events }
 
 -- **told among strangers (`AllLoopsAreToldAmong`, `LoopIsKept`, `StoppedIsKept`)**: events of connections and acts of
 -- strangers, each for a session that no job has, led to a world; and by that history of both each job whose loop is
@@ -39,15 +41,16 @@ joint_history devices jobs d events = record { devices = devices; users = d.user
 -- but of pages that were turned, and each of these is kept.
 pub record AllLoopsAreToldAmong (devices : List DeviceState) (jobs : List Job) (owner : Owner) (d : Core) (acts : Acts)
     (last : ℕ → ClientState) : Type 0 where
+  pub seed : List ℕ
   pub events : List JointEvent
   pub are : AreOfConnections (events_among events)
   pub strangers : AreOfStrangers owner events
   pub v : WorldCore
-  pub led : LedTo (joint_history devices jobs d events) v
+  pub led : LedTo (joint_history devices seed jobs d events) v
   pub each : (i : ℕ) (job : Job) → slice_get jobs i ≡ Some job → is_running (last i).outcome ≡ false
-      → LoopIsKept (joint_history devices jobs d events) v i job acts (last i)
+      → LoopIsKept (joint_history devices seed jobs d events) v i job acts (last i)
   pub stopped : (i : ℕ) (job : Job) → slice_get jobs i ≡ Some job → is_running (last i).outcome ≡ true
-      → StoppedIsKept (joint_history devices jobs d events) v i job acts
+      → StoppedIsKept (joint_history devices seed jobs d events) v i job acts
 
 abbrev pub ProgramsKeepAllAmongStrangers : Type 0
 ProgramsKeepAllAmongStrangers =
@@ -66,8 +69,8 @@ NoneIsToldWhole =
 abbrev pub StrangerComesIsTold : Type 0
 StrangerComesIsTold =
     (devices : List DeviceState) (job : Job) (c : ClientState) (users : List Entry) (strings : StringSize)
-    (stream : ChaCha) (port byte : ℕ) → HaveOwnNames devices → All HasLimits devices → IsFitJob job
-    → IsNewClient job c
+    (stream : ChaCha) (seed : List ℕ) (port byte : ℕ) → HasGiven seed 0 stream → HaveOwnNames devices
+    → All HasLimits devices → IsFitJob job → IsNewClient job c
     → AllLoopsAreToldAmong devices (job ∷ []) owned_by_none (new_core (fresh_table devices) users strings stream)
     (stranger_acts port byte) (λ i. lost_client c)
 

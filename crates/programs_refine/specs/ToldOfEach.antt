@@ -28,20 +28,22 @@ use Rattle.programs_refine.specs.Keeping.{AreFit, LoopIsKept, StoppedIsKept}
 use Rattle.programs_refine.specs.StoppedAmong.{RunOfAnyLoopsAmong, but_the_second, killed_acts, lost_or_killed}
 use Rattle.programs_refine.specs.ToldAmong.{joint_history}
 use Rattle.programs_refine.specs.WorkedRuns.{new_core}
+use Rattle.md5_auth.specs.Challenges.{HasGiven}
 
 -- **told of whole loops among strangers (`WholeLoopsAreToldAmong`)**: what is told of loops among strangers, of each
 -- that did whole steps, by one history of events of connections and acts of strangers.
 pub record WholeLoopsAreToldAmong (devices : List DeviceState) (jobs : List Job) (owner : Owner) (d : Core)
     (whole : ℕ → Bool) (acts : Acts) (last : ℕ → ClientState) : Type 0 where
+  pub seed : List ℕ
   pub events : List JointEvent
   pub are : AreOfConnections (events_among events)
   pub strangers : AreOfStrangers owner events
   pub v : WorldCore
-  pub led : LedTo (joint_history devices jobs d events) v
+  pub led : LedTo (joint_history devices seed jobs d events) v
   pub each : (i : ℕ) (job : Job) → slice_get jobs i ≡ Some job → whole i ≡ true → is_running (last i).outcome ≡ false
-      → LoopIsKept (joint_history devices jobs d events) v i job acts (last i)
+      → LoopIsKept (joint_history devices seed jobs d events) v i job acts (last i)
   pub stopped : (i : ℕ) (job : Job) → slice_get jobs i ≡ Some job → whole i ≡ true → is_running (last i).outcome ≡ true
-      → StoppedIsKept (joint_history devices jobs d events) v i job acts
+      → StoppedIsKept (joint_history devices seed jobs d events) v i job acts
 
 abbrev pub ProgramsTellEachAmongStrangers : Type 0
 ProgramsTellEachAmongStrangers =
@@ -61,7 +63,8 @@ NoOtherIsToldWhole =
 abbrev pub KilledAmongIsTold : Type 0
 KilledAmongIsTold =
     (devices : List DeviceState) (one two : Job) (c b : ClientState) (users : List Entry) (strings : StringSize)
-    (stream : ChaCha) (port byte : ℕ) → HaveOwnNames devices → All HasLimits devices → IsFitJob one → IsFitJob two
+    (stream : ChaCha) (seed : List ℕ) (port byte : ℕ) → HasGiven seed 0 stream → HaveOwnNames devices
+    → All HasLimits devices → IsFitJob one → IsFitJob two
     → IsNewClient one c → IsNewClient two b
     → WholeLoopsAreToldAmong devices (one ∷ two ∷ []) owned_by_none
     (new_core (fresh_table devices) users strings stream) but_the_second (killed_acts port byte) (lost_or_killed c b)

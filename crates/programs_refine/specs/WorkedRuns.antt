@@ -29,6 +29,7 @@ use Rattle.event_world.specs.Worlds.{IsFitJob}
 use Rattle.programs_refine.specs.Keeping.{AllLoopsAreKept, AreFit}
 use Rattle.programs_refine.specs.StepTraffic.{traffic_of}
 use Rattle.programs_refine.specs.Programs.{Acts, RunOverConnections}
+use Rattle.md5_auth.specs.Challenges.{HasGiven}
 
 -- ---- what they begin with
 
@@ -96,7 +97,7 @@ StarvedIsARun =
 abbrev pub NewIsFit : Type 0
 NewIsFit =
     (devices : List DeviceState) (job : Job) (users : List Entry) (strings : StringSize) (stream : ChaCha)
-    → HaveOwnNames devices
+    (seed : List ℕ) → HasGiven seed 0 stream → HaveOwnNames devices
     → All HasLimits devices → IsFitJob job
     → AreFit devices (job ∷ []) (new_core (fresh_table devices) users strings stream)
 
@@ -104,7 +105,8 @@ abbrev pub StarvedIsKept : Type 0
 StarvedIsKept =
     (devices : List DeviceState) (job : Job) (c : ClientState) (users : List Entry) (strings : StringSize)
     (stream : ChaCha)
-    (port byte : ℕ) (rest : List ℕ) → HaveOwnNames devices → All HasLimits devices → IsFitJob job → IsNewClient job c
+    (seed : List ℕ) (port byte : ℕ) (rest : List ℕ) → HasGiven seed 0 stream → HaveOwnNames devices
+    → All HasLimits devices → IsFitJob job → IsNewClient job c
     → c.out ≡ byte ∷ rest
     → AllLoopsAreKept devices (job
     ∷ []) (new_core (fresh_table devices) users strings stream) (starved_acts port c byte)

@@ -1,7 +1,6 @@
 -- The frames of a scan, joined, are the picture that its scene means.
 use Rattle.std.proofs.Common.{◌≡◌, ◌∙◌, sym, ap, subst, refl, Bool, true, false, Option, Some, None, Ok, List}
 use Rattle.netpbm.specs.Picture.{Picture}
-use Rattle.netpbm.specs.Pnm.{Denotes}
 use Rattle.page_picture.specs.Page.{PageView, IsPageView}
 use Rattle.page_picture.specs.Meaning.{meaning_of}
 use Rattle.page_picture.specs.Shows.{Frame, ShowsFrames}
@@ -14,6 +13,7 @@ use Rattle.frame_join.specs.FrameHistory.{JoinHistory, IsJoined, answer_by, is_j
 use Rattle.frame_join.specs.JoinStates.{JoinState, Represents}
 use Rattle.frame_join.proofs.EndSteps.{all_denotes}
 use Rattle.scan_laws.proofs.Takes.{joined_frames}
+use Rattle.frame_join.specs.PictureText.{IsPictureFile}
 
 pub nothing_meant : (s : Setup) (page : PageView) → has_picture s page ≡ false → meaning_of page s.scene ≡ None
 nothing_meant s page none = rw none refl
@@ -37,7 +37,7 @@ meant_shown s page true there a is p e =
 meant_shown s page false none a is p e = absurd (let clash : None ≡ Some p = sym (nothing_meant s page none) ∙ e in cc)
 
 pub file_means : (s : Setup) (page : PageView) (past : JoinHistory) (join : JoinState) (p : Picture) → IsAllowed s → IsPageView page → meaning_of page s.scene ≡ Some p → Represents past join → past.ended ≡ frames_of s page → past.under ≡ None → past.fault ≡ None
-    → AllGone past.under past.ended past.given → Denotes past.given p
+    → AllGone past.under past.ended past.given → IsPictureFile past.given p
 file_means s page past join p a is e stands ended under fault gone =
     let shown : ShowsFrames past.ended p = subst (λ (fs : List Frame). ShowsFrames fs p) (sym ended) (meant_shown s page (has_picture s page) refl a is p e) in
     let whole : is_joined past.ended ≡ true = ap is_joined ended ∙ joined_frames s page in

@@ -12,7 +12,6 @@ use Rattle.device_api.specs.InForce.{Placement, in_force, may_be_set}
 use Rattle.device_api.specs.Options.{descriptors_of}
 use Rattle.scan_laws.specs.NearestSet.{PutAllNearest}
 use Rattle.netpbm.specs.Picture.{Picture}
-use Rattle.netpbm.specs.Pnm.{Denotes}
 use Rattle.page_picture.specs.Page.{PageView, IsPageView}
 use Rattle.page_picture.specs.Meaning.{meaning_of}
 use Rattle.page_picture.specs.Shows.{Frame, ShowsFrames}
@@ -22,6 +21,7 @@ use Rattle.frame_join.specs.FrameFile.{AllGone}
 use Rattle.frame_join.specs.FrameHistory.{JoinHistory, after_begin, after_end, after_feed}
 use Rattle.frame_join.specs.JoinStates.{JoinState, Represents}
 use Rattle.scan_laws.specs.Joins.{IsOpenJoin, JoinTakes, with_frame_begun, with_bytes}
+use Rattle.frame_join.specs.PictureText.{IsPictureFile}
 
 -- a set refuses no value for which there is an admitted one
 abbrev pub RefusesOnlyWhereNoneIs : Type 0
@@ -63,4 +63,4 @@ abbrev pub FileDenotesTheMeaning : Type 0
 FileDenotesTheMeaning = (setup : Setup) (page : PageView) (past : JoinHistory) (join : JoinState) (p : Picture)
     → IsAllowed setup → IsPageView page → meaning_of page setup.scene ≡ Some p → Represents past join
     → past.ended ≡ frames_of setup page → past.under ≡ None → past.fault ≡ None
-    → AllGone past.under past.ended past.given → Denotes past.given p
+    → AllGone past.under past.ended past.given → IsPictureFile past.given p

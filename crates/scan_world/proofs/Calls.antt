@@ -46,10 +46,10 @@ each_is P (x ∷ xs) h = (h 0 x (omega arith), each_is P xs (λ k d low. h (suc 
 pub asked_true : (asked es : List Event) → asked ≡ es → All (IsTrueLoad source_state) asked → AreTrueLoads source_state es
 asked_true asked es same h = subst (AreTrueLoads source_state) same (true_each asked (each_is (IsTrueLoad source_state) asked h))
 
-pub new_led : {D : Type 0} (state : D → DeviceState) (devices asked : List D) (users : List Entry) (seed : List ℕ) (jobs : List Job) (w : WorldCore) → IsInitialWorld (map state devices) users seed jobs w → AreRegistrable (map state devices) → MayRun jobs → asked ≡ devices → All (λ (device : D). HasLimits (state device)) asked → LedTo (begun (map state devices) users jobs) w
+pub new_led : {D : Type 0} (state : D → DeviceState) (devices asked : List D) (users : List Entry) (seed : List ℕ) (jobs : List Job) (w : WorldCore) → IsInitialWorld (map state devices) users seed jobs w → AreRegistrable (map state devices) → MayRun jobs → asked ≡ devices → All (λ (device : D). HasLimits (state device)) asked → LedTo (begun (map state devices) users seed jobs) w
 new_led {D = D} state devices asked users seed jobs w is named fit same limits =
     let own : All (λ (device : D). HasLimits (state device)) devices = subst (λ (xs : List D). All (λ (device : D). HasLimits (state device)) xs) same limits in
-    record { first = w; endpoints = is.endpoints; daemon = record { registry = is.registry; slots = is.sessions; opened = is.opened }; users_are = is.users_are; names = named.names; limits = All-map HasLimits state devices own; fit = fit.1; loads = tt; runs = refl }
+    record { first = w; endpoints = is.endpoints; daemon = record { registry = is.registry; slots = is.sessions; opened = is.opened }; users_are = is.users_are; seeded = is.challenges; names = named.names; limits = All-map HasLimits state devices own; fit = fit.1; loads = tt; runs = refl }
 
 budget_is : (task : Task) → budget_of task ≡ (if is_batch task then 2 ^ 36 else 2 ^ 34)
 budget_is tasks.List = refl

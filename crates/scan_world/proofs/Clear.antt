@@ -39,7 +39,7 @@ use Rattle.scan_world.specs.Trays.{OwnTray}
 use Rattle.scan_world.proofs.Calls.{outcome_call, ran_out}
 use Rattle.scan_world.proofs.Ended.{loss_kept}
 use Rattle.scan_world.proofs.Joint.{in_jobs, of_jobs_then}
-use Rattle.scan_world.proofs.Led.{led_then, runs_jointly}
+use Rattle.scan_world.proofs.Led.{led_then, runs_jointly, steps_run}
 use Rattle.scan_world.proofs.Lists.{In, all_front, contains_in, in_either, in_front, in_list, in_split}
 use Rattle.scan_world.proofs.NextMoves.{LoadsNothing, quiet_loads, quiet_moves}
 use Rattle.scan_world.proofs.Refused.{cancel_next}
@@ -176,7 +176,7 @@ answered below h ms v i job quiet at clear statuses.DeviceBusy (asked, inl (j, d
 answered below h ms v i job quiet at clear statuses.DeviceBusy (asked, inr shared) =
     let front = no_acts_front (and_then h ms) asked.at.front (OfJobs (ToDaemon i asked.n) ∷ asked.at.back) asked.at.split (no_acts_then h ms clear.undisturbed) in
     absurd (none_shared below (history_up_to h asked.at.front) asked.at.before job front asked.at.led_before job.device shared)
-answered below h ms v i job quiet at clear statuses.Inval (inl unforced) = absurd (clear.forced (unforced.0, λ s. unforced.1 (settled_more h (h.events ++ of_jobs ms) job s)))
+answered below h ms v i job quiet at clear statuses.Inval (inl (unforced, opened)) = absurd (clear.forced (unforced.0, λ s. unforced.1 (settled_more h (h.events ++ of_jobs ms) job s)))
 answered below h ms v i job quiet at clear statuses.Inval (inr (inr (asked, none))) =
     let old = old_events h ms asked.at.front asked.at.back _ quiet asked.at.split in
     absurd (listed_here below (history_up_to h asked.at.front) asked.at.before job asked.at.led_before clear.device clear.is_there clear.named
@@ -209,13 +209,13 @@ record NextAt (more : List Event) (e : Event) (back : List Event) (w v : WorldCo
   leads : Leads source_state e between behind
   rest : Runs source_state back behind v
 
+-- next moves lead on
 moves_run : (es : List Event) (w v : WorldCore) → AreNextMoves es w v → Runs source_state es w v
-moves_run [] w v h = h
-moves_run (e ∷ es) w v (i, next, (u, leads, rest)) = (u, leads, moves_run es u v rest)
+moves_run es w v steps = steps_run (λ (e : Event) (u x : WorldCore). (i : ℕ) × IsMoveAt u i (Some e)) es w v steps
 
 next_at : (more back : List Event) (e : Event) (w v : WorldCore) → AreNextMoves (more ++ e ∷ back) w v → NextAt more e back w v
-next_at [] back e w v (i, next, (u, leads, rest)) = record { between = w; came = refl; j = i; next = next; behind = u; leads = leads; rest = moves_run back u v rest }
-next_at (m ∷ more) back e w v (i, next, (u, leads, rest)) =
+next_at [] back e w v (u, leads, next, rest) = record { between = w; came = refl; j = next.0; next = next.1; behind = u; leads = leads; rest = moves_run back u v rest }
+next_at (m ∷ more) back e w v (u, leads, next, rest) =
     let n = next_at more back e u v rest in
     record { between = n.between; came = (u, leads, n.came); j = n.j; next = n.next; behind = n.behind; leads = n.leads; rest = n.rest }
 
@@ -369,7 +369,7 @@ ended h ms old new i job way status whys.Lost (same, inr starved) = inl (inr (in
 ended h ms old new i job way status whys.Malformed x = absurd x
 ended h ms old new i job way status whys.Short (same, named) = absurd (unnamed h ms new i job statuses.Eof way.clear named)
 ended h ms old new i job way status whys.Long x = absurd x
-ended h ms old new i job way status whys.Setting (same, unforced) = absurd (way.clear.forced (unforced.0, λ s. unforced.1 (settled_more h (h.events ++ of_jobs ms) job s)))
+ended h ms old new i job way status whys.Setting (same, unforced, opened) = absurd (way.clear.forced (unforced.0, λ s. unforced.1 (settled_more h (h.events ++ of_jobs ms) job s)))
 ended h ms old new i job way status whys.Plain x = absurd x
 ended h ms old new i job way status whys.Memory (same, starved) = inl (inr (inl (inr (ap (λ (s : Status). Ended s whys.Memory) same))))
 ended h ms old new i job way status whys.Sink x = absurd x

@@ -28,7 +28,7 @@ use Rattle.system_model.specs.Client as model
 use Rattle.system_model.specs.Client.{JobStage, Idle, Running, Done, Ended, ClientView}
 use Rattle.system_model.specs.Devices.{Make}
 use Rattle.system_model.specs.SystemStates.{SystemState}
-use Rattle.system_model.specs.Transitions.{IsUnderWay, Transition, after_transition}
+use Rattle.system_model.specs.Transitions.{IsUnderWay, Transition, after_all, after_transition}
 use Rattle.event_world.specs.declared.endpoint.Endpoint.{Endpoint}
 use Rattle.event_world.specs.declared.event.Event.TheVariants.{LoseControl}
 use Rattle.event_world.specs.JobMoves.{IsNextMove}
@@ -59,6 +59,7 @@ use Rattle.scan_world.proofs.Elsewhere.{elsewhere}
 use Rattle.scan_world.proofs.Joint.{among_events, each_of_any, events_in}
 use Rattle.scan_world.proofs.moments.Judged.{EndedBy, Evid, Judged, JudgedAt, all_judged, among_met}
 use Rattle.scan_world.proofs.moments.Moments.{AnsweredSo, Comes, HappenedSo, come}
+use Rattle.scan_world.proofs.moments.Refusals.{IsFound, was_found}
 
 -- ---- what is told
 
@@ -107,13 +108,14 @@ row h w changing i job starved status why TrayRanOut z e x = absurd x
 row h w changing i job starved status why ClientOutOfMemory z e x = explained_as h w changing i job starved status why whys.Memory x.1 (x.0, e)
 
 -- settings that cannot be in force
-unforced_row : (h : History) (w : WorldCore) (changing : List JointEvent) (i : ℕ) (job : Job) (starved : Bool) (status : Status) (why : Why) → status ≡ codes.Inval → (why ≡ whys.Setting) ⊎ (why ≡ whys.Answer) → IsUnforced h job → EndingEver h w changing i job starved status why
-unforced_row h w changing i job starved status why inval (inl e) none = explained_as h w changing i job starved status why whys.Setting e (inval, none)
-unforced_row h w changing i job starved status why inval (inr e) none = answered_as h w changing i job starved status codes.Inval why (inval, e) (inl none)
+unforced_row : (h : History) (w : WorldCore) (changing : List JointEvent) (i : ℕ) (job : Job) (starved : Bool) (status : Status) (why : Why) → status ≡ codes.Inval → (why ≡ whys.Setting) ⊎ (why ≡ whys.Answer) → IsUnforced h job → IsFound h w i job why → EndingEver h w changing i job starved status why
+unforced_row h w changing i job starved status why inval (inl e) none (inl opened) = explained_as h w changing i job starved status why whys.Setting e (inval, none, opened.0)
+unforced_row h w changing i job starved status why inval (inr e) none (inl opened) = answered_as h w changing i job starved status codes.Inval why (inval, e) (inl (none, opened.0))
+unforced_row h w changing i job starved status why inval reason none (inr (e, unlisted)) = answered_as h w changing i job starved status codes.Inval why (inval, e) (inr (inl unlisted))
 
-table : (h : History) (w : WorldCore) (changing : List JointEvent) (i : ℕ) (job : Job) (starved : Bool) (met : List Cause) (status : Status) (why : Why) → Own h i job → (IsCauseAmong LinkOutOfMemory met → starved ≡ true) → EndedBy h w changing i job met status why → EndingEver h w changing i job starved status why
-table h w changing i job starved met status why o z (inl (c, e, m, x)) = row h w changing i job starved status why c (λ same. z (subst (λ (y : Cause). IsCauseAmong y met) same m)) e x
-table h w changing i job starved met status why o z (inr n) = unforced_row h w changing i job starved status why n.1.0 n.1.1 (unforced h i job o n.0)
+table : (h : History) (w : WorldCore) (changing : List JointEvent) (i : ℕ) (job : Job) (starved : Bool) (met : List Cause) (status : Status) (why : Why) → Own h i job → (IsCauseAmong LinkOutOfMemory met → starved ≡ true) → (status ≡ codes.Inval → IsFound h w i job why) → EndedBy h w changing i job met status why → EndingEver h w changing i job starved status why
+table h w changing i job starved met status why o z found (inl (c, e, m, x)) = row h w changing i job starved status why c (λ same. z (subst (λ (y : Cause). IsCauseAmong y met) same m)) e x
+table h w changing i job starved met status why o z found (inr n) = unforced_row h w changing i job starved status why n.1.0 n.1.1 (unforced h i job o n.0) (found n.1.0)
 
 -- ---- the job at its end
 
@@ -139,7 +141,7 @@ pub comes_by : (below : Below) (h : History) (w : WorldCore) (job : Job) (l : Le
 comes_by below h w job l sources haves fits =
     let t = ghost_by h w job l sources in
     let may = may_first below.kept h w job l sources haves in
-    let first : LedTo (history_up_to h []) l.first = record { first = l.first; endpoints = l.endpoints; daemon = l.daemon; users_are = l.users_are; names = l.names; limits = l.limits; fit = l.fit; loads = tt; runs = refl } in
+    let first : LedTo (history_up_to h []) l.first = record { first = l.first; endpoints = l.endpoints; daemon = l.daemon; users_are = l.users_are; seeded = l.seeded; names = l.names; limits = l.limits; fit = l.fit; loads = tt; runs = refl } in
     come (record { follow = below.follows; goes = below.goes; acts = below.acts; keeps = below.histories; last = below.last; all = below.kept }) h w job (make_by h sources) h.events [] t l.first refl first l.loads l.runs fits may (ap (λ (users : List Entry). (users, infos_of h, length h.jobs, λ (k : ℕ). slice_index_or h.jobs k (elsewhere h.devices job))) l.users_are) refl
 
 pub comes_there : (below : Below) (h : History) (w : WorldCore) (job : Job) (l : LedTo h w) → Comes h w job (changing_in h w l) (at_first h w job l)
@@ -219,6 +221,18 @@ judged_there below h w i job l job_at =
     subst (JudgedAt h w (changing_in h w l) i job) (sym k.rules_are)
     (all_judged (laws_of below) h w (changing_in h w l) i job k.steps t.system here fine (steps_by h w job l (sources_of g) k) (steps_of_changing h w job l (sources_of g) k) (both_along (AnsweredSo h w job) (HappenedSo h w job) t.system k.steps k.answered k.happened) k.legal tt)
 
+-- a job that ended with INVAL had opened its device, or that was not listed
+found_there : Below → (h : History) (w : WorldCore) (i : ℕ) (job : Job) (endpoint : Endpoint) (status : Status) (why : Why) → (j : IsJob h w i job endpoint) → endpoint.client.outcome ≡ outcomes.Ended status why → status ≡ codes.Inval → IsFound h w i job why
+found_there below h w i job endpoint status why j is inval =
+    let k = comes_there below h w job j.led in
+    let t = at_first h w job j.led in
+    let u = k.ghost_then in
+    let sits = k.stands.endpoints i endpoint j.endpoint_at in
+    let d = ended_reads (place_of_info u.infos) (target_of (u.jobs i)) (job_state u i).session.job (map (λ (q : JoinHistory). q.ended) (u.pages i)) endpoint.client.outcome endpoint.client.progress endpoint.client.notes (u.history i) (client_at_greeting (job_state u i).client.stage (job_state u i).client) status why sits.exchanges.reads.stands is in
+    let stage : (job_state u i).client.stage ≡ Ended status why = woken_ended (job_state u i).client.stage (job_state u i).client status why refl d in
+    let ended : ((after_all t.system k.steps).job i).client.stage ≡ Ended codes.Inval why = ap (λ (s : SystemState). (s.job i).client.stage) (sym k.rules_are) ∙ (stage ∙ ap (λ (x : Status). Ended x why) inval) in
+    was_found (laws_of below) h w i job k.steps t.system (first_here below h w i job j.led j.job_at) (steps_of_one below h w job j.led) k.answered k.legal (tt, tt) (tt, λ none. absurd none) why ended
+
 pub at_end : Below → (h : History) (w : WorldCore) (i : ℕ) (job : Job) (endpoint : Endpoint) (status : Status) (why : Why) → (j : IsJob h w i job endpoint) → endpoint.client.outcome ≡ outcomes.Ended status why → EndingEver h w (changing_in h w j.led) i job endpoint.out_of_memory status why
 at_end below h w i job endpoint status why j is =
     let k = comes_changing below h w job j.led in
@@ -228,7 +242,7 @@ at_end below h w i job endpoint status why j is =
     let d = ended_reads (place_of_info u.infos) (target_of (u.jobs i)) (job_state u i).session.job (map (λ (q : JoinHistory). q.ended) (u.pages i)) endpoint.client.outcome endpoint.client.progress endpoint.client.notes (u.history i) (client_at_greeting (job_state u i).client.stage (job_state u i).client) status why sits.exchanges.reads.stands is in
     let stage = woken_ended (job_state u i).client.stage (job_state u i).client status why refl d in
     let judged = subst (Judged h w (changing_in h w j.led) i job (job_state u i).session.met (job_state u i).client.pages) stage (judged_there below h w i job j.led j.job_at) in
-    table h w (changing_in h w j.led) i job endpoint.out_of_memory (job_state u i).session.met status why o sits.means.starved judged
+    table h w (changing_in h w j.led) i job endpoint.out_of_memory (job_state u i).session.met status why o sits.means.starved (found_there below h w i job endpoint status why j is) judged
 
 -- ---- a reply that could not be said
 

@@ -115,6 +115,7 @@ scan_of_one h w i count job bytes name source only quiet scan =
       picture = scan.picture;
       meant = subst (λ (p : PageView). meaning_of p s.setup.scene ≡ Some scan.picture) (sym page) scan.meant;
       denotes = scan.denotes;
+      own = scan.own;
     }
 
 done_reports : (o : Outcome) → is_done o ≡ true → (reports : Reports) × (o ≡ Done reports)
@@ -133,12 +134,12 @@ both_quiet events are = subst (AllByRecursion LoadsNothing) (sym are) (tt, (tt, 
 pub given_file : (w : WorldCore) (bytes : List ℕ) → Some bytes ≡ file_answered w 0 → ForEach w 0 (λ h job. (o : Outcome) → outcome_at w 0 ≡ Some o → FileIsKept h w 0 job (starved_at w 0) o (file_answered w 0)) → ForEach w 0 (λ h job. (o : Outcome) → outcome_at w 0 ≡ Some o → FileIsKept h w 0 job (starved_at w 0) o (Some bytes))
 given_file w bytes is kept h job at o there = subst (FileIsKept h w 0 job (starved_at w 0) o) (sym is) (kept h job at o there)
 
-pub once : (old new : WorldCore) (name : List ℕ) (source : SourceState) (states : List DeviceState) (users : List Entry) (job : Job) (jobs : List Job) (outcome : Outcome) (bytes : List ℕ) →
-    (HaveOwnNames states → IsOnly states name source job.device) → jobs ≡ job ∷ [] → source.steady ≡ true → LedTo (begun states users jobs) old → ((h : History) → LedTo h old → RunsOut h old new) →
+pub once : (old new : WorldCore) (name : List ℕ) (source : SourceState) (states : List DeviceState) (users : List Entry) (seed : List ℕ) (job : Job) (jobs : List Job) (outcome : Outcome) (bytes : List ℕ) →
+    (HaveOwnNames states → IsOnly states name source job.device) → jobs ≡ job ∷ [] → source.steady ≡ true → LedTo (begun states users seed jobs) old → ((h : History) → LedTo h old → RunsOut h old new) →
     outcome_at new 0 ≡ Some outcome → is_done outcome ≡ true → ForEach new 0 (λ h job. (o : Outcome) → outcome_at new 0 ≡ Some o → FileIsKept h new 0 job (starved_at new 0) o (Some bytes)) → job.task ≡ tasks.Scan → IsScanOf source.page job bytes
-once old new name source states users job jobs outcome bytes only own steady led ran there done file scan =
-    let out = ran (begun states users jobs) led in
-    let h = and_then (begun states users jobs) out.moves in
+once old new name source states users seed job jobs outcome bytes only own steady led ran there done file scan =
+    let out = ran (begun states users seed jobs) led in
+    let h = and_then (begun states users seed jobs) out.moves in
     let at : IsJobAt h new 0 job = record { led = out.led; job_at = ap (λ (js : List Job). slice_get js 0) own } in
     let reports = done_reports outcome done in
     let kept : FileIsKept h new 0 job (starved_at new 0) outcome (Some bytes) = file h job at outcome there in
@@ -146,12 +147,12 @@ once old new name source states users job jobs outcome bytes only own steady led
     let quiet = quiet_jobs out.moves (quiet_moves out.moves old new out.next) in
     scan_of_one h new 0 0 job bytes name source this quiet (kept.scanned reports.0 bytes (steady_for_all h new 0 name job.device source this steady quiet) scan reports.1 refl)
 
-pub beside : (old mid new : WorldCore) (name : List ℕ) (source : SourceState) (states : List DeviceState) (users : List Entry) (first second : Job) (jobs : List Job) (outcome : Outcome) (bytes : List ℕ) (events : List Event) →
-    states ≡ new_scanner Flatbed name source Little ∷ [] → jobs ≡ first ∷ second ∷ [] → source.steady ≡ true → LedTo (begun states users jobs) old → events ≡ until_busy → ((h : History) → LedTo h old → LedTo (and_then h events) mid) → ((h : History) → LedTo h mid → RunsOut h mid new) →
+pub beside : (old mid new : WorldCore) (name : List ℕ) (source : SourceState) (states : List DeviceState) (users : List Entry) (seed : List ℕ) (first second : Job) (jobs : List Job) (outcome : Outcome) (bytes : List ℕ) (events : List Event) →
+    states ≡ new_scanner Flatbed name source Little ∷ [] → jobs ≡ first ∷ second ∷ [] → source.steady ≡ true → LedTo (begun states users seed jobs) old → events ≡ until_busy → ((h : History) → LedTo h old → LedTo (and_then h events) mid) → ((h : History) → LedTo h mid → RunsOut h mid new) →
     outcome_at new 0 ≡ Some outcome → is_done outcome ≡ true → ForEach new 0 (λ h job. (o : Outcome) → outcome_at new 0 ≡ Some o → FileIsKept h new 0 job (starved_at new 0) o (Some bytes)) → first.task ≡ tasks.Scan → IsScanOf source.page first bytes
-beside old mid new name source states users first second jobs outcome bytes events devices own steady led are run ran there done file scan =
-    let asked = and_then (begun states users jobs) events in
-    let out = ran asked (run (begun states users jobs) led) in
+beside old mid new name source states users seed first second jobs outcome bytes events devices own steady led are run ran there done file scan =
+    let asked = and_then (begun states users seed jobs) events in
+    let out = ran asked (run (begun states users seed jobs) led) in
     let h = and_then asked out.moves in
     let at : IsJobAt h new 0 first = record { led = out.led; job_at = ap (λ (js : List Job). slice_get js 0) own } in
     let reports = done_reports outcome done in
@@ -160,12 +161,12 @@ beside old mid new name source states users first second jobs outcome bytes even
     let this : IsOnly states name source first.device = only_device states name first.device source devices in
     scan_of_one h new 0 0 first bytes name source this quiet (kept.scanned reports.0 bytes (steady_for_all h new 0 name first.device source this steady quiet) scan reports.1 refl)
 
-pub busy : (old mid new : WorldCore) (name : List ℕ) (source : SourceState) (states : List DeviceState) (users : List Entry) (first second : Job) (jobs : List Job) (outcome : Outcome) (events : List Event) →
-    states ≡ new_scanner Flatbed name source Little ∷ [] → jobs ≡ first ∷ second ∷ [] → source.steady ≡ true → LedTo (begun states users jobs) old → events ≡ until_busy → ((h : History) → LedTo h old → LedTo (and_then h events) mid) → ((h : History) → LedTo h mid → RunsOut h mid new) →
+pub busy : (old mid new : WorldCore) (name : List ℕ) (source : SourceState) (states : List DeviceState) (users : List Entry) (seed : List ℕ) (first second : Job) (jobs : List Job) (outcome : Outcome) (events : List Event) →
+    states ≡ new_scanner Flatbed name source Little ∷ [] → jobs ≡ first ∷ second ∷ [] → source.steady ≡ true → LedTo (begun states users seed jobs) old → events ≡ until_busy → ((h : History) → LedTo h old → LedTo (and_then h events) mid) → ((h : History) → LedTo h mid → RunsOut h mid new) →
     ForEach new 1 (λ h job. OutcomeIsKept h new 1 job (starved_at new 1) outcome) → outcome ≡ Ended DeviceBusy Answer → HasExplanation first second
-busy old mid new name source states users first second jobs outcome events devices own steady led are run ran kept told =
-    let asked = and_then (begun states users jobs) events in
-    let out = ran asked (run (begun states users jobs) led) in
+busy old mid new name source states users seed first second jobs outcome events devices own steady led are run ran kept told =
+    let asked = and_then (begun states users seed jobs) events in
+    let out = ran asked (run (begun states users seed jobs) led) in
     let h = and_then asked out.moves in
     let at : IsJobAt h new 1 second = record { led = out.led; job_at = ap (λ (js : List Job). slice_get js 1) own } in
     record { history = h; jobs = own; world = new; led = out.led; starved = starved_at new 1; caused = ((kept h second at).ended DeviceBusy Answer told).2 }
@@ -175,36 +176,36 @@ busy old mid new name source states users first second jobs outcome events devic
 one_state : {D : Type 0} (state : D → DeviceState) (items : List D) (x : D) (s : DeviceState) → items ≡ x ∷ [] → state x ≡ s → map state items ≡ s ∷ []
 one_state state items x s own is = ap (map state) own ∙ ap (λ (y : DeviceState). y ∷ []) is
 
-pub once_boxed : {D : Type 0} (state : D → DeviceState) (items : List D) (box : D) (users : List Entry) (jobs : List Job) (job : Job) (old new : WorldCore) (name : List ℕ) (source : SourceState) (page : PageView) (outcome : Outcome) (file bytes : List ℕ) →
-    LedTo (begun (map state items) users jobs) old → ((h : History) → LedTo h old → RunsOut h old new) → ForEach new 0 (λ h job. (o : Outcome) → outcome_at new 0 ≡ Some o → FileIsKept h new 0 job (starved_at new 0) o (Some file)) → items ≡ box ∷ [] → state box ≡ new_scanner Flatbed name source Little → jobs ≡ job ∷ [] → source.steady ≡ true → source.page ≡ page →
+pub once_boxed : {D : Type 0} (state : D → DeviceState) (items : List D) (box : D) (users : List Entry) (seed : List ℕ) (jobs : List Job) (job : Job) (old new : WorldCore) (name : List ℕ) (source : SourceState) (page : PageView) (outcome : Outcome) (file bytes : List ℕ) →
+    LedTo (begun (map state items) users seed jobs) old → ((h : History) → LedTo h old → RunsOut h old new) → ForEach new 0 (λ h job. (o : Outcome) → outcome_at new 0 ≡ Some o → FileIsKept h new 0 job (starved_at new 0) o (Some file)) → items ≡ box ∷ [] → state box ≡ new_scanner Flatbed name source Little → jobs ≡ job ∷ [] → source.steady ≡ true → source.page ≡ page →
     outcome_at new 0 ≡ Some outcome → is_done outcome ≡ true → file ≡ bytes → job.task ≡ tasks.Scan → IsScanOf page job bytes
-once_boxed state items box users jobs job old new name source page outcome file bytes led ran kept alone is own steady on there done same scan =
+once_boxed state items box users seed jobs job old new name source page outcome file bytes led ran kept alone is own steady on there done same scan =
     subst (λ (p : PageView). IsScanOf p job bytes) on
     (subst (IsScanOf source.page job) same
-    (once old new name source (map state items) users job jobs outcome file (λ names. only_device (map state items) name job.device source (one_state state items box (new_scanner Flatbed name source Little) alone is)) own steady led ran there done kept scan))
+    (once old new name source (map state items) users seed job jobs outcome file (λ names. only_device (map state items) name job.device source (one_state state items box (new_scanner Flatbed name source Little) alone is)) own steady led ran there done kept scan))
 
 two_states : {D : Type 0} (state : D → DeviceState) (items : List D) (x y : D) (s : DeviceState) → items ≡ x ∷ y ∷ [] → state x ≡ s → map state items ≡ s ∷ state y ∷ []
 two_states state items x y s own is = ap (map state) own ∙ ap (λ (d : DeviceState). d ∷ state y ∷ []) is
 
-pub with_other_boxed : {D : Type 0} (state : D → DeviceState) (items : List D) (box other : D) (users : List Entry) (jobs : List Job) (job : Job) (old new : WorldCore) (name : List ℕ) (source : SourceState) (page : PageView) (outcome : Outcome) (file bytes : List ℕ) →
-    LedTo (begun (map state items) users jobs) old → ((h : History) → LedTo h old → RunsOut h old new) → ForEach new 0 (λ h job. (o : Outcome) → outcome_at new 0 ≡ Some o → FileIsKept h new 0 job (starved_at new 0) o (Some file)) → items ≡ box ∷ other ∷ [] → state box ≡ new_scanner Flatbed name source Little → jobs ≡ job ∷ [] → source.steady ≡ true → source.page ≡ page →
+pub with_other_boxed : {D : Type 0} (state : D → DeviceState) (items : List D) (box other : D) (users : List Entry) (seed : List ℕ) (jobs : List Job) (job : Job) (old new : WorldCore) (name : List ℕ) (source : SourceState) (page : PageView) (outcome : Outcome) (file bytes : List ℕ) →
+    LedTo (begun (map state items) users seed jobs) old → ((h : History) → LedTo h old → RunsOut h old new) → ForEach new 0 (λ h job. (o : Outcome) → outcome_at new 0 ≡ Some o → FileIsKept h new 0 job (starved_at new 0) o (Some file)) → items ≡ box ∷ other ∷ [] → state box ≡ new_scanner Flatbed name source Little → jobs ≡ job ∷ [] → source.steady ≡ true → source.page ≡ page →
     outcome_at new 0 ≡ Some outcome → is_done outcome ≡ true → file ≡ bytes → job.device ≡ name → job.task ≡ tasks.Scan → IsScanOf page job bytes
-with_other_boxed state items box other users jobs job old new name source page outcome file bytes led ran kept both is own steady on there done same named scan =
+with_other_boxed state items box other users seed jobs job old new name source page outcome file bytes led ran kept both is own steady on there done same named scan =
     let are : map state items ≡ new_scanner Flatbed name source Little ∷ state other ∷ [] = two_states state items box other (new_scanner Flatbed name source Little) both is in
     subst (λ (p : PageView). IsScanOf p job bytes) on
     (subst (IsScanOf source.page job) same
-    (once old new name source (map state items) users job jobs outcome file (only_of_two (map state items) name job.device source (state other) are named) own steady led ran there done kept scan))
+    (once old new name source (map state items) users seed job jobs outcome file (only_of_two (map state items) name job.device source (state other) are named) own steady led ran there done kept scan))
 
-pub beside_boxed : {D : Type 0} (state : D → DeviceState) (items : List D) (box : D) (users : List Entry) (jobs : List Job) (first second : Job) (events : List Event) (old mid new : WorldCore) (name : List ℕ) (source : SourceState) (page : PageView) (outcome : Outcome) (file bytes : List ℕ) →
-    LedTo (begun (map state items) users jobs) old → ((h : History) → LedTo h old → LedTo (and_then h events) mid) → ((h : History) → LedTo h mid → RunsOut h mid new) → ForEach new 0 (λ h job. (o : Outcome) → outcome_at new 0 ≡ Some o → FileIsKept h new 0 job (starved_at new 0) o (Some file)) → items ≡ box ∷ [] → state box ≡ new_scanner Flatbed name source Little → jobs ≡ first ∷ second ∷ [] → source.steady ≡ true → source.page ≡ page → events ≡ until_busy →
+pub beside_boxed : {D : Type 0} (state : D → DeviceState) (items : List D) (box : D) (users : List Entry) (seed : List ℕ) (jobs : List Job) (first second : Job) (events : List Event) (old mid new : WorldCore) (name : List ℕ) (source : SourceState) (page : PageView) (outcome : Outcome) (file bytes : List ℕ) →
+    LedTo (begun (map state items) users seed jobs) old → ((h : History) → LedTo h old → LedTo (and_then h events) mid) → ((h : History) → LedTo h mid → RunsOut h mid new) → ForEach new 0 (λ h job. (o : Outcome) → outcome_at new 0 ≡ Some o → FileIsKept h new 0 job (starved_at new 0) o (Some file)) → items ≡ box ∷ [] → state box ≡ new_scanner Flatbed name source Little → jobs ≡ first ∷ second ∷ [] → source.steady ≡ true → source.page ≡ page → events ≡ until_busy →
     outcome_at new 0 ≡ Some outcome → is_done outcome ≡ true → file ≡ bytes → first.task ≡ tasks.Scan → IsScanOf page first bytes
-beside_boxed state items box users jobs first second events old mid new name source page outcome file bytes led run ran kept alone is own steady on are there done same scan =
+beside_boxed state items box users seed jobs first second events old mid new name source page outcome file bytes led run ran kept alone is own steady on are there done same scan =
     subst (λ (p : PageView). IsScanOf p first bytes) on
     (subst (IsScanOf source.page first) same
-    (beside old mid new name source (map state items) users first second jobs outcome file events (one_state state items box (new_scanner Flatbed name source Little) alone is) own steady led are run ran there done kept scan))
+    (beside old mid new name source (map state items) users seed first second jobs outcome file events (one_state state items box (new_scanner Flatbed name source Little) alone is) own steady led are run ran there done kept scan))
 
-pub busy_boxed : {D : Type 0} (state : D → DeviceState) (items : List D) (box : D) (users : List Entry) (jobs : List Job) (first second : Job) (events : List Event) (old mid new : WorldCore) (name : List ℕ) (source : SourceState) (outcome : Outcome) →
-    LedTo (begun (map state items) users jobs) old → ((h : History) → LedTo h old → LedTo (and_then h events) mid) → ((h : History) → LedTo h mid → RunsOut h mid new) → ForEach new 1 (λ h job. OutcomeIsKept h new 1 job (starved_at new 1) outcome) → items ≡ box ∷ [] → state box ≡ new_scanner Flatbed name source Little → jobs ≡ first ∷ second ∷ [] → source.steady ≡ true → events ≡ until_busy →
+pub busy_boxed : {D : Type 0} (state : D → DeviceState) (items : List D) (box : D) (users : List Entry) (seed : List ℕ) (jobs : List Job) (first second : Job) (events : List Event) (old mid new : WorldCore) (name : List ℕ) (source : SourceState) (outcome : Outcome) →
+    LedTo (begun (map state items) users seed jobs) old → ((h : History) → LedTo h old → LedTo (and_then h events) mid) → ((h : History) → LedTo h mid → RunsOut h mid new) → ForEach new 1 (λ h job. OutcomeIsKept h new 1 job (starved_at new 1) outcome) → items ≡ box ∷ [] → state box ≡ new_scanner Flatbed name source Little → jobs ≡ first ∷ second ∷ [] → source.steady ≡ true → events ≡ until_busy →
     outcome ≡ Ended DeviceBusy Answer → HasExplanation first second
-busy_boxed state items box users jobs first second events old mid new name source outcome led run ran kept alone is own steady are told =
-    busy old mid new name source (map state items) users first second jobs outcome events (one_state state items box (new_scanner Flatbed name source Little) alone is) own steady led are run ran kept told
+busy_boxed state items box users seed jobs first second events old mid new name source outcome led run ran kept alone is own steady are told =
+    busy old mid new name source (map state items) users seed first second jobs outcome events (one_state state items box (new_scanner Flatbed name source Little) alone is) own steady led are run ran kept told

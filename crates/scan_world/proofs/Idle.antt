@@ -9,7 +9,7 @@ use Rattle.event_world.specs.declared.event.Event.TheVariants as events
 use Rattle.event_world.specs.declared.event.JobEvent.{JobEvent}
 use Rattle.event_world.specs.declared.event.JobEvent.TheVariants.{Connect, ToDaemon, ToClient, DataConnect, DataTurn, DataToClient, LoseControl, LoseImage, Cancel}
 use Rattle.event_world.specs.JobEvents.{Can, Does, Happens, job_event_of}
-use Rattle.event_world.specs.Worlds.{AtEndpoint, Leads, Runs, WorldCore}
+use Rattle.event_world.specs.Worlds.{AtEndpoint, Leads, WorldCore}
 use Rattle.event_world.proofs.Deciding.{can_or_not}
 use Rattle.event_world.proofs.Events.{linked_by}
 use Rattle.scan_world.specs.Calls.{IdleStays, StarvesBy, TakesMemory, is_starved, starved_at}
@@ -27,7 +27,7 @@ same_entries (y ∷ xs) (suc i) x e = ap (λ zs. y ∷ zs) (same_entries xs i x 
 same_world : (w v : WorldCore) → v.daemon ≡ w.daemon → v.endpoints ≡ w.endpoints → v ≡ w
 same_world w v d e = ap (λ (y : Core). record { daemon = y; endpoints = v.endpoints }) d ∙ ap (λ (es : List Endpoint). record { daemon = w.daemon; endpoints = es }) e
 
-idle_at : (w : WorldCore) (i : ℕ) (x : JobEvent) (v : WorldCore) → AtEndpoint w i x v → (CanAt w i x → ⊥) → v ≡ w
+pub idle_at : (w : WorldCore) (i : ℕ) (x : JobEvent) (v : WorldCore) → AtEndpoint w i x v → (CanAt w i x → ⊥) → v ≡ w
 idle_at w i x v a never = elim (end_at (slice_get w.endpoints i)) [
   | inl none ↦ a.beyond (past_end w.endpoints i none)
   | inr there ↦
@@ -36,11 +36,8 @@ idle_at w i x v a never = elim (end_at (slice_get w.endpoints i)) [
       same_world w v same.0 (h.2 ∙ (ap (slice_set w.endpoints i) same.1 ∙ same_entries w.endpoints i there.0 there.1))
 ]
 
-pub idle_stays : (es : List Event) (w v : WorldCore) → Runs source_state es w v → IdleStays es w v
-idle_stays es w v runs i own is never = by_one (subst (λ (xs : List Event). Runs source_state xs w v) is runs)
-  where
-    by_one : Runs source_state (job_event_of i own ∷ []) w v → v ≡ w
-    by_one (u, leads, rest) = rest ∙ idle_at w i own u (at_own i own w u leads) never
+pub idle_stays : (e : Event) (w v : WorldCore) → Leads source_state e w v → IdleStays e w v
+idle_stays e w v leads i own is never = idle_at w i own v (at_own i own w v (subst (λ (x : Event). Leads source_state x w v) is leads)) never
 
 -- ---- memory runs out
 
@@ -110,8 +107,5 @@ starves_led (events.Cancel i) w v k l enough out = found w i Cancel v k l enough
 starves_led (events.Load name page) w v k l enough out = kept w v k (ap (λ (y : WorldCore). slice_get y.endpoints k) l) enough out
 starves_led (events.Unplug name) w v k l enough out = kept w v k (ap (λ (y : WorldCore). slice_get y.endpoints k) l) enough out
 
-pub starves_by : (es : List Event) (w v : WorldCore) → Runs source_state es w v → StarvesBy es w v
-starves_by es w v runs i e is enough out = by_one (subst (λ (xs : List Event). Runs source_state xs w v) is runs)
-  where
-    by_one : Runs source_state (e ∷ []) w v → Found w i e
-    by_one (u, leads, rest) = starves_led e w u i leads enough (sym (ap (λ (y : WorldCore). starved_at y i) rest) ∙ out)
+pub starves_by : (e : Event) (w v : WorldCore) → Leads source_state e w v → StarvesBy e w v
+starves_by e w v leads i enough out = starves_led e w v i leads enough out

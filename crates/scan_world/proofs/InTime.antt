@@ -38,7 +38,7 @@ use Rattle.world_refines.specs.WorldPromises.{IsOutcome}
 use Rattle.strangers.specs.Together.{AllIsKeptAmongStrangers, JointEvent, RunsAmong, events_among}
 use Rattle.strangers.specs.Together.JointEvent.{OfJobs, OfStranger}
 use Rattle.scan_world.specs.Calls.{IsJobAt, JobStays, outcome_at}
-use Rattle.scan_world.specs.Endings.{AnswerIsExplained, DeviceFailed, HadFailed, HadNoPicture, HasPassed, IsEndingExplained, NamesStatus, SendsFailure}
+use Rattle.scan_world.specs.Endings.{AnswerIsExplained, DeviceFailed, HadFailed, HadNoPicture, HasPassed, IsEndingExplained, NamesStatus, SendsFailure, WasOpened}
 use Rattle.scan_world.specs.Histories.{History, LedTo, Moment, history_up_to}
 use Rattle.scan_world.specs.Laws.{Below}
 use Rattle.scan_world.specs.Page.{CameFor, CameInTime, IsScan, IsSteady, Settled, StartedOn}
@@ -148,7 +148,7 @@ from_here below h w i job at (OfJobs e ∷ es) seen u split led loads (v, leads,
 pub until_there : Below → (h : History) (w : WorldCore) (i : ℕ) (job : Job) → IsJobAt h w i job → Until h w i
 until_there below h w i job at =
     let l = at.led in
-    let first : LedTo (history_up_to h []) l.first = record { first = l.first; endpoints = l.endpoints; daemon = l.daemon; users_are = l.users_are; names = l.names; limits = l.limits; fit = l.fit; loads = tt; runs = refl } in
+    let first : LedTo (history_up_to h []) l.first = record { first = l.first; endpoints = l.endpoints; daemon = l.daemon; users_are = l.users_are; seeded = l.seeded; names = l.names; limits = l.limits; fit = l.fit; loads = tt; runs = refl } in
     let q = endpoint_there below (history_up_to h []) l.first i job (record { led = first; job_at = at.job_at }) in
     let r = from_here below h w i job at.job_at h.events [] l.first refl first l.loads l.runs q.0 q.1.endpoint_at q.0.client.outcome refl in
     record {
@@ -156,7 +156,7 @@ until_there below h w i job at =
       back = r.back;
       split = r.split;
       at = r.at;
-      led = record { first = l.first; endpoints = l.endpoints; daemon = l.daemon; users_are = l.users_are; names = l.names; limits = l.limits; fit = l.fit; loads = r.loads; runs = r.run };
+      led = record { first = l.first; endpoints = l.endpoints; daemon = l.daemon; users_are = l.users_are; seeded = l.seeded; names = l.names; limits = l.limits; fit = l.fit; loads = r.loads; runs = r.run };
       rest = r.rest;
       stays = r.stays;
       came = r.came;
@@ -242,6 +242,7 @@ scan_on h w i u job count file s = record {
   picture = s.picture;
   meant = s.meant;
   denotes = s.denotes;
+  own = s.own;
 }
 
 picture_on : (h : History) (w : WorldCore) (i : ℕ) (u : Until h w i) (job : Job) → HadNoPictureEver (history_up_to h u.front) u.at (changing_to h w i u) i job → HadNoPicture h w i job
@@ -357,12 +358,25 @@ failed_on all h w i u job status ended (scanning, can, inr (turn, failed, sent))
 
 -- ---- the table
 
+opened_on : (h : History) (w : WorldCore) (i : ℕ) (u : Until h w i) (job : Job) → WasOpened (history_up_to h u.front) u.at i job → WasOpened h w i job
+opened_on h w i u job o = record {
+  asked = asked_on h w i u _ o.asked;
+  listed = o.listed;
+  free = o.free;
+  unshared = o.unshared;
+  permitted = elim o.permitted [
+    | inl unguarded ↦ inl unguarded
+    | inr passed ↦ inr (passed_on h u.front o.asked.at.before i job true passed)
+  ];
+  taken = o.taken;
+}
+
 answer_on : AllIsKeptAmongStrangers → (h : History) (w : WorldCore) (i : ℕ) (u : Until h w i) (job : Job) (said : Status) → outcome_at u.at i ≡ Some (Ended said whys.Answer) → (status : Status) → AnswerEver (history_up_to h u.front) u.at (changing_to h w i u) i job status → AnswerIsExplained h w i job status
 answer_on all h w i u job said ended statuses.Good x = x
 answer_on all h w i u job said ended statuses.Unsupported x = x
 answer_on all h w i u job said ended statuses.Cancelled x = x
 answer_on all h w i u job said ended statuses.DeviceBusy (asked, by) = (asked_on h w i u _ asked, by)
-answer_on all h w i u job said ended statuses.Inval (inl unforced) = inl (unforced.0, λ s. unforced.1 (settled_to h u.front job s))
+answer_on all h w i u job said ended statuses.Inval (inl (unforced, opened)) = inl ((unforced.0, λ s. unforced.1 (settled_to h u.front job s)), opened_on h w i u job opened)
 answer_on all h w i u job said ended statuses.Inval (inr (inl (asked, none))) = inr (inr (asked_on h w i u _ asked, none))
 answer_on all h w i u job said ended statuses.Inval (inr (inr n)) = inr (inl (picture_on h w i u job n))
 answer_on all h w i u job said ended statuses.Eof x = x

@@ -1,26 +1,19 @@
 -- A page that is laid in, and a device that is taken out.
 use Rattle.std.specs.Prelude.{Ok, Err}
-use Rattle.std.proofs.Common.{◌≡◌, ◌∙◌, ℕ, List, [], ◌∷◌, Option, Some, None, refl, sym, ap, subst}
+use Rattle.std.proofs.Common.{◌≡◌, ◌∙◌, ℕ, List, Option, Some, None, refl, ap, subst}
 use Rattle.page_sources.specs.SourceView.{source_state}
 use Rattle.sane_fixed.specs.declared.status.Status.{Status}
 use Rattle.device_api.specs.State.{DeviceState}
 use Rattle.dispatch.specs.Table.{Table, after_unplug, find_name, held_at, unplug_answer, unplug_at, unplug_of, unplugged_at, unplugged_of}
 use Rattle.event_world.specs.declared.event.Event.{Event}
 use Rattle.event_world.specs.declared.event.Event.TheVariants.{Load, Unplug}
-use Rattle.event_world.specs.Worlds.{Leads, Runs, WorldCore}
+use Rattle.event_world.specs.Worlds.{Leads, WorldCore}
 use Rattle.scan_world.specs.Calls.{LoadLays, UnplugTakes}
 use Rattle.scan_world.proofs.Taken.{refused_same}
 
--- one event alone
-alone : (e : Event) (es : List Event) (w v : WorldCore) → es ≡ e ∷ [] → Runs source_state es w v → Leads source_state e w v
-alone e es w v is runs = by_one (subst (λ (xs : List Event). Runs source_state xs w v) is runs)
-  where
-    by_one : Runs source_state (e ∷ []) w v → Leads source_state e w v
-    by_one (u, leads, rest) = subst (Leads source_state e w) (sym rest) leads
-
-pub load_lays : (es : List Event) (w v : WorldCore) → Runs source_state es w v → LoadLays es w v
-load_lays es w v runs name source is =
-    let leads = alone (Load name source) es w v is runs in
+pub load_lays : (e : Event) (w v : WorldCore) → Leads source_state e w v → LoadLays e w v
+load_lays e w v led name source is =
+    let leads : Leads source_state (Load name source) w v = subst (λ (x : Event). Leads source_state x w v) is led in
     (λ refused. refused_same name source w v refused leads, λ taken. leads)
 
 of_held : (t : Table) (k : ℕ) (o : Option DeviceState) (status : Status) → unplug_of o ≡ Err status → unplugged_of t k o ≡ t
@@ -35,9 +28,9 @@ stays_in : (t : Table) (name : List ℕ) (status : Status) → unplug_answer t n
 unfolding unplug_answer after_unplug
 stays_in t name status is = of_name t (find_name name t) status is
 
-pub unplug_takes : (es : List Event) (w v : WorldCore) → Runs source_state es w v → UnplugTakes es w v
-unplug_takes es w v runs name is =
-    let leads = alone (Unplug name) es w v is runs in (
+pub unplug_takes : (e : Event) (w v : WorldCore) → Leads source_state e w v → UnplugTakes e w v
+unplug_takes e w v led name is =
+    let leads : Leads source_state (Unplug name) w v = subst (λ (x : Event). Leads source_state x w v) is led in (
       λ status refused. leads ∙ ap (λ (t : Table). record w { daemon = record w.daemon { registry = t } }) (stays_in w.daemon.registry name status refused),
       λ device taken. leads,
     )

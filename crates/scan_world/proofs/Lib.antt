@@ -37,6 +37,7 @@ pub mod Laid
 pub mod Timely
 pub mod Examples
 pub mod moments
+pub mod Stepping
 pub mod Quiet
 pub mod Refused
 pub mod Unhindered

@@ -17,12 +17,12 @@ use Rattle.scan_world.specs.Calls.{AreNextMoves, MovesNext}
 
 then_moves : (es fs : List Event) (w u v : WorldCore) → AreNextMoves es w u → AreNextMoves fs u v → AreNextMoves (es ++ fs) w v
 then_moves [] fs w u v a b = subst (λ (x : WorldCore). AreNextMoves fs x v) a b
-then_moves (e ∷ es) fs w u v (i, next, (x, leads, rest)) b = (i, next, (x, leads, then_moves es fs x u v rest b))
+then_moves (e ∷ es) fs w u v (x, leads, next, rest) b = (x, leads, next, then_moves es fs x u v rest b)
 
 turn_moves : (i : ℕ) (turns : List (Option Event)) (w v : WorldCore) → TakesMoves source_state i turns w v → AreNextMoves (moves_made turns) w v
 turn_moves i [] w v h = h
 turn_moves i (None ∷ turns) w v (u, one, rest) = subst (λ (x : WorldCore). AreNextMoves (moves_made turns) x v) one.1 (turn_moves (i + 1) turns u v rest)
-turn_moves i (Some e ∷ turns) w v (u, one, rest) = (i, subst (λ (o : Option Endpoint). MovesNext w.daemon i o (Some e)) (sym one.0.at) one.0.next, (u, one.1, turn_moves (i + 1) turns u v rest))
+turn_moves i (Some e ∷ turns) w v (u, one, rest) = (u, one.1, (i, subst (λ (o : Option Endpoint). MovesNext w.daemon i o (Some e)) (sym one.0.at) one.0.next), turn_moves (i + 1) turns u v rest)
 
 pub rounds_moves : (rounds : List (List (Option Event))) (w v : WorldCore) → Rounds source_state rounds w v → AreNextMoves (all_made rounds) w v
 rounds_moves [] w v h = h
@@ -57,7 +57,7 @@ next_quiet d i (Some p) e next = by_own i e next.job_event next.event_is
 
 pub quiet_moves : (es : List Event) (w v : WorldCore) → AreNextMoves es w v → AllByRecursion LoadsNothing es
 quiet_moves [] w v h = tt
-quiet_moves (e ∷ es) w v (i, next, (u, leads, rest)) = (next_quiet w.daemon i (slice_get w.endpoints i) e next, quiet_moves es u v rest)
+quiet_moves (e ∷ es) w v (u, leads, next, rest) = (next_quiet w.daemon next.0 (slice_get w.endpoints next.0) e next.1, quiet_moves es u v rest)
 
 quiet_load : (e : Event) → LoadsNothing e → IsTrueLoad source_state e
 quiet_load (Load name source) none = absurd none

@@ -296,15 +296,14 @@ at_own i LoseControl w v l = l
 at_own i LoseImage w v l = l
 at_own i Cancel w v l = l
 
-pub move_lowers : (es : List Event) (w v : WorldCore) → Runs source_state es w v → MoveLowers es w v
-move_lowers es w v run i own are can some =
-    first_runs (λ (y : WorldCore). left_at y i < left_at w i) (job_event_of i own) [] w v (subst (λ (xs : List Event). Runs source_state xs w v) are run) (λ u leads rest.
-    let a = at_own i own w u leads in
+pub move_lowers : (e : Event) (w v : WorldCore) → Leads source_state e w v → MoveLowers e w v
+move_lowers e w v leads i own is can some =
+    let a = at_own i own w v (subst (λ (x : Event). Leads source_state x w v) is leads) in
     let h = a.happens can.0 can.1 in
-    let now : slice_get v.endpoints i ≡ Some h.0 = ap (λ (y : WorldCore). slice_get y.endpoints i) rest ∙ (ap (λ (es : List Endpoint). slice_get es i) h.2 ∙ set_here w.endpoints i can.0 h.0 can.1) in
+    let now : slice_get v.endpoints i ≡ Some h.0 = ap (λ (es : List Endpoint). slice_get es i) h.2 ∙ set_here w.endpoints i can.0 h.0 can.1 in
     let was : left_at w i ≡ moves_left_of can.0 = ap moves_answered can.1 in
-    let less = one_less w.daemon u.daemon can.0 h.0 own (subst (λ (n : ℕ). 0 < n) was some) can.2 h.1 in
-    subst (λ (o : Option Endpoint). moves_answered o < left_at w i) (sym now) (subst (λ (n : ℕ). moves_left_of h.0 < n) (sym was) less))
+    let less = one_less w.daemon v.daemon can.0 h.0 own (subst (λ (n : ℕ). 0 < n) was some) can.2 h.1 in
+    subst (λ (o : Option Endpoint). moves_answered o < left_at w i) (sym now) (subst (λ (n : ℕ). moves_left_of h.0 < n) (sym was) less)
 
 -- ---- what ends a job that runs
 

@@ -5,6 +5,7 @@ use Rattle.std.proofs.Common.{◌≡◌, ◌∙◌, ◌⊎◌, ℕ, List, [], �
 use Rattle.page_picture.specs.Meaning.{meaning_of}
 use Rattle.page_picture.specs.Page.{PageView}
 use Rattle.device_api.specs.State.{HeldPage}
+use Rattle.rand_chacha.specs.ChaCha.{ChaCha}
 use Rattle.sane_fixed.specs.declared.status.Status.{Status}
 use Rattle.sane_fixed.specs.declared.status.Status.TheVariants as statuses
 use Rattle.page_picture.specs.declared.scene.DeviceKind.{DeviceKind}
@@ -31,16 +32,18 @@ use Rattle.event_world.specs.JobEvents.{job_event_of}
 use Rattle.event_world.specs.JobMoves.{IsFirstMove, IsNext, in_order}
 use Rattle.event_world.specs.Worlds.{WorldCore}
 use Rattle.client_replies.specs.ProtocolStates.{is_running, scans}
-use Rattle.scan_world.specs.Calls.{AreNextMoves, HadUnsaidReply, MovesNext, outcome_at, starved_at}
+use Rattle.scan_world.specs.Calls.{AreNextMoves, HadUnsaidReply, IsHeldStep, IsWorldStep, MovesNext, TakesMemory, left_at, outcome_at, starved_at}
 use Rattle.scan_world.specs.Clear.{BothBusyIsNoLie, ComesTo, CameRefused, NeitherIsNoLie, RefusedIsNoLie, StoppedIsNoLie, TurnedAwayIsNoLie}
 use Rattle.scan_world.specs.Page.CameInTime.{FromFirst, AsItRan}
 use Rattle.scan_world.proofs.Led.{first_runs}
 use Rattle.scan_world.proofs.Taken.{refused_same}
 use Rattle.scan_world.proofs.moments.Entries.{unsome}
 use Rattle.scan_world.specs.Endings.{AnswerIsExplained, HadNoPage, HasPassed, NamesStatus}
-use Rattle.scan_world.specs.Histories.{History, and_then}
+use Rattle.scan_world.specs.Histories.{History, EachStep, and_then}
 use Rattle.scan_world.specs.Reports.{AreSettingsReported, IsSettingReported, told_option}
-use Rattle.scan_world.specs.Lies.{AllowedIsNoLie, BusyIsNoLie, CancelledIsNoLie, CountIsNoLie, DeniedIsNoLie, EmptyIsNoLie, FailedIsNoLie, FewIsNoLie, FileIsNoLie, FirmIsNoLie, GivenUpIsNoLie, GoneOnIsNoLie, HiddenIsNoLie, IdleIsNoLie, InvalIsNoLie, JammedIsNoLie, ListIsNoLie, LossIsNoLie, LostIsNoLie, MemoryIsNoLie, MissingIsNoLie, MovedIsNoLie, NamesNothing, NowhereIsNoLie, PageIsNoLie, RefusedStandAside, RoundedIsNoLie, SharedIsNoLie, ShownIsNoLie, SilentIsNoLie, StillRunsIsNoLie, StuckIsNoLie, SwappedIsNoLie, TrayPageIsNoLie, UnchangedStandAside, UnscannedIsNoLie, WholeIsNoLie}
+use Rattle.scan_world.specs.Lies.{AllowedIsNoLie, BusyIsNoLie, CancelledIsNoLie, CountIsNoLie, DeniedIsNoLie, EmptyIsNoLie, FailedIsNoLie, FewIsNoLie, FileIsNoLie, FirmIsNoLie, GivenAwayIsNoLie, GivenUpIsNoLie, GoneOnIsNoLie, HiddenIsNoLie, IdleIsNoLie, InvalIsNoLie, JammedIsNoLie, LaidIsNoLie, ListIsNoLie, LossIsNoLie, LostIsNoLie, MemoryIsNoLie, MissingIsNoLie, MovedIsNoLie, NamesNothing, NeverHadIsNoLie, NowhereIsNoLie, PageIsNoLie, RefusedStandAside, RoundedIsNoLie, SharedIsNoLie, ShownIsNoLie, SilentIsNoLie, StarvedIsNoLie, StillRunsIsNoLie, StuckIsNoLie, SwappedIsNoLie, TornOutIsNoLie, TrayPageIsNoLie, UnchangedStandAside, UnheardIsNoLie, UnscannedIsNoLie, UnseededIsNoLie, WholeIsNoLie}
+use Rattle.scan_world.specs.Sessions.{CanAt, Has}
+use Rattle.dispatch.specs.Table.{listed_infos}
 
 -- ---- endings
 
@@ -63,9 +66,12 @@ pub inval : InvalIsNoLie
 inval h w i job starved nothing forced listed meant = by_answer h w i job statuses.Inval nothing by_case
   where
     by_case : AnswerIsExplained h w i job statuses.Inval → ⊥
-    by_case (inl unforced) = forced unforced
+    by_case (inl refused) = forced refused.0
     by_case (inr (inr (asked, none))) = listed asked.n asked.at none
     by_case (inr (inl none)) = meant none.asked.n none.asked.at none.device none.has (ap (λ (x : PageView). meaning_of x none.device.setup.scene) (sym none.first) ∙ (ap (λ (x : Setup). meaning_of none.held.page x.scene) (sym none.options) ∙ none.none))
+
+pub unheard : UnheardIsNoLie
+unheard h w i job starved never (same, unforced, opened) = opened.listed (never opened.asked.n opened.asked.at)
 
 pub denied : DeniedIsNoLie
 denied h w i job starved nothing right = by_answer h w i job statuses.AccessDenied nothing (λ (asked, d). (let clash : true ≡ false = sym (right d.challenge) ∙ d.is in cc))
@@ -157,6 +163,13 @@ allowed h w i job reports list guarded wrong done = by_case (done.opened list).p
     by_case (inl unguarded) = let clash : true ≡ false = sym guarded ∙ unguarded in cc
     by_case (inr judged) = let clash : false ≡ true = sym (wrong judged.challenge) ∙ judged.is in cc
 
+pub never_had : NeverHadIsNoLie
+never_had h w i job reports list all done =
+    let o = done.opened list in
+    let a = all o.asked.n o.asked.at in
+    let t = o.taken a.0.0 a.0.1 in
+    a.1 t.0 t.1
+
 silent_settings : (settings : List (List ℕ × List ℕ)) (placed : List Placement) (reports : List Report) (setting : List ℕ × List ℕ) (more : List (List ℕ × List ℕ)) → settings ≡ setting ∷ more → reports ≡ [] → AreSettingsReported settings placed reports → ⊥
 silent_settings [] placed reports setting more e none h = let clash : [] ≡ setting ∷ more = e in cc
 silent_settings (s ∷ settings) [] reports setting more e none h = h
@@ -232,7 +245,42 @@ given_to_loss h w i job memory never good = by_case (good.loss refl)
 -- ---- a run
 
 pub idle : IdleIsNoLie
-idle w i own can some lowers = let less = lowers i own refl can some in omega (arith, less)
+idle w i own can some (u, leads, step, same) =
+    let less = step.lowers i own refl can some in
+    let stays : left_at u i ≡ left_at w i = ap (λ (y : WorldCore). left_at y i) (sym same) in
+    omega (arith, less, stays)
+
+-- a cancel takes no memory
+cancel_takes : (i : ℕ) (own : JobEvent) → Cancel i ≡ job_event_of i own → TakesMemory own → ⊥
+cancel_takes i moves.Cancel is takes = takes
+cancel_takes i moves.Connect is takes = let clash : Cancel i ≡ events.Connect i = is in cc
+cancel_takes i (moves.ToDaemon n) is takes = let clash : Cancel i ≡ ToDaemon i n = is in cc
+cancel_takes i (moves.ToClient n) is takes = let clash : Cancel i ≡ events.ToClient i n = is in cc
+cancel_takes i moves.DataConnect is takes = takes
+cancel_takes i moves.DataTurn is takes = let clash : Cancel i ≡ events.DataTurn i = is in cc
+cancel_takes i (moves.DataToClient n) is takes = let clash : Cancel i ≡ events.DataToClient i n = is in cc
+cancel_takes i moves.LoseControl is takes = takes
+cancel_takes i moves.LoseImage is takes = takes
+
+pub starved : StarvedIsNoLie
+starved w v i enough out = (λ own never steps. by_idle own never steps, λ steps. by_cancel steps)
+  where
+    not_out : (u : WorldCore) → v ≡ u → u ≡ w → ⊥
+    not_out u same stays = let clash : false ≡ true = sym enough ∙ (ap (λ (y : WorldCore). starved_at y i) (sym stays ∙ sym same) ∙ out) in cc
+
+    by_idle : (own : JobEvent) → (CanAt w i own → ⊥) → EachStep IsWorldStep (job_event_of i own ∷ []) w v → ⊥
+    by_idle own never (u, leads, step, same) = not_out u same (step.idle i own refl never)
+
+    by_cancel : EachStep IsWorldStep (Cancel i ∷ []) w v → ⊥
+    by_cancel (u, leads, step, same) =
+        let found = step.starves i enough (ap (λ (y : WorldCore). starved_at y i) (sym same) ∙ out) in
+        cancel_takes i found.0 found.1 found.3
+
+pub laid : LaidIsNoLie
+laid w name source taken changes (u, leads, step, same) = changes (ap (λ (y : WorldCore). y.daemon) (sym (same ∙ (step.loads name source refl).1 taken)))
+
+pub torn_out : TornOutIsNoLie
+torn_out w v name had gone (u, leads, step, same) = gone (ap (λ (y : WorldCore). listed_infos y.daemon.registry) (same ∙ (step.unplugs name refl).0 statuses.DeviceBusy had))
 
 not_both : (o : Option Outcome) → o ≡ Some Running → o ≡ Some (Ended statuses.Cancelled whys.Cancelled) → ⊥
 not_both o runs ended = let clash : ◌≡◌ {A = Option Outcome} (Some Running) (Some (Ended statuses.Cancelled whys.Cancelled)) = sym runs ∙ ended in cc
@@ -293,7 +341,7 @@ pub given_up : GivenUpIsNoLie
 given_up h w v i out is = by_first (subst (λ (es : List Event). AreNextMoves es w v) is out.next)
   where
     by_first : AreNextMoves (Cancel i ∷ []) w v → ⊥
-    by_first (j, next, rest) = cancel_next w.daemon j i (slice_get w.endpoints j) next
+    by_first (u, leads, next, rest) = cancel_next w.daemon next.0 i (slice_get w.endpoints next.0) next.1
 
 pub stopped : StoppedIsNoLie
 stopped h w i job status why enough other never (inl (reports, same)) = let clash : Ended status why ≡ Done reports = same in cc
@@ -341,5 +389,15 @@ neither old new h i j a b status why c other r shares =
 pub shared : SharedIsNoLie
 shared w i j name a b apart x y one = apart (one i j name a b x y)
 
+pub given_away : GivenAwayIsNoLie
+given_away w v i name d e x gone kept quiet (u, leads, step, same) = elim (step.holds_on i name d x) [
+  | inl has ↦ gone has.0 (subst (λ (z : WorldCore). Has z i name has.0) (sym same) has.1)
+  | inr (inl lost) ↦ kept lost
+  | inr (inr asked) ↦ quiet asked.0 asked.1
+]
+
+pub unseeded : UnseededIsNoLie
+unseeded h w led other = other (ap (λ (g : ChaCha). g.stream) led.seeded)
+
 pub swapped : SwappedIsNoLie
-swapped w v i name a b e x y was busy other stays = other (stays i name a b e refl x y was busy)
+swapped w v i name a b e x y was busy other (u, leads, step, same) = other (step.page_stays i name a b x (subst (λ (z : WorldCore). Has z i name b) same y) was busy)

@@ -23,11 +23,12 @@ use Rattle.event_world.specs.declared.event.Event.TheVariants.{Cancel, ToClient,
 use Rattle.event_world.specs.Worlds.{WorldCore}
 use Rattle.world_refines.specs.FailedSources.{FailedIn}
 use Rattle.strangers.specs.Together.{JointEvent}
-use Rattle.scan_world.specs.Endings.{HadNoPage, HasPassed, IsUnforced, NamesStatus}
+use Rattle.scan_world.specs.Endings.{HadNoPage, HasPassed, IsUnforced, NamesStatus, WasOpened}
 use Rattle.scan_world.specs.Histories.{HasEvent, History, history_up_to}
 use Rattle.scan_world.specs.Page.{CameFor, Settled, StartedOn}
 use Rattle.scan_world.proofs.Sources.{CanFail}
 use Rattle.scan_world.specs.Sessions.{Asked, AtJob, Happened, Has, IsAtOpen, IsAtStart, StrangerHas}
+use Rattle.frame_join.specs.PictureText.{picture_text}
 
 -- the client of job i waits for this
 abbrev pub WaitsAt : WorldCore → ℕ → (Progress → Type 0) → Type 0
@@ -50,6 +51,7 @@ pub record IsScanEver (h : History) (w : WorldCore) (changing : List JointEvent)
   pub picture : Picture
   pub meant : meaning_of held.page settled.setup.scene ≡ Some picture
   pub denotes : Denotes file picture
+  pub own : file ≡ picture_text picture
 
 -- ---- the rows
 
@@ -97,7 +99,7 @@ MayHaveFailed h w changing i job = (scans job.task ≡ true) × CanFail (history
     × SendsOrLoses turn.0.before turn.0.behind i))
 
 abbrev pub AnswerEver : History → WorldCore → List JointEvent → ℕ → Job → Status → Type 0
-AnswerEver h w changing i job Inval = IsUnforced h job ⊎ (WasUnlisted h w i job ⊎ HadNoPictureEver h w changing i job)
+AnswerEver h w changing i job Inval = (IsUnforced h job × WasOpened h w i job) ⊎ (WasUnlisted h w i job ⊎ HadNoPictureEver h w changing i job)
 AnswerEver h w changing i job DeviceBusy = WasHeld h w i job
 AnswerEver h w changing i job AccessDenied = WasDisallowed h w i job
 AnswerEver h w changing i job NoDocs = HadNoPage h w i job 0
@@ -108,7 +110,7 @@ abbrev pub EndingEver : History → WorldCore → List JointEvent → ℕ → Jo
 EndingEver h w changing i job starved status whys.Cancelled = (status ≡ Cancelled) × HasEvent h (Cancel i)
 EndingEver h w changing i job starved status whys.Lost = (status ≡ IoError) × (WasLost h w i ⊎ (starved ≡ true))
 EndingEver h w changing i job starved status whys.Short = (status ≡ IoError) × NamesStatus h w i job Eof
-EndingEver h w changing i job starved status whys.Setting = (status ≡ Inval) × IsUnforced h job
+EndingEver h w changing i job starved status whys.Setting = (status ≡ Inval) × IsUnforced h job × WasOpened h w i job
 EndingEver h w changing i job starved status whys.Memory = (status ≡ NoMem) × WasStarved h w i
 EndingEver h w changing i job starved status whys.Answer = ((status ≢ Eof) × NamesStatus h w i job status) ⊎ AnswerEver h w changing i job status
 EndingEver h w changing i job starved status why = ⊥

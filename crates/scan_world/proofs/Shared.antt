@@ -73,7 +73,7 @@ no_member : {X : Type 0} (x : X) → Contains [] x → ⊥
 no_member x (k, within, is) = omega (arith, within)
 
 pub events_are_no_acts : EventsAreNoActs
-events_are_no_acts = record { first = λ devices users jobs a there. no_member (OfStranger a) there; then_none = no_acts_then }
+events_are_no_acts = record { first = λ devices users seed jobs a there. no_member (OfStranger a) there; then_none = no_acts_then }
 
 pub led_alone : LedAlone
 led_alone h w none l = record { first = l.first; endpoints = l.endpoints; daemon = l.daemon; runs = plain_runs h.events l.first w (λ a among. none a (contains_in h.events (OfStranger a) among)) l.runs }

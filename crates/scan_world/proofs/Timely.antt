@@ -82,7 +82,7 @@ ends_from below h w i job status why at is (OfJobs e ∷ es) seen u split led lo
 ended_there : Below → (w : WorldCore) (i : ℕ) → ForEach w i (λ h job. (status : Status) (why : Why) → outcome_at w i ≡ Some (Ended status why) → EndedIn h w i job status why)
 ended_there below w i h job at status why ended =
     let l = at.led in
-    let first : LedTo (history_up_to h []) l.first = record { first = l.first; endpoints = l.endpoints; daemon = l.daemon; users_are = l.users_are; names = l.names; limits = l.limits; fit = l.fit; loads = tt; runs = refl } in
+    let first : LedTo (history_up_to h []) l.first = record { first = l.first; endpoints = l.endpoints; daemon = l.daemon; users_are = l.users_are; seeded = l.seeded; names = l.names; limits = l.limits; fit = l.fit; loads = tt; runs = refl } in
     ends_from below h w i job status why at.job_at ended h.events [] l.first refl first l.loads l.runs (runs_first h w l i job at.job_at)
 
 pub ending_call : {X : Type 0} (read : X → Outcome) (given : Option X) → Below → (w : WorldCore) (i : ℕ) → option_map read given ≡ outcome_at w i → IfSome given (λ (x : X). ForEach w i (λ h job. (status : Status) (why : Why) → read x ≡ Ended status why → EndedIn h w i job status why))

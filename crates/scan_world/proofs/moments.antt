@@ -20,10 +20,14 @@ pub mod Reading
 pub mod Paging
 pub mod Asking
 pub mod Delivered
+pub mod Holding
+pub mod HeldOn
+pub mod ListedOn
 pub mod Unfiled
 pub mod Started
 pub mod Filed
 pub mod Opened
+pub mod Refusals
 pub mod Counted
 pub mod PastOpening
 pub mod Beside

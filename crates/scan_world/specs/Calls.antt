@@ -7,7 +7,7 @@ use Rattle.page_sources.specs.declared.kinds.Source.{Source}
 use Rattle.sane_fixed.specs.declared.status.Status.{Status}
 use Rattle.sane_fixed.specs.declared.status.Status.TheVariants as statuses
 use Rattle.device_api.specs.State.{DeviceState, is_at_rest, page_of}
-use Rattle.dispatch.specs.Table.{after_unplug, unplug_answer}
+use Rattle.dispatch.specs.Table.{after_unplug, listed_infos, unplug_answer}
 use Rattle.saned_requests.specs.declared.session.Session.{Session}
 use Rattle.saned_core.specs.DaemonStates.{Core}
 use Rattle.saned_core.specs.Loading.{core_after_load, daemon_load_answer}
@@ -27,11 +27,11 @@ use Rattle.event_world.specs.Endpoints.{finished_page}
 use Rattle.event_world.specs.JobEvents.{job_event_of}
 use Rattle.event_world.specs.JobMoves.{IsNextMove, moves_left_of}
 use Rattle.event_world.specs.Rounds.{total_left}
-use Rattle.event_world.specs.Worlds.{Leads, Runs, WorldCore}
+use Rattle.event_world.specs.Worlds.{Runs, WorldCore}
 use Rattle.world_refines.specs.FailedSources.{CutIn}
 use Rattle.scan_world.specs.Endings.{IsEndingExplained}
 use Rattle.strangers.specs.Together.JointEvent.{OfJobs}
-use Rattle.scan_world.specs.Histories.{HasEvent, History, LedTo, Moment, and_then, history_up_to}
+use Rattle.scan_world.specs.Histories.{HasEvent, History, LedTo, Moment, EachStep, and_then, history_up_to}
 use Rattle.scan_world.specs.Promise.{CountIsKept, FileIsKept, JobAnswers, MoveIsKept, OutcomeIsKept, PageIsKept}
 use Rattle.scan_world.specs.Sessions.{CanAt, Has, SessionAt}
 
@@ -199,9 +199,9 @@ abbrev pub MovesFall : WorldCore → WorldCore → Type 0
 MovesFall w v = (i : ℕ) → left_at v i ≤ left_at w i
 
 -- an event of a job that can happen to it lowers its moves
-abbrev pub MoveLowers : List Event → WorldCore → WorldCore → Type 0
-MoveLowers events w v =
-    (i : ℕ) (own : JobEvent) → events ≡ job_event_of i own ∷ [] → CanAt w i own → 0 < left_at w i
+abbrev pub MoveLowers : Event → WorldCore → WorldCore → Type 0
+MoveLowers e w v =
+    (i : ℕ) (own : JobEvent) → e ≡ job_event_of i own → CanAt w i own → 0 < left_at w i
     → left_at v i < left_at w i
 
 -- **nothing, memory (`IdleStays`, `StarvesBy`, `TakesMemory`)**: an event that cannot happen to its job changes
@@ -209,9 +209,8 @@ MoveLowers events w v =
 -- opened, requests are answered, replies are heard, a record is sent, or its bytes come to a file.
 --
 -- an event that cannot happen to its job changes nothing
-abbrev pub IdleStays : List Event → WorldCore → WorldCore → Type 0
-IdleStays events w v =
-    (i : ℕ) (own : JobEvent) → events ≡ job_event_of i own ∷ [] → (CanAt w i own → ⊥) → v ≡ w
+abbrev pub IdleStays : Event → WorldCore → WorldCore → Type 0
+IdleStays e w v = (i : ℕ) (own : JobEvent) → e ≡ job_event_of i own → (CanAt w i own → ⊥) → v ≡ w
 
 -- it takes memory
 abbrev pub TakesMemory : JobEvent → Type 0
@@ -222,27 +221,39 @@ TakesMemory moves.Cancel = ⊥
 TakesMemory own = Unit {0}
 
 -- memory runs out for a job only in such an event of its own
-abbrev pub StarvesBy : List Event → WorldCore → WorldCore → Type 0
-StarvesBy events w v =
-    (i : ℕ) (e : Event) → events ≡ e ∷ [] → starved_at w i ≡ false → starved_at v i ≡ true
+abbrev pub StarvesBy : Event → WorldCore → WorldCore → Type 0
+StarvesBy e w v =
+    (i : ℕ) → starved_at w i ≡ false → starved_at v i ≡ true
     → (own : JobEvent) × (e ≡ job_event_of i own) × CanAt w i own × TakesMemory own
 
 -- **pages and devices (`LoadLays`, `UnplugTakes`)**: a page that is laid in is taken where the daemon takes it, as its
 -- device is listed, at rest and has room; a device is taken out where that is listed and nobody has it; and else
 -- nothing changes.
-abbrev pub LoadLays : List Event → WorldCore → WorldCore → Type 0
-LoadLays events w v =
-    (name : List ℕ) (source : Source) → events ≡ Load name source ∷ []
+abbrev pub LoadLays : Event → WorldCore → WorldCore → Type 0
+LoadLays e w v =
+    (name : List ℕ) (source : Source) → e ≡ Load name source
     → (daemon_load_answer w.daemon name ≢ Ok tt → v ≡ w)
     × (daemon_load_answer w.daemon name ≡ Ok tt
     → v ≡ record w { daemon = core_after_load w.daemon name (source_state source) })
 
-abbrev pub UnplugTakes : List Event → WorldCore → WorldCore → Type 0
-UnplugTakes events w v =
-    (name : List ℕ) → events ≡ Unplug name ∷ []
+abbrev pub UnplugTakes : Event → WorldCore → WorldCore → Type 0
+UnplugTakes e w v =
+    (name : List ℕ) → e ≡ Unplug name
     → ((status : Status) → unplug_answer w.daemon.registry name ≡ Err status → v ≡ w)
     × ((device : DeviceState) → unplug_answer w.daemon.registry name ≡ Ok device
     → v ≡ record w { daemon = record w.daemon { registry = after_unplug w.daemon.registry name } })
+
+-- **a step of events (`IsWorldStep`)**: what each event does, wherever it stands among others.
+pub record IsWorldStep (e : Event) (w v : WorldCore) : Type 0 where
+  -- it lowers the moves of its job, where it can happen
+  pub lowers : MoveLowers e w v
+  -- it changes nothing, where it cannot
+  pub idle : IdleStays e w v
+  -- memory runs out in it for no job but its own, and only where it takes memory
+  pub starves : StarvesBy e w v
+  -- it lays a page in, or takes a device out, as the daemon answers
+  pub loads : LoadLays e w v
+  pub unplugs : UnplugTakes e w v
 
 -- **ends (`Reaches`, `CancelEnds`, `LossEnds`, `ImageLossEnds`)**: an event, wherever it stands among some: those in
 -- front of it lead to a world, and it and those behind it on from there; where a job runs in that world, a cancel ends
@@ -277,10 +288,11 @@ ImageLossEnds events w v =
 
 -- ---- what they leave of devices
 
--- **holders and pages (`OneHolder`, `SessionsStay`, `ScansStay`, `PageStays`, `StartsOnFirst`)**: jobs whose sessions
--- have a device of one name are one; what comes to others, and devices taken out, leave a session as it stands, and
--- pages laid in what it has within a scan; within a scan the first page of a device that a session has stays; a start
--- takes the first of those that it has.
+-- **holders and pages (`OneHolder`, `SessionsStay`, `ScansStay`, `PageStays`, `StartsOnFirst`, `HoldsOn`, `HasLeft`,
+-- `ListStays`)**: jobs whose sessions have a device of one name are one; what comes to others, and devices taken out,
+-- leave a session as it stands, and pages laid in what it has within a scan; within a scan the first page of a device
+-- that a session has stays; a start takes the first of those that it has; a session has its device until it is over;
+-- what is listed changes where a device is taken out.
 --
 -- two clients never hold one device
 abbrev pub OneHolder : WorldCore → Type 0
@@ -300,16 +312,40 @@ ScansStay events w v =
 
 -- within a scan the page stays: a device that a session has in front of an event and behind it, neither time at rest,
 -- has the same first page
-abbrev pub PageStays : List Event → WorldCore → WorldCore → Type 0
-PageStays events w v =
-    (i : ℕ) (name : List ℕ) (a b : DeviceState) (e : Event) → events ≡ e ∷ [] → Has w i name a → Has v i name b
+abbrev pub PageStays : Event → WorldCore → WorldCore → Type 0
+PageStays e w v =
+    (i : ℕ) (name : List ℕ) (a b : DeviceState) → Has w i name a → Has v i name b
     → is_at_rest a.phase ≡ false → is_at_rest b.phase ≡ false → page_of b ≡ page_of a
 
 -- and a start takes the first page of those that the device has
-abbrev pub StartsOnFirst : List Event → WorldCore → WorldCore → Type 0
-StartsOnFirst events w v =
-    (i n : ℕ) (name : List ℕ) (a b : DeviceState) → events ≡ ToDaemon i n ∷ [] → Has w i name a → Has v i name b
+abbrev pub StartsOnFirst : Event → WorldCore → WorldCore → Type 0
+StartsOnFirst e w v =
+    (i n : ℕ) (name : List ℕ) (a b : DeviceState) → e ≡ ToDaemon i n → Has w i name a → Has v i name b
     → is_at_rest b.phase ≡ false → page_of b ≡ page_of a
+
+-- no session of the job stands
+abbrev pub HasLeft : WorldCore → ℕ → Type 0
+HasLeft w i = (s : Session DeviceState) → SessionAt w i s → ⊥
+
+-- a session has its device until its control connection is lost, or requests are delivered to it behind its job's end,
+-- or end it
+abbrev pub HoldsOn : Event → WorldCore → WorldCore → Type 0
+HoldsOn e w v =
+    (i : ℕ) (name : List ℕ) (d : DeviceState) → Has w i name d
+    → ((x : DeviceState) × Has v i name x)
+    ⊎ ((e ≡ LoseControl i) ⊎ ((n : ℕ) × (e ≡ ToDaemon i n) × ((outcome_at w i ≢ Some Running) ⊎ HasLeft v i)))
+
+-- the list of devices is as it was, where none is taken out
+abbrev pub ListStays : Event → WorldCore → WorldCore → Type 0
+ListStays e w v =
+    ((name : List ℕ) → e ≢ Unplug name) → listed_infos v.daemon.registry ≡ listed_infos w.daemon.registry
+
+-- **a step of devices (`IsHeldStep`)**: what each event leaves of a device that a session has, and of the list.
+pub record IsHeldStep (e : Event) (w v : WorldCore) : Type 0 where
+  pub page_stays : PageStays e w v
+  pub first_page : StartsOnFirst e w v
+  pub holds_on : HoldsOn e w v
+  pub listed : ListStays e w v
 
 -- ---- moves until no job runs
 
@@ -318,9 +354,7 @@ StartsOnFirst events w v =
 --
 -- each of these events is the next move of a job, in the world that those in front of it led to
 abbrev pub AreNextMoves : List Event → WorldCore → WorldCore → Type 0
-AreNextMoves [] w v = v ≡ w
-AreNextMoves (e ∷ es) w v = (i : ℕ) × IsMoveAt w i (Some e)
-    × ((u : WorldCore) × Leads source_state e w u × AreNextMoves es u v)
+AreNextMoves events w v = EachStep (λ e u x. (i : ℕ) × IsMoveAt u i (Some e)) events w v
 
 -- none of these jobs runs
 abbrev pub NoneRuns : List Job → WorldCore → Type 0

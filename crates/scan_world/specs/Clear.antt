@@ -6,7 +6,7 @@ use Rattle.page_picture.specs.Source.{SourceState}
 use Rattle.page_picture.specs.declared.scene.DeviceKind.TheVariants.{Feeder, Flatbed}
 use Rattle.page_sources.specs.declared.kinds.Source.{Source}
 use Rattle.device_api.specs.State.{DeviceState, HeldPage, feeds}
-use Rattle.device_api.specs.Values.{defaults}
+use Rattle.scan_frames.specs.declared.setup.Setup.{Setup}
 use Rattle.dispatch.specs.Table.{listed_infos}
 use Rattle.virtual_scanner.specs.New.{new_device, new_scanner}
 use Rattle.sane_fixed.specs.declared.byte_order.ByteOrder.TheVariants.{Little}
@@ -28,6 +28,7 @@ use Rattle.scan_world.specs.Endings.{IsUnforced}
 use Rattle.scan_world.specs.Histories.{HasEvent, HasNoActs, History, LedTo, Moment, and_then, begun, history_up_to}
 use Rattle.scan_world.specs.Lies.{NamesNothing}
 use Rattle.scan_world.specs.Page.{CameFor, Settled}
+use Rattle.scan_world.specs.Settings.{PutsInForce}
 use Rattle.scan_world.specs.Trays.{first_tray}
 
 -- it does not give the job up, does not take a connection of it, and does not take its device out
@@ -80,24 +81,25 @@ pub record IsClear (h : History) (i : ℕ) (job : Job) (Among : ℕ → Type 0) 
   pub left : (event : Event) → HasEvent h event → LeavesAlone i job event
   pub undisturbed : HasNoActs h
 
--- **plain (`PlainIsClear`)**: of a new world, a job without settings is clear that is alone on a flatbed
--- whose page means a picture at its defaults, where its source cannot fail and its password is right.
+-- **plain (`PlainIsClear`)**: of a new world, a job is clear that is alone on a flatbed, whose settings can be in force
+-- there and mean a picture on its page, where its source cannot fail and its password is right.
 abbrev pub PlainIsClear : Type 0
 PlainIsClear =
-    (name : List ℕ) (source : SourceState) (users : List Entry) (job : Job) → job.device ≡ name
-    → job.settings.items ≡ [] → source.infallible ≡ true
-    → meaning_of source.page (defaults Flatbed Little).scene ≢ None → IsAllowedAlways users job
-    → IsClear (begun (new_scanner Flatbed name source Little ∷ []) users (job ∷ [])) 0 job (λ j. j ≡ 0)
+    (name : List ℕ) (source : SourceState) (users : List Entry) (seed : List ℕ) (job : Job) (setup : Setup)
+    → job.device ≡ name → PutsInForce Flatbed job.settings.items setup → source.infallible ≡ true
+    → meaning_of source.page setup.scene ≢ None → IsAllowedAlways users job
+    → IsClear (begun (new_scanner Flatbed name source Little ∷ []) users seed (job ∷ [])) 0 job (λ j. j ≡ 0)
 
--- **loaded (`FeederIsClear`)**: of a new world, a job without settings is clear that is alone on a feeder with these
--- pages, one at least, each of which means a picture at its defaults, where its password is right.
+-- **loaded (`FeederIsClear`)**: of a new world, a job is clear that is alone on a feeder with some pages, one at least,
+-- whose settings can be in force there and mean a picture on each, where no source can fail and its password is right.
 abbrev pub FeederIsClear : Type 0
 FeederIsClear =
-    (name : List ℕ) (sources : List SourceState) (users : List Entry) (job : Job) → job.device ≡ name
-    → job.settings.items ≡ [] → sources ≢ [] → All (λ (s : SourceState). s.infallible ≡ true) sources
-    → All (λ (s : SourceState). meaning_of s.page (defaults Feeder Little).scene ≢ None) sources
+    (name : List ℕ) (sources : List SourceState) (users : List Entry) (seed : List ℕ) (job : Job) (setup : Setup)
+    → job.device ≡ name → PutsInForce Feeder job.settings.items setup → sources ≢ []
+    → All (λ (s : SourceState). s.infallible ≡ true) sources
+    → All (λ (s : SourceState). meaning_of s.page setup.scene ≢ None) sources
     → IsAllowedAlways users job
-    → IsClear (begun (new_device Feeder name sources Little ∷ []) users (job ∷ [])) 0 job (λ j. j ≡ 0)
+    → IsClear (begun (new_device Feeder name sources Little ∷ []) users seed (job ∷ [])) 0 job (λ j. j ≡ 0)
 
 -- its next move was the loss of its control connection: in front of that it was told as out of memory, or in a delivery
 -- of its request its session had answered with a reply that cannot be said

@@ -50,6 +50,18 @@ pub record HasPassed (h : History) (before : WorldCore) (i : ℕ) (job : Job) (a
   pub read : challenge_of sent.resource ≡ Some challenge
   pub is : is_allowed h.users job.user job.password (backend_of job.device) challenge ≡ allowed
 
+-- **opened (`WasOpened`, `HasPassed`)**: as a job asked for its device, that was listed and no session had
+-- it, no job's and no stranger's; no line of the users names its backend, or its user and password are allowed for the
+-- challenge that its session had sent; and behind that its session, where it stands, has the device.
+pub record WasOpened (h : History) (w : WorldCore) (i : ℕ) (job : Job) : Type 0 where
+  pub asked : Asked h w i IsAtOpen
+  pub listed : find_name job.device asked.at.before.daemon.registry ≢ None
+  pub free : (j : ℕ) (d : DeviceState) → Has asked.at.before j job.device d → ⊥
+  pub unshared : StrangerHas asked.at.before job.device → ⊥
+  pub permitted : (is_guarded h.users (backend_of job.device) ≡ false) ⊎ HasPassed h asked.at.before i job true
+  pub taken : (s : Session DeviceState) → SessionAt asked.at.behind i s
+      → (d : DeviceState) × Has asked.at.behind i job.device d
+
 -- it scans, and as it asked for a start behind so many finished pages, the device that its session had at rest had none
 abbrev pub HadNoPage : History → WorldCore → ℕ → Job → ℕ → Type 0
 HadNoPage h w i job count =
@@ -98,7 +110,7 @@ HadFailed h w i job =
 -- its device, that was not listed; another job's session had it, or a stranger's; or its user and password are not
 -- allowed
 abbrev pub AnswerIsExplained : History → WorldCore → ℕ → Job → Status → Type 0
-AnswerIsExplained h w i job Inval = IsUnforced h job ⊎ (HadNoPicture h w i job
+AnswerIsExplained h w i job Inval = (IsUnforced h job × WasOpened h w i job) ⊎ (HadNoPicture h w i job
     ⊎ ((asked : Asked h w i IsAtOpen) × (find_name job.device asked.at.before.daemon.registry ≡ None)))
 AnswerIsExplained h w i job DeviceBusy = (asked : Asked h w i IsAtOpen)
     × (((j : ℕ) × (d : DeviceState) × (j ≢ i) × Has asked.at.before j job.device d)
@@ -114,7 +126,7 @@ AnswerIsExplained h w i job status = ⊥
 -- session had the device, a job's or a stranger's; it was not listed; the user's password is not allowed for the
 -- challenge that was sent; the device had no page, or settings mean no picture on its first; its source failed; a
 -- connection was lost; a piece came to a client without memory; `read-return-value` says a status in a turn of a frame.
--- Without an event: the settings can be in force on no device of the name.
+-- Behind its opening: the settings can be in force on no device of the name.
 --
 -- THE TABLE: what explains that job i ended with a status and a why. No other two of them occur.
 abbrev pub IsEndingExplained : History → WorldCore → ℕ → Job → Bool → Status → Why → Type 0
@@ -122,21 +134,9 @@ IsEndingExplained h w i job starved status whys.Cancelled = (status ≡ Cancelle
 IsEndingExplained h w i job starved status whys.Lost =
     (status ≡ IoError) × ((Happened h w i (LoseControl i) ⊎ Happened h w i (LoseImage i)) ⊎ (starved ≡ true))
 IsEndingExplained h w i job starved status whys.Short = (status ≡ IoError) × NamesStatus h w i job Eof
-IsEndingExplained h w i job starved status whys.Setting = (status ≡ Inval) × IsUnforced h job
+IsEndingExplained h w i job starved status whys.Setting = (status ≡ Inval) × IsUnforced h job × WasOpened h w i job
 IsEndingExplained h w i job starved status whys.Memory =
     (status ≡ NoMem) × ((n : ℕ) × (Happened h w i (ToClient i n) ⊎ Happened h w i (DataToClient i n)))
 IsEndingExplained h w i job starved status whys.Answer =
     ((status ≢ Eof) × NamesStatus h w i job status) ⊎ AnswerIsExplained h w i job status
 IsEndingExplained h w i job starved status why = ⊥
-
--- ---- and where a job is done
-
--- **opened (`WasOpened`, `HasPassed`)**: as a job that is done asked for its device, that was listed and no session had
--- it, no job's and no stranger's; no line of the users names its backend, or its user and password are allowed for the
--- challenge that its session had sent.
-pub record WasOpened (h : History) (w : WorldCore) (i : ℕ) (job : Job) : Type 0 where
-  pub asked : Asked h w i IsAtOpen
-  pub listed : find_name job.device asked.at.before.daemon.registry ≢ None
-  pub free : (j : ℕ) (d : DeviceState) → Has asked.at.before j job.device d → ⊥
-  pub unshared : StrangerHas asked.at.before job.device → ⊥
-  pub permitted : (is_guarded h.users (backend_of job.device) ≡ false) ⊎ HasPassed h asked.at.before i job true

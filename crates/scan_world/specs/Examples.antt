@@ -18,6 +18,7 @@ use Rattle.event_world.specs.Worlds.{WorldCore}
 use Rattle.scan_world.specs.Histories.{History, LedTo}
 use Rattle.scan_world.specs.Settings.{AreSettingsPut}
 use Rattle.scan_world.specs.Endings.{IsEndingExplained}
+use Rattle.frame_join.specs.PictureText.{picture_text}
 
 -- **examples (`IsScanOf`, `until_busy`, `HasExplanation`)**: a file of exactly the picture that a job's settings mean
 -- on one page, put on a flatbed at its defaults; the events by which one client has a device and another one asks for
@@ -29,6 +30,7 @@ pub record IsScanOf (page : PageView) (job : Job) (bytes : List ℕ) : Type 0 wh
   pub picture : Picture
   pub meant : meaning_of page setup.scene ≡ Some picture
   pub denotes : Denotes bytes picture
+  pub own : bytes ≡ picture_text picture
 
 -- by these the first client opens the device, and then the second one, which asks for it, is answered
 abbrev pub until_busy : List Event

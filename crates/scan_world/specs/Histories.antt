@@ -1,33 +1,35 @@
 -- What was handed to a world over all its calls, and what strangers did meanwhile; that it led to the world, and each
 -- of its events with the worlds around it.
-use Rattle.std.specs.Prelude.{◌≡◌, ◌++◌, List, [], ◌∷◌, All, Contains}
+use Rattle.std.specs.Prelude.{ℕ, ◌≡◌, ◌++◌, List, [], ◌∷◌, All, Contains}
 use Rattle.page_sources.specs.SourceView.{source_state}
+use Rattle.md5_auth.specs.Challenges.{HasGiven}
 use Rattle.md5_auth.specs.declared.users.Entry.{Entry}
 use Rattle.device_api.specs.ScannerLimits.{HasLimits}
 use Rattle.device_api.specs.State.{DeviceState}
 use Rattle.dispatch.specs.RegistryFault.{HaveOwnNames}
 use Rattle.scan_job.specs.declared.job.Job.{Job}
 use Rattle.event_world.specs.declared.event.Event.{Event}
-use Rattle.event_world.specs.Worlds.{AreNew, IsFitJob, Runs, WorldCore}
+use Rattle.event_world.specs.Worlds.{AreNew, IsFitJob, Leads, Runs, WorldCore}
 use Rattle.world_refines.specs.NewWorlds.{IsNewDaemon}
 use Rattle.world_refines.specs.MainTheorem.{AreTrueLoads}
 use Rattle.strangers.specs.Among.{StrangerAct}
 use Rattle.strangers.specs.Together.{JointEvent, RunsAmong, events_among}
 use Rattle.strangers.specs.Together.JointEvent.{OfJobs, OfStranger}
 
--- **history (`History`, `begun`, `and_then`, `of_jobs`, `LedTo`)**: the devices, users and jobs that a world was made
--- of, and all that came since, in its order: events of jobs and devices, and acts of strangers; nothing has happened
+-- **history (`History`, `begun`, `and_then`, `of_jobs`, `LedTo`)**: the devices, users, seed and jobs that a world was
+-- made of, and all that came since, in its order: events of jobs and devices, and acts of strangers; nothing happened
 -- yet; and then these events; a new world of them, and then what came, led to this one, and each device and page was
 -- within its limits.
 pub record History : Type 0 where
   pub devices : List DeviceState
   pub users : List Entry
+  pub seed : List ℕ
   pub jobs : List Job
   pub events : List JointEvent
 
--- these devices, users and jobs, and nothing has happened
-abbrev pub begun : List DeviceState → List Entry → List Job → History
-begun devices users jobs = record { devices = devices; users = users; jobs = jobs; events = [] }
+-- these devices, users, seed and jobs, and nothing has happened
+abbrev pub begun : List DeviceState → List Entry → List ℕ → List Job → History
+begun devices users seed jobs = record { devices = devices; users = users; seed = seed; jobs = jobs; events = [] }
 
 -- these events, and nothing of strangers
 abbrev pub of_jobs : List Event → List JointEvent
@@ -46,18 +48,25 @@ HasEvent h e = Contains h.events (OfJobs e)
 abbrev pub HasNoActs : History → Type 0
 HasNoActs h = (a : StrangerAct) → Contains h.events (OfStranger a) → ⊥
 
--- a new world of these devices, users and jobs, and then what came, led to this one; each device and page was within
--- its limits
+-- a new world of these devices, users, seed and jobs, and then what came, led to this one; each device and page was
+-- within its limits
 pub record LedTo (h : History) (w : WorldCore) : Type 0 where
   pub first : WorldCore
   pub endpoints : AreNew h.jobs first.endpoints
   pub daemon : IsNewDaemon h.devices first.daemon
   pub users_are : first.daemon.users ≡ h.users
+  pub seeded : HasGiven h.seed 0 first.daemon.stream
   pub names : HaveOwnNames h.devices
   pub limits : All HasLimits h.devices
   pub fit : All IsFitJob h.jobs
   pub loads : AreTrueLoads source_state (events_among h.events)
   pub runs : RunsAmong source_state h.events first w
+
+-- **steps (`EachStep`)**: events led on, one after another, and of each of them, with the worlds in front of it and
+-- behind it, this is so.
+abbrev pub EachStep : (Event → WorldCore → WorldCore → Type 0) → List Event → WorldCore → WorldCore → Type 0
+EachStep Did [] w v = v ≡ w
+EachStep Did (e ∷ es) w v = (u : WorldCore) × Leads source_state e w u × Did e w u × EachStep Did es u v
 
 -- **moment (`Moment`, `history_up_to`)**: an event of a history that led to a world, with the world in front of it, to
 -- which what came before it led, and the one behind it, from which what came after it led on; and the history of what

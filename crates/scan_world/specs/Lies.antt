@@ -1,5 +1,5 @@
 -- WHAT THE PROMISE REFUSES: of each part of it the smallest lies. So no part of it holds of whatever happens.
-use Rattle.std.specs.Prelude.{ℕ, ◌≡◌, ◌≢◌, ◌⊎◌, ◌<◌, ◌≤◌, ◌-◌, Bool, true, false, Some, None, Ok, List, [], ◌∷◌}
+use Rattle.std.specs.Prelude.{ℕ, ◌≡◌, ◌≢◌, ◌⊎◌, ◌<◌, ◌≤◌, ◌-◌, Bool, true, false, Some, None, Ok, Err, List, [], ◌∷◌}
 use Rattle.std.specs.Prelude.{Contains, length, slice_get}
 use Rattle.netpbm.specs.Picture.{Picture}
 use Rattle.netpbm.specs.Pnm.{Denotes, IsWhole}
@@ -8,12 +8,13 @@ use Rattle.page_picture.specs.Meaning.{meaning_of}
 use Rattle.page_picture.specs.Page.{PageView}
 use Rattle.page_sources.specs.SourceView.{source_state}
 use Rattle.page_sources.specs.declared.kinds.Source.{Source}
-use Rattle.saned_core.specs.Loading.{daemon_load_answer}
+use Rattle.saned_core.specs.Loading.{core_after_load, daemon_load_answer}
 use Rattle.sane_fixed.specs.declared.device_info.DeviceInfo.{DeviceInfo}
 use Rattle.sane_fixed.specs.declared.status.Status.TheVariants.{Cancelled, DeviceBusy, Inval, Jammed, NoDocs, IoError}
 use Rattle.sane_fixed.specs.declared.status.Status.TheVariants.{NoMem, AccessDenied}
 use Rattle.device_api.specs.State.{DeviceState, HeldPage, is_at_rest, page_of}
-use Rattle.dispatch.specs.Table.{find_name, listed_infos}
+use Rattle.dispatch.specs.Table.{find_name, listed_infos, unplug_answer}
+use Rattle.saned_requests.specs.declared.session.Session.{Session}
 use Rattle.client_replies.specs.ProtocolStates.{scans}
 use Rattle.scan_job.specs.declared.job.Job.{Job}
 use Rattle.scan_job.specs.declared.job.Task.TheVariants as tasks
@@ -24,29 +25,31 @@ use Rattle.scan_job.specs.declared.report.Report.{Report}
 use Rattle.scan_job.specs.declared.report.Reports.{Reports}
 use Rattle.event_world.specs.declared.event.Event.{Event}
 use Rattle.event_world.specs.declared.event.Event.TheVariants.{Cancel, DataToClient, Load, LoseControl, LoseImage}
-use Rattle.event_world.specs.declared.event.Event.TheVariants.{ToClient, ToDaemon}
+use Rattle.event_world.specs.declared.event.Event.TheVariants.{ToClient, ToDaemon, Unplug}
 use Rattle.event_world.specs.declared.event.JobEvent.{JobEvent}
 use Rattle.event_world.specs.JobEvents.{job_event_of}
 use Rattle.event_world.specs.Worlds.{WorldCore}
 use Rattle.world_refines.specs.FailedSources.{CutIn}
 use Rattle.world_refines.specs.GhostStates.{backend_of, is_allowed, is_guarded}
-use Rattle.scan_world.specs.Calls.{CancelEnds, IsGoodMove, MoveLowers, OneHolder, PageStays, RunsOut, left_at}
+use Rattle.scan_world.specs.Calls.{CancelEnds, IsGoodMove, IsHeldStep, IsWorldStep, OneHolder, RunsOut, left_at}
 use Rattle.scan_world.specs.Calls.{outcome_at, starved_at}
 use Rattle.scan_world.specs.Endings.{DeviceFailed, IsEndingExplained, IsUnforced}
-use Rattle.scan_world.specs.Histories.{HasEvent, History, Moment}
+use Rattle.scan_world.specs.Histories.{HasEvent, History, LedTo, Moment, EachStep}
 use Rattle.scan_world.specs.Page.{CameInTime, IsSteady, Settled}
 use Rattle.scan_world.specs.Promise.{CountIsKept, FileIsKept, JobIsDone, MoveIsKept, PageIsKept}
-use Rattle.scan_world.specs.Sessions.{AtJob, CanAt, Happened, Has, StrangerHas}
+use Rattle.scan_world.specs.Sessions.{AtJob, CanAt, Happened, Has, SessionAt, StrangerHas}
 use Rattle.scan_world.specs.Trays.{CountsPages, IsOfTray, OwnTray, first_tray}
 
 -- ---- of an ending
 
--- **lies (`BusyIsNoLie`, `InvalIsNoLie`, `DeniedIsNoLie`, `EmptyIsNoLie`, `FailedIsNoLie`, `LostIsNoLie`,
--- `MemoryIsNoLie`, `JammedIsNoLie`, `UnscannedIsNoLie`, `FirmIsNoLie`, `CancelledIsNoLie`, `ListIsNoLie`,
--- `NowhereIsNoLie`, `HiddenIsNoLie`, `AllowedIsNoLie`, `SilentIsNoLie`, `RoundedIsNoLie`, `FileIsNoLie`,
--- `UnchangedStandAside`, `RefusedStandAside`, `PageIsNoLie`, `FewIsNoLie`, `TrayPageIsNoLie`, `WholeIsNoLie`,
--- `MissingIsNoLie`, `StuckIsNoLie`, `MovedIsNoLie`, `LossIsNoLie`, `IdleIsNoLie`, `GoneOnIsNoLie`, `GivenUpIsNoLie`,
--- `StillRunsIsNoLie`, `SharedIsNoLie`, `SwappedIsNoLie`, `Always`, `NamesNothing`, `DenotesNone`)**: the smallest lies,
+-- **lies (`BusyIsNoLie`, `InvalIsNoLie`, `UnheardIsNoLie`, `DeniedIsNoLie`, `EmptyIsNoLie`, `FailedIsNoLie`,
+-- `LostIsNoLie`, `MemoryIsNoLie`, `JammedIsNoLie`, `UnscannedIsNoLie`, `FirmIsNoLie`, `CancelledIsNoLie`,
+-- `ListIsNoLie`, `NowhereIsNoLie`, `HiddenIsNoLie`, `AllowedIsNoLie`, `NeverHadIsNoLie`, `SilentIsNoLie`,
+-- `RoundedIsNoLie`, `FileIsNoLie`, `UnchangedStandAside`, `RefusedStandAside`, `PageIsNoLie`, `FewIsNoLie`,
+-- `TrayPageIsNoLie`, `WholeIsNoLie`, `MissingIsNoLie`, `StuckIsNoLie`, `MovedIsNoLie`, `LossIsNoLie`, `IdleIsNoLie`,
+-- `GoneOnIsNoLie`, `GivenUpIsNoLie`, `StarvedIsNoLie`, `LaidIsNoLie`, `TornOutIsNoLie`, `StillRunsIsNoLie`,
+-- `SharedIsNoLie`, `SwappedIsNoLie`, `GivenAwayIsNoLie`, `UnseededIsNoLie`, `Always`, `NamesNothing`,
+-- `DenotesNone`)**: the smallest lies,
 -- each with the part of the promise that refuses it: an ending of each kind without what explains it; a list of other
 -- devices; settings on no device, or not told; a file of another page, or whole too soon, or none; a move too few, too
 -- many, or a loss where nothing is wrong; a run that does nothing, a cancel that ends nothing, a `run_all` that gives a
@@ -77,6 +80,13 @@ InvalIsNoLie =
     → Always h w i (λ before. (d : DeviceState) → Has before i job.device d
     → meaning_of (page_of d) d.setup.scene ≢ None)
     → IsEndingExplained h w i job starved Inval whys.Answer → ⊥
+
+-- INVAL by its settings, though its device was never listed as it asked for it
+abbrev pub UnheardIsNoLie : Type 0
+UnheardIsNoLie =
+    (h : History) (w : WorldCore) (i : ℕ) (job : Job) (starved : Bool)
+    → Always h w i (λ before. find_name job.device before.daemon.registry ≡ None)
+    → IsEndingExplained h w i job starved Inval whys.Setting → ⊥
 
 -- denied, with the right password
 abbrev pub DeniedIsNoLie : Type 0
@@ -198,6 +208,14 @@ AllowedIsNoLie =
     → ((challenge : List ℕ) → is_allowed h.users job.user job.password (backend_of job.device) challenge ≡ false)
     → JobIsDone h w i job reports → ⊥
 
+-- done, though behind each delivery of its requests its session stood, and did not have the device
+abbrev pub NeverHadIsNoLie : Type 0
+NeverHadIsNoLie =
+    (h : History) (w : WorldCore) (i : ℕ) (job : Job) (reports : Reports) → job.task ≢ tasks.List
+    → ((n : ℕ) (at : Moment h w (ToDaemon i n)) → ((s : Session DeviceState) × SessionAt at.behind i s)
+    × ((d : DeviceState) → Has at.behind i job.device d → ⊥))
+    → JobIsDone h w i job reports → ⊥
+
 -- settings of which nothing is told
 abbrev pub SilentIsNoLie : Type 0
 SilentIsNoLie =
@@ -289,7 +307,27 @@ LossIsNoLie =
 abbrev pub IdleIsNoLie : Type 0
 IdleIsNoLie =
     (w : WorldCore) (i : ℕ) (own : JobEvent) → CanAt w i own → 0 < left_at w i
-    → MoveLowers (job_event_of i own ∷ []) w w → ⊥
+    → EachStep IsWorldStep (job_event_of i own ∷ []) w w → ⊥
+
+-- a job that is told as out of memory by an event that could not happen to it, or by a cancel
+abbrev pub StarvedIsNoLie : Type 0
+StarvedIsNoLie =
+    (w v : WorldCore) (i : ℕ) → starved_at w i ≡ false → starved_at v i ≡ true
+    → ((own : JobEvent) → (CanAt w i own → ⊥) → EachStep IsWorldStep (job_event_of i own ∷ []) w v → ⊥)
+    × (EachStep IsWorldStep (Cancel i ∷ []) w v → ⊥)
+
+-- a page that is laid in at rest and changes nothing, though its device has room for it
+abbrev pub LaidIsNoLie : Type 0
+LaidIsNoLie =
+    (w : WorldCore) (name : List ℕ) (source : Source) → daemon_load_answer w.daemon name ≡ Ok tt
+    → core_after_load w.daemon name (source_state source) ≢ w.daemon
+    → EachStep IsWorldStep (Load name source ∷ []) w w → ⊥
+
+-- a device that is taken out though a session has it
+abbrev pub TornOutIsNoLie : Type 0
+TornOutIsNoLie =
+    (w v : WorldCore) (name : List ℕ) → unplug_answer w.daemon.registry name ≡ Err DeviceBusy
+    → listed_infos v.daemon.registry ≢ listed_infos w.daemon.registry → EachStep IsWorldStep (Unplug name ∷ []) w v → ⊥
 
 -- a cancel that leaves its job running
 abbrev pub GoneOnIsNoLie : Type 0
@@ -319,4 +357,18 @@ SharedIsNoLie =
 abbrev pub SwappedIsNoLie : Type 0
 SwappedIsNoLie =
     (w v : WorldCore) (i : ℕ) (name : List ℕ) (a b : DeviceState) (e : Event) → Has w i name a → Has v i name b
-    → is_at_rest a.phase ≡ false → is_at_rest b.phase ≡ false → page_of b ≢ page_of a → PageStays (e ∷ []) w v → ⊥
+    → is_at_rest a.phase ≡ false → is_at_rest b.phase ≡ false → page_of b ≢ page_of a
+    → EachStep IsHeldStep (e ∷ []) w v → ⊥
+
+-- a device that a session has no more, though its connection was not lost, and no request was delivered to it
+abbrev pub GivenAwayIsNoLie : Type 0
+GivenAwayIsNoLie =
+    (w v : WorldCore) (i : ℕ) (name : List ℕ) (d : DeviceState) (e : Event) → Has w i name d
+    → ((x : DeviceState) → Has v i name x → ⊥) → e ≢ LoseControl i → ((n : ℕ) → e ≢ ToDaemon i n)
+    → EachStep IsHeldStep (e ∷ []) w v → ⊥
+
+-- ---- of challenges
+
+-- challenges of a generator that is in no state of a seed
+abbrev pub UnseededIsNoLie : Type 0
+UnseededIsNoLie = (h : History) (w : WorldCore) (led : LedTo h w) → led.first.daemon.stream.stream ≢ 0 → ⊥

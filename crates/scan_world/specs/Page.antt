@@ -16,6 +16,7 @@ use Rattle.event_world.specs.Worlds.{WorldCore}
 use Rattle.scan_world.specs.Histories.{HasEvent, History}
 use Rattle.scan_world.specs.Sessions.{Asked, AtJob, Happened, Has, IsAtStart}
 use Rattle.scan_world.specs.Settings.{AreSettingsPut}
+use Rattle.frame_join.specs.PictureText.{picture_text}
 
 -- **scan (`CameInTime`, `IsSteady`, `Settled`, `StartedOn`, `IsScan`)**: a page that was in a device of a name as the
 -- world was made, or came for one as the job ran and changed the world, so none that the daemon refused, as one for a
@@ -64,6 +65,8 @@ pub record IsScan (h : History) (w : WorldCore) (i : ℕ) (job : Job) (count : �
   pub picture : Picture
   pub meant : meaning_of held.page settled.setup.scene ≡ Some picture
   pub denotes : Denotes file picture
+  -- and it is the one that is written for that picture, byte by byte
+  pub own : file ≡ picture_text picture
 
 -- **came for a device (`CameFor`)**: a page that was in a device of a name as the world was made, or that an event
 -- brought for one, taken or not, whenever that was.

@@ -61,8 +61,8 @@ ActsLeaveSessions = (h : History) (w v : WorldCore) (i : ℕ) (job : Job) → Is
 -- stranger, and a history without one is a run of its events alone; no session in its worlds that is no job's has a
 -- device, so a busy device is another job's.
 pub record EventsAreNoActs : Type 0 where
-  pub first : (devices : List DeviceState) (users : List Entry) (jobs : List Job)
-      → HasNoActs (begun devices users jobs)
+  pub first : (devices : List DeviceState) (users : List Entry) (seed : List ℕ) (jobs : List Job)
+      → HasNoActs (begun devices users seed jobs)
   pub then_none : (h : History) (events : List Event) → HasNoActs h → HasNoActs (and_then h events)
 
 -- a new world, and then its events alone

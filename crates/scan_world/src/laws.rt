@@ -4,8 +4,9 @@ ghost use Rattle.std.specs.Prelude.{List};
 ghost use Rattle.page_sources.specs.SourceView.{source_state};
 ghost use Rattle.event_world.specs.declared.event.Event.{Event};
 ghost use Rattle.event_world.specs.Worlds.{Runs, WorldCore};
-ghost use Rattle.scan_world.specs.Calls.{CancelEnds, IdleStays, LoadLays, MoveLowers, MovesFall, OthersStay, OverStays, StarvedStays, StarvesBy, UnplugTakes};
+ghost use Rattle.scan_world.specs.Calls.{CancelEnds, IsWorldStep, MovesFall, OthersStay, OverStays, StarvedStays};
 ghost use Rattle.scan_world.specs.Clear.{AllAreListed, ClearsBy, FeederIsClear, LinesAllow, PlainIsClear};
+ghost use Rattle.scan_world.specs.Histories.{EachStep};
 ghost use Rattle.scan_world.specs.Laws.{AllFollow, AllIsRight, Below};
 ghost use Rattle.scan_world.specs.Shared.{ActsLeaveSessions, BusyIsByJobs, EventsAreNoActs, HoldersStandApart, LedAlone, NoneSharesAlone, AStrangerMayCome};
 ghost use Rattle.scan_world.specs.Trays.{TraysAreTaken};
@@ -73,25 +74,17 @@ pub fn jobs_end_once()
         → Runs source_state events w v → StarvedStays w v }
     ensures moves { (events : List Event) (w v : WorldCore)
         → Runs source_state events w v → MovesFall w v }
-    ensures lowers { (events : List Event) (w v : WorldCore)
-        → Runs source_state events w v → MoveLowers events w v }
     ensures cancel { (events : List Event) (w v : WorldCore)
         → Runs source_state events w v → CancelEnds events w v }
-    ensures idle { (events : List Event) (w v : WorldCore)
-        → Runs source_state events w v → IdleStays events w v }
-    ensures starves { (events : List Event) (w v : WorldCore)
-        → Runs source_state events w v → StarvesBy events w v }
-    ensures loads { (events : List Event) (w v : WorldCore)
-        → Runs source_state events w v → LoadLays events w v }
-    ensures unplugs { (events : List Event) (w v : WorldCore)
-        → Runs source_state events w v → UnplugTakes events w v }
+    ensures steps { (events : List Event) (w v : WorldCore)
+        → Runs source_state events w v → EachStep IsWorldStep events w v }
 {}
 
 /// A job in whose way nothing stands.
 #[tactic(none)]
 pub fn a_plain_job_is_clear()
-    /// As a world is new, a job without settings is clear that is alone on a flatbed whose page means a picture at its
-    /// defaults, where its source cannot fail, and its password is right, if a line of the users names its backend.
+    /// As a world is new, a job is clear that is alone on a flatbed, whose settings can be in force there and mean a picture
+    /// on its page, where the source cannot fail and its password is right, if a line of the users names its backend.
     /// Carried by: `flatbed` of `a_plain_job_is_clear`
     ///
     /// So it is on a feeder with one page at least, where this is so of each of its pages.

@@ -1,7 +1,7 @@
 //! Of each part of the promise, that it refuses the smallest lies.
 
 ghost use Rattle.scan_world.specs.Clear.{BothBusyIsNoLie, NeitherIsNoLie, RefusedIsNoLie, StoppedIsNoLie, TurnedAwayIsNoLie};
-ghost use Rattle.scan_world.specs.Lies.{AllowedIsNoLie, BusyIsNoLie, CancelledIsNoLie, CountIsNoLie, DeniedIsNoLie, EmptyIsNoLie, FailedIsNoLie, FewIsNoLie, FileIsNoLie, FirmIsNoLie, GivenUpIsNoLie, GoneOnIsNoLie, HiddenIsNoLie, IdleIsNoLie, InvalIsNoLie, JammedIsNoLie, ListIsNoLie, LossIsNoLie, LostIsNoLie, MemoryIsNoLie, MissingIsNoLie, MovedIsNoLie, NowhereIsNoLie, PageIsNoLie, RefusedStandAside, RoundedIsNoLie, SharedIsNoLie, ShownIsNoLie, SilentIsNoLie, StillRunsIsNoLie, StuckIsNoLie, SwappedIsNoLie, TrayPageIsNoLie, UnchangedStandAside, UnscannedIsNoLie, WholeIsNoLie};
+ghost use Rattle.scan_world.specs.Lies.{AllowedIsNoLie, BusyIsNoLie, CancelledIsNoLie, CountIsNoLie, DeniedIsNoLie, EmptyIsNoLie, FailedIsNoLie, FewIsNoLie, FileIsNoLie, FirmIsNoLie, GivenAwayIsNoLie, GivenUpIsNoLie, GoneOnIsNoLie, HiddenIsNoLie, IdleIsNoLie, InvalIsNoLie, JammedIsNoLie, LaidIsNoLie, ListIsNoLie, LossIsNoLie, LostIsNoLie, MemoryIsNoLie, MissingIsNoLie, MovedIsNoLie, NeverHadIsNoLie, NowhereIsNoLie, PageIsNoLie, RefusedStandAside, RoundedIsNoLie, SharedIsNoLie, ShownIsNoLie, SilentIsNoLie, StarvedIsNoLie, StillRunsIsNoLie, StuckIsNoLie, SwappedIsNoLie, TornOutIsNoLie, TrayPageIsNoLie, UnchangedStandAside, UnheardIsNoLie, UnscannedIsNoLie, UnseededIsNoLie, WholeIsNoLie};
 ghost use Rattle.scan_world.specs.Shared.{TakenIsNoLie, TheirPageIsNoLie};
 
 /// The table of endings explains none that nothing stood for.
@@ -13,6 +13,8 @@ pub fn an_ending_is_no_lie()
     ensures busy { BusyIsNoLie }
     ensures inval { InvalIsNoLie }
     ensures denied { DeniedIsNoLie }
+    /// Nor INVAL by a value of its settings where its device was never listed as it asked for it.
+    ensures unheard { UnheardIsNoLie }
     /// Nor NO_DOCS where its device had a page in front of its requests, nor IO_ERROR where in no event a source of it
     /// failed, or where no page that can fail came for it; and neither of a job that does not scan.
     /// Carried by: `empty`, `failed`, `firm`, `unscanned` of `an_ending_is_no_lie`
@@ -49,6 +51,8 @@ pub fn a_report_is_no_lie()
     ensures nowhere { NowhereIsNoLie }
     ensures hidden { HiddenIsNoLie }
     ensures allowed { AllowedIsNoLie }
+    /// No job but a list is done whose session never had its device.
+    ensures never_had { NeverHadIsNoLie }
     /// None is done with settings of which nothing is told, or of which the first was given another value than was
     /// asked for, without INEXACT.
     /// Carried by: `silent`, `rounded` of `a_report_is_no_lie`
@@ -97,6 +101,14 @@ pub fn a_run_is_no_lie()
     ensures idle { IdleIsNoLie }
     ensures gone_on { GoneOnIsNoLie }
     ensures given_up { GivenUpIsNoLie }
+    /// No job is told as out of memory by an event that could not happen to it, or by a cancel.
+    ensures starved { StarvedIsNoLie }
+    /// A page that a device has room for is not dropped, and a device that a session has is not taken out.
+    /// Carried by: `laid`, `torn_out` of `a_run_is_no_lie`
+    ensures laid { LaidIsNoLie }
+    ensures torn_out { TornOutIsNoLie }
+    /// No world draws its challenges from a generator that is in no state of a seed.
+    ensures unseeded { UnseededIsNoLie }
     /// Nor does a job run behind `run_all`.
     ensures still_runs { StillRunsIsNoLie }
 {}
@@ -123,6 +135,8 @@ pub fn a_holder_is_no_lie()
     /// No two jobs have a device of one name, and none has another first page in mid-scan.
     ensures shared { SharedIsNoLie }
     ensures swapped { SwappedIsNoLie }
+    /// No device goes from a session whose connection stands and that no request came to.
+    ensures given_away { GivenAwayIsNoLie }
 {}
 
 /// No stranger's page is in a file, and none had the device of a job that is done as it asked for it.

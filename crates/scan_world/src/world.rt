@@ -7,8 +7,8 @@ ghost use Rattle.scan_job.specs.declared.outcome.Outcome.{Outcome as AnOutcome};
 ghost use Rattle.page_sources.specs.SourceView.{source_state};
 ghost use Rattle.world_refines.specs.MainTheorem.{IsTrueLoad};
 ghost use Rattle.event_world.specs.Worlds.{HasFaultAmong, IsInitialWorld, MayRun, Runs, seen_world};
-ghost use Rattle.scan_world.specs.Histories.{History, LedTo, and_then, begun};
-ghost use Rattle.scan_world.specs.Calls.{CancelEnds, FewMoves, ForEach, IdleStays, ImageLossEnds, IsGoodMove, IsMoveAt, KeepsEnding, KeepsOutcome, KeepsPage, KeepsPageCount, KeepsScanFile, LoadLays, LossEnds, MoveLowers, MovesFall, NoneStarved, OneHolder, OthersStay, OverStays, PageStays, RunsOut, ScansStay, SessionsStay, StartsOnFirst, StarvedStays, StarvesBy, UnplugTakes, file_answered, finished_at, left_at, outcome_at, page_answered, starved_at};
+ghost use Rattle.scan_world.specs.Histories.{History, LedTo, EachStep, and_then, begun};
+ghost use Rattle.scan_world.specs.Calls.{CancelEnds, FewMoves, ForEach, ImageLossEnds, IsGoodMove, IsHeldStep, IsMoveAt, IsWorldStep, KeepsEnding, KeepsOutcome, KeepsPage, KeepsPageCount, KeepsScanFile, LossEnds, MovesFall, NoneStarved, OneHolder, OthersStay, OverStays, RunsOut, ScansStay, SessionsStay, StarvedStays, file_answered, finished_at, left_at, outcome_at, page_answered, starved_at};
 ghost use Rattle.scan_world.specs.Clear.{ClearsBy, ClearsUp, SharesClear};
 ghost use Rattle.scan_world.specs.Trays.{BatchIsCounted, KeepsTray};
 ghost use Rattle.scan_world.specs.Promise.{MovesAreKept};
@@ -71,7 +71,7 @@ impl World {
         /// world led that nothing has happened.
         /// Carried by: `led`, `accepted`, `fault`, `back` of `World::new`
         ensures led { let states = map ⟦<Box<dyn Device> as Device>⟧.state devices.items in
-            let h = begun states users jobs.items in
+            let h = begun states users seed jobs.items in
             IfOk result (λ w. LedTo h (seen_world ⟦<Box<dyn Device> as Device>⟧.state w.inner)) }
         // It is the new world of these devices, users and jobs.
         ensures begins { let states = map ⟦<Box<dyn Device> as Device>⟧.state devices.items in
@@ -132,35 +132,24 @@ impl World {
         ensures starved { let w = seen_world ⟦<Box<dyn Device> as Device>⟧.state self.old.inner in
             let v = seen_world ⟦<Box<dyn Device> as Device>⟧.state self.new.inner in
             StarvedStays w v }
-        /// No event brings moves back, and one event that can happen to a job lowers the moves of that job, where it
+        /// No event brings moves back, and each event that can happen to a job lowers the moves of that job, where it
         /// has any left.
-        /// Carried by: `moves`, `lowers` of `World::run` and `jobs_end_once`
+        /// Carried by: `moves`, `steps` of `World::run` and `jobs_end_once`: `lowers` of `IsWorldStep`
         ensures moves { let w = seen_world ⟦<Box<dyn Device> as Device>⟧.state self.old.inner in
             let v = seen_world ⟦<Box<dyn Device> as Device>⟧.state self.new.inner in
             MovesFall w v }
-        ensures lowers { let w = seen_world ⟦<Box<dyn Device> as Device>⟧.state self.old.inner in
-            let v = seen_world ⟦<Box<dyn Device> as Device>⟧.state self.new.inner in
-            MoveLowers events.items w v }
         /// An event that cannot happen to its job changes nothing.
-        /// Carried by: `idle` of `World::run` and `jobs_end_once`
+        /// Carried by: `steps` of `World::run` and `jobs_end_once`: `idle` of `IsWorldStep`
         ///
         /// Memory runs out for a job only in an event of its own that can happen, and that takes memory.
-        /// Carried by: `starves` of `World::run` and `jobs_end_once`
-        ensures idle { let w = seen_world ⟦<Box<dyn Device> as Device>⟧.state self.old.inner in
-            let v = seen_world ⟦<Box<dyn Device> as Device>⟧.state self.new.inner in
-            IdleStays events.items w v }
-        ensures starves { let w = seen_world ⟦<Box<dyn Device> as Device>⟧.state self.old.inner in
-            let v = seen_world ⟦<Box<dyn Device> as Device>⟧.state self.new.inner in
-            StarvesBy events.items w v }
+        /// Carried by: `steps` of `World::run` and `jobs_end_once`: `starves` of `IsWorldStep`
+        ///
         /// A page that is laid in is taken where the daemon takes it, a device is taken out where it is listed and nobody
         /// has it; and else nothing changes.
-        /// Carried by: `loads`, `unplugs` of `World::run` and `jobs_end_once`
-        ensures loads { let w = seen_world ⟦<Box<dyn Device> as Device>⟧.state self.old.inner in
+        /// Carried by: `steps` of `World::run` and `jobs_end_once`: `loads`, `unplugs` of `IsWorldStep`
+        ensures steps { let w = seen_world ⟦<Box<dyn Device> as Device>⟧.state self.old.inner in
             let v = seen_world ⟦<Box<dyn Device> as Device>⟧.state self.new.inner in
-            LoadLays events.items w v }
-        ensures unplugs { let w = seen_world ⟦<Box<dyn Device> as Device>⟧.state self.old.inner in
-            let v = seen_world ⟦<Box<dyn Device> as Device>⟧.state self.new.inner in
-            UnplugTakes events.items w v }
+            EachStep IsWorldStep events.items w v }
         /// A job that runs ends by a cancel as cancelled, wherever that stands among the events; by the loss of its
         /// control connection as lost, where the event that connects it came before; and so by the loss of its data
         /// connection, where that stands.
@@ -195,19 +184,19 @@ impl World {
             (h : History) → LedTo h w → ScansStay events.items w v }
         /// Within a scan the page stays: a device that a session has in front of an event and behind it, neither time
         /// at rest, has the same first page both times.
-        /// Carried by: `page_stays` of `World::run`
+        /// Carried by: `pages` of `World::run`: `page_stays` of `IsHeldStep`
         ///
         /// A start takes the first page: where requests of a job were delivered, a device that its session had and has,
         /// and has within a scan now, has the first page that it had.
-        /// Carried by: `first_page` of `World::run`
-        ensures page_stays { let seen = seen_world ⟦<Box<dyn Device> as Device>⟧.state in
+        /// Carried by: `pages` of `World::run`: `first_page` of `IsHeldStep`
+        ///
+        /// A session has its device until its control connection is lost, or requests are delivered to it behind its
+        /// job's end, or end it. No device is listed anew, and none goes from the list but by being taken out.
+        /// Carried by: `pages` of `World::run`: `holds_on`, `listed` of `IsHeldStep`
+        ensures pages { let seen = seen_world ⟦<Box<dyn Device> as Device>⟧.state in
             let w = seen self.old.inner in
             let v = seen self.new.inner in
-            (h : History) → LedTo h w → PageStays events.items w v }
-        ensures first_page { let seen = seen_world ⟦<Box<dyn Device> as Device>⟧.state in
-            let w = seen self.old.inner in
-            let v = seen self.new.inner in
-            (h : History) → LedTo h w → StartsOnFirst events.items w v }
+            (h : History) → LedTo h w → EachStep IsHeldStep events.items w v }
         /// Where its events are next moves, one after another, a job in whose way nothing stood in front of them, and which
         /// is over behind them, is done, or is told as out of memory, or lost its connection as its next move.
         /// Carried by: `clear` of `World::run`: `ClearsBy`
@@ -277,7 +266,7 @@ impl World {
         ///
         /// As a job that is done, but for a list, asked for its device, that was listed, no session had it, no job's and no
         /// stranger's, and the job was permitted: no line of the users names its backend, or its user and password are
-        /// allowed for the challenge that its session had sent.
+        /// allowed for the challenge that its session had sent. Behind that its session has the device.
         /// Carried by: `kept` of `World::outcome`: `opened` of `JobIsDone`: `WasOpened`
         ///
         /// A list that is done tells the devices that were listed as the last bytes of its request were delivered: all,

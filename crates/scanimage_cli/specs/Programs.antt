@@ -2,7 +2,7 @@
 use Rattle.std.specs.Prelude.{ℕ, ◌≡◌, ◌≢◌, Bool, Option, Some, None, Ok, List, [], length, slice_get, All}
 use Rattle.std.specs.Io.KnownBytes.{Appends}
 use Rattle.netpbm.specs.Picture.{Picture}
-use Rattle.netpbm.specs.Pnm.{Denotes}
+use Rattle.frame_join.specs.PictureText.{IsPictureFile}
 use Rattle.page_picture.specs.Shows.{ShowsFrames}
 use Rattle.sane_fixed.specs.declared.device_info.DeviceInfo.{DeviceInfo}
 use Rattle.device_api.specs.State.{DeviceState}
@@ -120,7 +120,7 @@ EndsWellHere table asked out err failed =
 pub record GaveFile (job : Job) (trace : JobTrace) (was now : Option (List ℕ)) : Type 0 where
   pub text : List ℕ
   pub taken : Appends was now text
-  pub file : job.task ≡ Scan → (p : Picture) × ShowsFrames trace.protocol.history.ended p × Denotes text p
+  pub file : job.task ≡ Scan → (p : Picture) × ShowsFrames trace.protocol.history.ended p × IsPictureFile text p
   pub none : job.task ≢ Scan → text ≡ []
 
 -- the file, or the files of a batch, went where they were to go; of the system's files nothing is known

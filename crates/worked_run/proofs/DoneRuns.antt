@@ -58,10 +58,10 @@ scan_of h v job Batch turned finished last text file is scan (inl went) = subst 
 scan_of h v job Batch turned finished last text file is scan (inr went) = absurd (nothing_is_not_whole (scan.picture, subst (λ (t : List ℕ). Denotes t scan.picture) went.2 scan.denotes))
 
 file_is_scan : (devices : List DeviceState) (job : Job) (d : Core) (reports : Reports) (file : List ℕ) → (is : IsDoneRun job d reports file) → (kept : AllLoopsAreKept devices (job ∷ []) d is.acts (λ i. is.last)) → job.task ≡ tasks.Scan
-    → IsSteady (history_of devices (job ∷ []) d kept.events) kept.v 0 job.device → IsScan (history_of devices (job ∷ []) d kept.events) kept.v 0 job 0 file
+    → IsSteady (history_of devices kept.seed (job ∷ []) d kept.events) kept.v 0 job.device → IsScan (history_of devices kept.seed (job ∷ []) d kept.events) kept.v 0 job 0 file
 file_is_scan devices job d reports file is kept scan steady =
     let k = kept.each 0 job refl (ap is_running is.done) in
-    scan_of (history_of devices (job ∷ []) d kept.events) kept.v job _ (files_by_steps (job_journal 0 is.acts)) k.ends.finished (given_by_steps (job_journal 0 is.acts)) k.ends.text file is.went_out
+    scan_of (history_of devices kept.seed (job ∷ []) d kept.events) kept.v job _ (files_by_steps (job_journal 0 is.acts)) k.ends.finished (given_by_steps (job_journal 0 is.acts)) k.ends.text file is.went_out
     (k.file.scanned reports k.ends.text steady scan is.done refl) k.ends.went_out
 
 pub is_kept_run : ProgramsKeepAll → (devices : List DeviceState) (job : Job) (d : Core) (reports : Reports) (file : List ℕ) → AreFit devices (job ∷ []) d → IsDoneRun job d reports file → IsKeptRun devices job d reports file

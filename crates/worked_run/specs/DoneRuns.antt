@@ -29,5 +29,6 @@ pub record IsKeptRun (devices : List DeviceState) (job : Job) (d : Core) (report
     (file : List ℕ) : Type 0 where
   pub is : IsDoneRun job d reports file
   pub kept : AllLoopsAreKept devices (job ∷ []) d is.acts (λ i. is.last)
-  pub scanned : job.task ≡ tasks.Scan → IsSteady (history_of devices (job ∷ []) d kept.events) kept.v 0 job.device
-      → IsScan (history_of devices (job ∷ []) d kept.events) kept.v 0 job 0 file
+  pub scanned : job.task ≡ tasks.Scan
+      → IsSteady (history_of devices kept.seed (job ∷ []) d kept.events) kept.v 0 job.device
+      → IsScan (history_of devices kept.seed (job ∷ []) d kept.events) kept.v 0 job 0 file

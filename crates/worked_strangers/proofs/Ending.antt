@@ -337,7 +337,8 @@ meant_on name page job make settings begin file is own on m =
       in_force = on_flatbed name page put.0 begin.options job put.1;
       picture = here.picture;
       meant = subst (λ (p : PageView). meaning_of p begin.options.scene ≡ Some here.picture) on here.meant;
-      denotes = here.denotes;
+      denotes = here.denotes.denotes;
+      own = here.denotes.own;
     }
 
 pub file_meant : LawsBelow → (name : List ℕ) (page : PageView) (users : List Entry) (job : Job) (d e f : Core) (endpoints : List Endpoint) (v : WorldCore) (endpoint : Endpoint) (reports : Reports) (file : List ℕ) → IsBeside name page users job d e endpoints → HasGone e f → RoundsRunOut source_state (world_of f endpoints) v

@@ -8,4 +8,4 @@ pub no_strangers : ((text : List ℕ) (p q : Picture) → Denotes text p → Den
 no_strangers one source xs t w v run k i endpoint reports file picture at task done file_is steady denotes other =
     let f = k.promises.scans i endpoint reports file at task done file_is in
     let m = f.meant steady in
-    other f.begin f.later m.picture f.started m.meant (one file picture m.picture denotes m.denotes)
+    other f.begin f.later m.picture f.started m.meant (one file picture m.picture denotes m.denotes.denotes)

@@ -36,8 +36,8 @@ is_fed : (name : List ℕ) (pages : List PageView) → feeds (feeder_with name p
 unfolding defaults
 is_fed name pages = refl
 
-abbrev own_tray : (name : List ℕ) (pages : List PageView) (users : List Entry) (job : Job) (new : WorldCore) (c : Came (feeder_with name pages ∷ []) users job new) → name ≡ job.device → OwnTray (history_of (feeder_with name pages ∷ []) users job new c) 0 job
-own_tray name pages users job new c named = record {
+abbrev own_tray : (name : List ℕ) (pages : List PageView) (users : List Entry) (seed : List ℕ) (job : Job) (new : WorldCore) (c : Came (feeder_with name pages ∷ []) users seed job new) → name ≡ job.device → OwnTray (history_of (feeder_with name pages ∷ []) users seed job new c) 0 job
+own_tray name pages users seed job new c named = record {
   device = feeder_with name pages;
   is_there = (0, omega arith, refl);
   named = named;
@@ -53,24 +53,25 @@ same_page : (x y : PageView) → Some x ≡ Some y → x ≡ y
 same_page x y e = cc
 
 -- page k of a job is the scan of the k-th page
-pub fed_scan : (name : List ℕ) (pages : List PageView) (users : List Entry) (job : Job) (new : WorldCore) (k : ℕ) (page : PageView) (file : List ℕ) → Moved (feeder_with name pages ∷ []) users job new → slice_get (first_tray (feeder_with name pages)) (k - 1) ≡ Some page → IsKeptPage new k file → IsFedScanOf page job file
-fed_scan name pages users job new k page file m at given =
+pub fed_scan : (name : List ℕ) (pages : List PageView) (users : List Entry) (seed : List ℕ) (job : Job) (new : WorldCore) (k : ℕ) (page : PageView) (file : List ℕ) → Moved (feeder_with name pages ∷ []) users seed job new → slice_get (first_tray (feeder_with name pages)) (k - 1) ≡ Some page → IsKeptPage new k file → IsFedScanOf page job file
+fed_scan name pages users seed job new k page file m at given =
     let devices = feeder_with name pages ∷ [] in
-    let h = history_of devices users job new m.came in
-    let there = at_there devices users job new m.came in
-    let steady = steady_tray name pages users job new m.came in
+    let h = history_of devices users seed job new m.came in
+    let there = at_there devices users seed job new m.came in
+    let steady = steady_tray name pages users seed job new m.came in
     let found : IsScan h new 0 job (k - 1) file = ((given.0 h job there).scanned file refl).2 steady in
     let named : name ≡ job.device = ap (λ (d : DeviceState). d.info.name) (only_one (feeder_with name pages) found.settled.device found.settled.is_there) ∙ found.settled.named in
-    let own = own_tray name pages users job new m.came named in
+    let own = own_tray name pages users seed job new m.came named in
     let taken : IsOfTray h new 0 job own k file = given.1 h job there own steady in
     let on : taken.0.held.page ≡ page = same_page taken.0.held.page page (sym taken.1 ∙ at) in
     record {
       setup = taken.0.settled.setup;
       placed = taken.0.settled.placed;
-      in_force = settled_on Feeder name (map memory_source pages) users job new m.came taken.0.settled;
+      in_force = settled_on Feeder name (map memory_source pages) users seed job new m.came taken.0.settled;
       picture = taken.0.picture;
       meant = subst (λ (p : PageView). meaning_of p taken.0.settled.setup.scene ≡ Some taken.0.picture) on taken.0.meant;
       denotes = taken.0.denotes;
+      own = taken.0.own;
     }
 
 pub given_copy : (w : WorldCore) (k : ℕ) (file copy : List ℕ) → copy ≡ file → KeepsPage w 0 k (Some file) → KeepsTray w 0 k file → IsKeptPage w k copy
@@ -78,12 +79,12 @@ given_copy w k file copy same kept tray = subst (IsKeptPage w k) (sym same) (kep
 
 -- ---- a batch of two that is done
 
-pub all_finished : (name : List ℕ) (first second : PageView) (users : List Entry) (job : Job) (new : WorldCore) (reports : Reports) (finished : ℕ) → Moved (feeder_with name (first ∷ second ∷ []) ∷ []) users job new → ForEach new 0 (λ h job. BatchIsCounted h new 0 job finished) → outcome_at new 0 ≡ Some (Done reports) → IsPlainBatch name first second users job → finished ≡ 2
-all_finished name first second users job new reports finished m counted done plain =
+pub all_finished : (name : List ℕ) (first second : PageView) (users : List Entry) (seed : List ℕ) (job : Job) (new : WorldCore) (reports : Reports) (finished : ℕ) → Moved (feeder_with name (first ∷ second ∷ []) ∷ []) users seed job new → ForEach new 0 (λ h job. BatchIsCounted h new 0 job finished) → outcome_at new 0 ≡ Some (Done reports) → IsPlainBatch name first second users job → finished ≡ 2
+all_finished name first second users seed job new reports finished m counted done plain =
     let pages = first ∷ second ∷ [] in
     let devices = feeder_with name pages ∷ [] in
-    let h = history_of devices users job new m.came in
-    (counted h job (at_there devices users job new m.came) 2 reports plain.batch done).fed (own_tray name pages users job new m.came (sym plain.named))
+    let h = history_of devices users seed job new m.came in
+    (counted h job (at_there devices users seed job new m.came) 2 reports plain.batch done).fed (own_tray name pages users seed job new m.came (sym plain.named))
 
 -- ---- one in whose way nothing stands
 
@@ -92,13 +93,13 @@ all_two P x y h g zero d within = h
 all_two P x y h g (suc zero) d within = g
 all_two P x y h g (suc (suc k)) d within = absurd (omega (arith, within))
 
-pub batch_broken_off : FeederIsClear → (name : List ℕ) (first second : PageView) (users : List Entry) (job : Job) (old new : WorldCore) → LedTo (begun (feeder_with name (first ∷ second ∷ []) ∷ []) users (job ∷ [])) old → ClearsUp old new → IsOther new → IsPlainBatch name first second users job → HasBrokenOff (feeder_with name (first ∷ second ∷ []) ∷ []) users job
-batch_broken_off loaded name first second users job old new led clears other is =
+pub batch_broken_off : FeederIsClear → (name : List ℕ) (first second : PageView) (users : List Entry) (seed : List ℕ) (job : Job) (old new : WorldCore) → LedTo (begun (feeder_with name (first ∷ second ∷ []) ∷ []) users seed (job ∷ [])) old → ClearsUp old new → IsOther new → IsPlainBatch name first second users job → HasBrokenOff (feeder_with name (first ∷ second ∷ []) ∷ []) users job
+batch_broken_off loaded name first second users seed job old new led clears other is =
     let sources = memory_source first ∷ memory_source second ∷ [] in
-    came_off (feeder_with name (first ∷ second ∷ []) ∷ []) users job old new led clears other
-    (loaded name sources users job is.named is.none some
+    came_off (feeder_with name (first ∷ second ∷ []) ∷ []) users seed job old new led clears other
+    (loaded name sources users seed job is.setup is.named is.puts some
     (all_two (λ (s : SourceState). s.infallible ≡ true) (memory_source first) (memory_source second) refl refl)
-    (all_two (λ (s : SourceState). meaning_of s.page (defaults Feeder Little).scene ≢ None) (memory_source first) (memory_source second) is.first_meant is.second_meant) is.allowed)
+    (all_two (λ (s : SourceState). meaning_of s.page is.setup.scene ≢ None) (memory_source first) (memory_source second) is.first_meant is.second_meant) is.allowed)
   where
     some : memory_source first ∷ memory_source second ∷ [] ≡ [] → ⊥
     some none = cc

@@ -30,7 +30,8 @@ use Rattle.scan_world.specs.Page.{IsScan}
 use Rattle.scan_world.specs.Promise.{JobIsDone}
 use Rattle.scan_world.specs.Reports.{AreOptionsShown}
 use Rattle.scan_world.specs.Sessions.{Asked, IsAtOpen}
-use Rattle.scan_world.specs.Settings.{AreSettingsPut}
+use Rattle.scan_world.specs.Settings.{AreSettingsPut, PutsInForce}
+use Rattle.frame_join.specs.PictureText.{picture_text}
 
 -- ---- the devices
 
@@ -113,13 +114,14 @@ WasUnlisted devices users job = (from : LedFrom devices users job) × IsUnlisted
 abbrev pub IsDisallowed : History → WorldCore → ℕ → Job → Type 0
 IsDisallowed h w i job = (asked : Asked h w i IsAtOpen) × HasPassed h asked.at.before i job false
 
--- it scans, without settings, on this flatbed, whose page means a picture at its defaults, and its password is right,
--- if a line of the users names its backend
+-- it scans on this flatbed, its settings can be in force there and mean a picture on the page, and its password is
+-- right, if a line of the users names its backend
 pub record IsPlainScan (name : List ℕ) (page : PageView) (users : List Entry) (job : Job) : Type 0 where
   pub named : job.device ≡ name
   pub scan : job.task ≡ tasks.Scan
-  pub none : job.settings.items ≡ []
-  pub meant : meaning_of page (defaults Flatbed Little).scene ≢ None
+  pub setup : Setup
+  pub puts : PutsInForce Flatbed job.settings.items setup
+  pub meant : meaning_of page setup.scene ≢ None
   pub allowed : IsAllowedAlways users job
   pub fit : IsFitJob job
 
@@ -151,14 +153,16 @@ pub record IsFedScanOf (page : PageView) (job : Job) (bytes : List ℕ) : Type 0
   pub picture : Picture
   pub meant : meaning_of page setup.scene ≡ Some picture
   pub denotes : Denotes bytes picture
+  pub own : bytes ≡ picture_text picture
 
--- it wants two pages, without settings, on the feeder that has these two, each of which means a picture at its
--- defaults, and its password is right, if a line of the users names its backend
+-- it wants two pages on the feeder that has these two, its settings can be in force there and mean a picture on each,
+-- and its password is right, if a line of the users names its backend
 pub record IsPlainBatch (name : List ℕ) (first second : PageView) (users : List Entry) (job : Job) : Type 0 where
   pub named : job.device ≡ name
   pub batch : job.task ≡ tasks.Batch 2
-  pub none : job.settings.items ≡ []
-  pub first_meant : meaning_of first (defaults Feeder Little).scene ≢ None
-  pub second_meant : meaning_of second (defaults Feeder Little).scene ≢ None
+  pub setup : Setup
+  pub puts : PutsInForce Feeder job.settings.items setup
+  pub first_meant : meaning_of first setup.scene ≢ None
+  pub second_meant : meaning_of second setup.scene ≢ None
   pub allowed : IsAllowedAlways users job
   pub fit : IsFitJob job

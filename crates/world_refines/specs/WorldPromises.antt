@@ -4,7 +4,6 @@ use Rattle.std.specs.Prelude.{map, slice_get}
 use Rattle.sane_fixed.specs.declared.kind.Kind.{Kind}
 use Rattle.sane_fixed.specs.declared.status.Status.{Status}
 use Rattle.netpbm.specs.Picture.{Picture}
-use Rattle.netpbm.specs.Pnm.{Denotes}
 use Rattle.page_picture.specs.Meaning.{meaning_of}
 use Rattle.option_desc.specs.declared.descriptor.Descriptor.{Descriptor}
 use Rattle.option_desc.specs.declared.value.Value.{Value}
@@ -42,6 +41,7 @@ use Rattle.event_world.specs.JobMoves.{IsNextMove}
 use Rattle.event_world.specs.Worlds.{WorldCore}
 use Rattle.world_refines.specs.GhostStates.{Ghost, job_state}
 use Rattle.world_refines.specs.WorldRefinement.{WorldRefines}
+use Rattle.frame_join.specs.PictureText.{IsPictureFile}
 
 -- ---- outcomes
 
@@ -108,7 +108,7 @@ pub record IsMeant (make : Make) (settings : List (List ℕ × List ℕ)) (begin
   pub picture : Picture
   pub in_force : option_map (λ r. r.0) (devices.in_force make.model make.order settings) ≡ Some begin.options
   pub meant : meaning_of begin.page begin.options.scene ≡ Some picture
-  pub denotes : Denotes file picture
+  pub denotes : IsPictureFile file picture
 
 -- it is the job's first start, where the device's sources give their rows at each pass
 pub record FileIsOfFirstStart (t : Ghost) (i : ℕ) (file : List ℕ) : Type 0 where

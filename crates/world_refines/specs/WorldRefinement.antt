@@ -4,7 +4,6 @@ use Rattle.std.specs.Prelude.{if◌then◌else◌, Some, None, IsSome, option_ma
 use Rattle.std.specs.List.{AllByRecursion}
 use Rattle.sane_fixed.specs.declared.status.Status.{Status}
 use Rattle.netpbm.specs.Picture.{Picture}
-use Rattle.netpbm.specs.Pnm.{Denotes}
 use Rattle.page_picture.specs.Page.{IsPageView}
 use Rattle.page_picture.specs.Shows.{ShowsFrames}
 use Rattle.md5_auth.specs.declared.users.Entry.{Entry}
@@ -49,6 +48,7 @@ use Rattle.world_refines.specs.GhostStates.{Ghost, Wires, name_at, place_of_info
 use Rattle.world_refines.specs.Wires.{FlightMatches, SpellsAsked, SpellsReplies}
 use Rattle.world_refines.specs.WorldPending.{Pends}
 use Rattle.world_refines.specs.Speaks.{AsksAsHeld, Speaks, WaitsQuietly}
+use Rattle.frame_join.specs.PictureText.{IsPictureFile}
 
 -- ---- the client and its files
 
@@ -70,7 +70,7 @@ KeepsFiles true past pages endpoint = HasFiles [] (pages ++ past ∷ []) endpoin
 -- a finished page: its frames are a whole picture, and its file denotes what they show
 pub record IsFinished (past : JoinHistory) : Type 0 where
   pub joined : IsJoined past
-  pub denotes : (picture : Picture) → ShowsFrames past.ended picture → Denotes past.given picture
+  pub denotes : (picture : Picture) → ShowsFrames past.ended picture → IsPictureFile past.given picture
 
 -- the client reads as the model's client view, of what its joins were told and gave
 pub record EndpointClientRefines (place : DeviceInfo → ℕ) (job : Job) (past : JoinHistory) (pages : List JoinHistory)

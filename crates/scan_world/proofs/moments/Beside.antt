@@ -85,7 +85,7 @@ fine_for : (h : History) (o x : Job) (s : SystemState) → x.device ≡ o.device
 fine_for h o x s e f = record { makes = f.makes; places = λ n. f.places n ∙ ap (place_named (infos_of h)) (default_same h.jobs n (elsewhere h.devices o) (elsewhere h.devices x) (same_elsewhere h.devices x o)); slots = f.slots }
 
 front_of : (h : History) (w : WorldCore) (o : Job) (s : SystemState) (a : ℕ) (x : Action) → IsAnswer x → IsUnderWay (s.job a).client.stage → AnsweredSo h w o s (By a x) → Front h w o s a
-front_of h w o s a x answer on so = (answer.1, (subst (λ (y : Action). AnsweredSo h w o s (By a y)) answer.2 so) on)
+front_of h w o s a x answer on so = ((answer.0, answer.1), (subst (λ (y : Action). AnsweredSo h w o s (By a y)) answer.2 so) on)
 
 -- who holds it names it
 who_holds : Below → (h : History) (w : WorldCore) (o : Job) (s : SystemState) (n m : ℕ) → HasNoActs h → Fine h o s → wanted_place s n ≡ place_named (infos_of h) o.device → Front h w o s n → (device_for s n).holder ≡ Some m → (x : Job) × (slice_get h.jobs m ≡ Some x) × (x.device ≡ o.device)

@@ -219,7 +219,7 @@ answer_counted laws h w i job s g challenge fault at e so may was m =
       | inr old ↦ asked_not i k p dev p.client.stage g at (e.sound.exchanges i) may.0 may.1 ((was old).1 on)
       | inl new ↦
           let dry = (pick_it (Comes i k p dev x) (causes_by i k ds p dev x) (all_come laws.grounds i k ds p dev x may) new).1 in
-          let front : Front h w job s i = (fault, so on) in
+          let front : Front h w job s i = ((challenge, fault), so on) in
           let ready = starts_ready i k p dev p.client.stage dry.0 on (e.sound.exchanges i) dry.1 dry.2 in
           let none = no_page h w i job s e on front dry.0 dry.1 dry.2 (dry_there i k p dev p.client.stage (e.sound.exchanges i) on dry) in
           let next = by_next i k ds p dev challenge fault p.todo dry.0 dry.1 ready.0.still.awaited ready.0.held.mine ready.0.still.transfer dry.2 dry.3 new in

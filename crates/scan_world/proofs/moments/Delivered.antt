@@ -35,7 +35,7 @@ use Rattle.event_world.specs.declared.event.Event.{Event}
 use Rattle.event_world.specs.declared.event.Event.TheVariants as events
 use Rattle.event_world.specs.declared.event.JobEvent.TheVariants.{ToDaemon}
 use Rattle.event_world.specs.JobEvents.{FeedsPiece, delivered_bytes, after_fed, without_sent}
-use Rattle.event_world.specs.Worlds.{AtEndpoint, Runs, WorldCore}
+use Rattle.event_world.specs.Worlds.{AtEndpoint, Leads, Runs, WorldCore}
 use Rattle.event_world.proofs.Deciding.{can_or_not}
 use Rattle.world_refines.specs.GhostStates.{Ghost}
 use Rattle.world_refines.specs.WorldRefinement.{IsServed, WorldRefines, session_by, slot_of_link}
@@ -52,7 +52,7 @@ use Rattle.scan_world.proofs.moments.Asking.{IsStartOf, OneStays, held_one, requ
 use Rattle.scan_world.proofs.moments.Holder.{no_endpoints}
 use Rattle.scan_world.proofs.moments.Others.{decide}
 use Rattle.scan_world.proofs.moments.Paging.{NotAsked, linked_as, slot_session, unasked_page}
-use Rattle.scan_world.proofs.moments.Stands.{one_lease}
+use Rattle.scan_world.proofs.moments.Stands.{one_lease, served_at}
 
 -- ---- one request behind another
 
@@ -125,17 +125,12 @@ starts_first i k dev target known todo (q ∷ qs) [] others e held are = absurd 
 starts_first i k dev target known todo (q ∷ qs) (r ∷ first) others e held are =
     none_asked target known qs first are.1 (none_of first others (behind i k known dev r (first ++ others) (subst (SetsAsHeld i k known dev) e held)))
 
-served_there : (i : ℕ) (make : ℕ → Make) (core : Core) (link : Option SessionId) (served : Bool) (device : ℕ → AbstractDevice) (s : AbstractSession) → IsServed i make core link served device s → (session : Session DeviceState) → session_in (slot_of_link core link) ≡ Some session → served ≡ true
-served_there i make core link true device s h session stands = refl
-served_there i make core link false device s h session stands = absurd (let clash : None ≡ Some session = sym h.0 ∙ stands in cc)
-
 asked_one : (t : Ghost) (w : WorldCore) (i n : ℕ) (p : Endpoint) (id : SessionId) (s : Session DeviceState) (now : FeedProgress) (requests : List Request) (told : List Reply) → WorldRefines t w → slice_get w.endpoints i ≡ Some p → p.link ≡ Some id → session_of w.daemon id.number ≡ Some s →
     DecodesRequests (input_in (session_slot_of w.daemon.slots id.number)) (delivered_bytes n p.client.out) requests now.rest → AnswersAll w.daemon.users (core_context w.daemon s) requests told now.context → OneStays (Unit {0}) s now.context.session
 asked_one t w i n p id s now requests told h at link stands reads answers =
     let e = h.endpoints i p at in
     let me = t.system.job i in
-    let there : session_in (slot_of_link w.daemon p.link) ≡ Some s = ap (λ (l : Option SessionId). session_in (slot_of_link w.daemon l)) link ∙ stands in
-    let served = served_there i t.system.make w.daemon p.link me.served t.system.device (session_by i t.system.device me) e.served s there in
+    let served = served_at t w i s h (record { endpoint = p; is_there = at; id = id; linked = link; stands = stands }) in
     let asking : input_in (session_slot_of w.daemon.slots id.number) ≡ (t.wires i).asking = sym (ap (λ (l : Option SessionId). input_in (slot_of_link w.daemon l)) link) ∙ e.carries.asking in
     let spells : SpellsAsked (t.jobs i) me.client me.todo (input_in (session_slot_of w.daemon.slots id.number) ++ p.client.out) =
     subst (λ (x : List ℕ). SpellsAsked (t.jobs i) me.client me.todo (x ++ p.client.out)) (sym asking) (subst (λ (y : List ℕ). SpellsAsked (t.jobs i) me.client me.todo ((t.wires i).asking ++ y)) (sym e.carries.up) (e.means.up served)) in
@@ -172,8 +167,7 @@ not_over : (u : Ghost) (v : WorldCore) (i : ℕ) (s : Session DeviceState) → W
 not_over u v i s h a over =
     let e = h.endpoints i a.endpoint a.is_there in
     let linked : (u.system.job i).linked ≡ true = e.means.linked ∙ ap is_some a.linked in
-    let there : session_in (slot_of_link v.daemon a.endpoint.link) ≡ Some s = ap (λ (l : Option SessionId). session_in (slot_of_link v.daemon l)) a.linked ∙ a.stands in
-    let served = served_there i u.system.make v.daemon a.endpoint.link (u.system.job i).served u.system.device (session_by i u.system.device (u.system.job i)) e.served s there in
+    let served = served_at u v i s h a in
     let clash : true ≡ false = sym over ∙ (e.means.over linked ∙ ap not served) in cc
 
 abbrev Had : WorldCore → ℕ → List ℕ → DeviceState → Type 0
@@ -210,12 +204,9 @@ by_jobs all h w v i n name a b l lv at x y busy (job ∷ jobs) is =
     let m = kept_by all (history_up_to h (h.events ++ OfJobs (events.ToDaemon i n) ∷ [])) v job lv in
     asked_page k.run.ghost_then m.run.ghost_then w v i n name a b k.run.stands m.run.stands at x y busy
 
-asked_stays : AllIsKeptAmongStrangers → (h : History) (w v : WorldCore) (i n : ℕ) (name : List ℕ) (a b : DeviceState) → LedTo h w → LedTo (history_up_to h (h.events ++ OfJobs (events.ToDaemon i n) ∷ [])) v → Runs source_state (events.ToDaemon i n ∷ []) w v → Has w i name a → Has v i name b → is_at_rest b.phase ≡ false → page_of b ≡ page_of a
-asked_stays all h w v i n name a b l lv run x y busy = by_jobs all h w v i n name a b l lv (subst (AtEndpoint w i (ToDaemon n)) (sym run.2) run.1) x y busy h.jobs refl
-
-pub starts_on_first : AllIsKeptAmongStrangers → (h : History) (es : List Event) (w v : WorldCore) → LedTo h w → LedTo (and_then h es) v → Runs source_state es w v → StartsOnFirst es w v
-starts_on_first all h es w v l lv run i n name a b are x y busy =
-    asked_stays all h w v i n name a b l (subst (λ (xs : List Event). LedTo (and_then h xs) v) are lv) (subst (λ (xs : List Event). Runs source_state xs w v) are run) x y busy
+pub starts_on_first : AllIsKeptAmongStrangers → (h : History) (e : Event) (w v : WorldCore) → LedTo h w → LedTo (and_then h (e ∷ [])) v → Leads source_state e w v → StartsOnFirst e w v
+starts_on_first all h e w v l lv leads i n name a b is x y busy =
+    by_jobs all h w v i n name a b l (subst (λ (z : Event). LedTo (and_then h (z ∷ [])) v) is lv) (subst (λ (z : Event). Leads source_state z w v) is leads) x y busy h.jobs refl
 
 -- a request of the job, or another event
 asks_or_not : (e : Event) (i : ℕ) → ((n : ℕ) × (e ≡ events.ToDaemon i n)) ⊎ NotAsked e i
@@ -225,11 +216,9 @@ asks_or_not (events.ToDaemon j m) i = elim (decide j i) [
 ]
 asks_or_not e i = inr (λ n is. (let clash : e ≡ events.ToDaemon i n = is in cc))
 
-pub page_stays : AllIsKeptAmongStrangers → (h : History) (es : List Event) (w v : WorldCore) → LedTo h w → LedTo (and_then h es) v → Runs source_state es w v → PageStays es w v
-page_stays all h es w v l lv run i name a b e are x y was busy =
-    let led : LedTo (and_then h (e ∷ [])) v = subst (λ (xs : List Event). LedTo (and_then h xs) v) are lv in
-    let ran : Runs source_state (e ∷ []) w v = subst (λ (xs : List Event). Runs source_state xs w v) are run in
+pub page_stays : AllIsKeptAmongStrangers → (h : History) (e : Event) (w v : WorldCore) → LedTo h w → LedTo (and_then h (e ∷ [])) v → Leads source_state e w v → PageStays e w v
+page_stays all h e w v l lv leads i name a b x y was busy =
     elim (asks_or_not e i) [
-      | inl asks ↦ starts_on_first all h (e ∷ []) w v l led ran i asks.0 name a b (ap (λ (z : Event). z ∷ []) asks.1) x y busy
-      | inr not_asked ↦ unasked_page all h w v i name a b e l led not_asked ran x y was busy
+      | inl asks ↦ starts_on_first all h e w v l lv leads i asks.0 name a b asks.1 x y busy
+      | inr not_asked ↦ unasked_page all h w v i name a b e l lv not_asked (v, leads, refl) x y was busy
     ]

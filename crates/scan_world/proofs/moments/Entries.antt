@@ -2,11 +2,11 @@
 use Rattle.std.specs.Prelude.{cond, length, slice_get, slice_set, ◌≤◌}
 use Rattle.std.proofs.Common.{◌≡◌, ◌∙◌, ◌⊎◌, ℕ, zero, suc, arith, List, [], ◌∷◌, Bool, true, false, Option, Some, None, inl, inr, refl, sym, ap}
 use Rattle.system_model.specs.AbstractDevices.{AbstractDevice}
-use Rattle.system_model.specs.Actions.{Action, job_after_action}
+use Rattle.system_model.specs.Actions.{Action, device_after, job_after_action}
 use Rattle.system_model.specs.Client.{JobStage, Idle, Running, Done, Ended}
 use Rattle.system_model.specs.Devices.{Make}
 use Rattle.system_model.specs.Invariants.{StageInvariant}
-use Rattle.system_model.specs.SystemStates.{JobState, SystemState, device_for, listed_devices, make_for}
+use Rattle.system_model.specs.SystemStates.{JobState, SystemState, device_for, listed_devices, make_for, wanted_place}
 use Rattle.system_model.specs.Transitions.{By, IsUnderWay, after_transition}
 use Rattle.daemon_refines.proofs.Moved.{own}
 
@@ -42,6 +42,10 @@ end_at (Some x) = inr (x, refl)
 -- what an action makes of its own job
 pub own_party : (s : SystemState) (i : ℕ) (x : Action) → (after_transition s (By i x)).job i ≡ job_after_action i (make_for s i) (listed_devices s) (s.job i) (device_for s i) x
 own_party s i x = ap (λ (b : Bool). cond b (job_after_action i (make_for s i) (listed_devices s) (s.job i) (device_for s i) x) (s.job i)) (own i)
+
+-- and of the device that it wants
+pub own_device : (s : SystemState) (i : ℕ) (x : Action) → (after_transition s (By i x)).device (wanted_place s i) ≡ device_after i (make_for s i) (listed_devices s) (s.job i) (device_for s i) x
+own_device s i x = ap (λ (b : Bool). cond b (device_after i (make_for s i) (listed_devices s) (s.job i) (device_for s i) x) (device_for s i)) (own (wanted_place s i))
 
 pub linked_by : (i : ℕ) (k : Make) (p : JobState) (dev : AbstractDevice) (stage : JobStage) → StageInvariant i k p dev stage → IsUnderWay stage → p.served ≡ true → p.linked ≡ true
 linked_by i k p dev Idle inv on served = absurd (let clash : true ≡ false = sym served ∙ inv.0 in cc)

@@ -221,7 +221,8 @@ is_scan h w changing i job sources count begin file fact meant =
       started = subst (StartedOn h w i job count) (sym page.2) fact.started;
       picture = m.picture;
       meant = ap (λ (x : PageView). meaning_of x begin.options.scene) page.2 ∙ m.meant;
-      denotes = m.denotes;
+      denotes = m.denotes.denotes;
+      own = m.denotes.own;
     }
 
 pub scan_right : Below → (h : History) (w : WorldCore) (i : ℕ) (job : Job) (p : Endpoint) (reports : Reports) (file : List ℕ) → (j : IsJob h w i job p) → SteadyRun h w job j.led → job.task ≡ tasks.Scan → p.client.outcome ≡ Done reports → p.file ≡ Some file → IsScanEver h w (changing_in h w j.led) i job 0 file

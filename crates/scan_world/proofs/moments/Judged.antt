@@ -117,10 +117,10 @@ link_lost h w job s i x on (inr a) so = inr (happened_by h w job s i x (Actions.
 
 -- the answer, with the state that it is given in
 abbrev pub Front : History → WorldCore → Job → SystemState → ℕ → Type 0
-Front h w job s i = (fault : Option FailureCounts) × AnswersAt h w job s i fault
+Front h w job s i = (asked : Challenge × Option FailureCounts) × AnswersAt h w job s i asked.0 asked.1
 
 front_by : (h : History) (w : WorldCore) (i : ℕ) (job : Job) (s : SystemState) (x : Action) → IsAnswer x → IsUnderWay (s.job i).client.stage → StepSo h w job s (By i x) → Front h w job s i
-front_by h w i job s x a on so = (a.1, (subst (λ (y : Action). AnsweredSo h w job s (By i y)) a.2 so.0) on)
+front_by h w i job s x a on so = ((a.0, a.1), (subst (λ (y : Action). AnsweredSo h w job s (By i y)) a.2 so.0) on)
 
 pub infos_there : (h : History) (w : WorldCore) (job : Job) (s : SystemState) (i : ℕ) (a : Front h w job s i) → a.1.ghost.infos ≡ infos_of h
 infos_there h w job s i a = ap (λ (f : Fixed). f.1) a.1.fixed
@@ -178,7 +178,7 @@ held_by_other h w i job s j e on a opens held other =
     by_holder (inl r) = inl (j, r.0, other, r.1)
     by_holder (inr x) = inr x
 
-not_listed : (h : History) (w : WorldCore) (i : ℕ) (job : Job) (s : SystemState) → Here h i job s → IsUnderWay (s.job i).client.stage → Front h w job s i → Opens (s.job i) → (device_for s i).listed ≡ false → rows.WasUnlisted h w i job
+pub not_listed : (h : History) (w : WorldCore) (i : ℕ) (job : Job) (s : SystemState) → Here h i job s → IsUnderWay (s.job i).client.stage → Front h w job s i → Opens (s.job i) → (device_for s i).listed ≡ false → rows.WasUnlisted h w i job
 not_listed h w i job s e on a opens none =
     let place : wanted_place s i ≡ place_named (infos_of h) job.device = e.fine.places i ∙ own_place h i job e.own_job.at in
     let off : (s.device (place_named (infos_of h) job.device)).listed ≡ false = subst (λ (d : ℕ). (s.device d).listed ≡ false) place none in
@@ -275,12 +275,12 @@ can_fail h changing i job s o f able mine =
 
 source_failed : (h : History) (w : WorldCore) (changing : List JointEvent) (i : ℕ) (job : Job) (s : SystemState) (x : Action) → Here h i job s → Fine (history_up_to h changing) job s → (IsFailedAnswer x × Begins (s.job i)) ⊎ ((fault : FailureCounts) × (x ≡ Actions.TurnsFault fault)) → IsUnderWay (s.job i).client.stage → StepSo h w job s (By i x) → IsEnabled s (By i x) → slice_get h.jobs i ≡ Some job → rows.MayHaveFailed h w changing i job
 source_failed h w changing i job s x e f (inl (a, begins)) on so may at =
-    let m : AnswersAt h w job s i (Some a.1) = (subst (λ (y : Action). AnsweredSo h w job s (By i y)) a.2 so.0) on in
+    let m : AnswersAt h w job s i a.0 (Some a.1) = (subst (λ (y : Action). AnsweredSo h w job s (By i y)) a.2 so.0) on in
     let fails = (subst (λ (y : Action). IsEnabled s (By i y)) a.2 may).2.0 in
     let set = starting i (make_for s i) (s.job i) (device_for s i) (s.job i).client.stage begins.0 on (e.sound.exchanges i) begins.1 in (
       starts_scan h i job s e on begins.0 begins.1,
       can_fail h changing i job s e.own_job f fails set.0,
-      inl (asked_start h w i job s on (Some a.1, m) begins.0 begins.1, subst (λ (j : Job). FailedIn m.at.before m.at.behind.daemon i j.device) (get_or_from_slice_get h.jobs i job (elsewhere h.devices job) at) m.failed),
+      inl (asked_start h w i job s on ((a.0, Some a.1), m) begins.0 begins.1, subst (λ (j : Job). FailedIn m.at.before m.at.behind.daemon i j.device) (get_or_from_slice_get h.jobs i job (elsewhere h.devices job) at) m.failed),
     )
 source_failed h w changing i job s x e f (inr a) on so may at =
     let fault = happened_by h w job s i x (Actions.TurnsFault a.0) a.1 so on in

@@ -140,7 +140,7 @@ shown_on notes h w job i s x sound may so on known ds is = elim (shown_by i (mak
   | inl same ↦ known ds (sym same ∙ (sym (ap (λ (q : JobState). q.session.shown) (own_party s i x)) ∙ is))
   | inr a ↦ elim (end_at (s.job i).session.shown) [
     | inl none ↦
-        let front : Front h w job s i = (a.1, (subst (λ (y : Action). AnsweredSo h w job s (By i y)) a.2 so) on) in
+        let front : Front h w job s i = ((a.0, a.1), (subst (λ (y : Action). AnsweredSo h w job s (By i y)) a.2 so) on) in
         let served : (s.job i).served ≡ true = (subst (λ (y : Action). IsEnabled s (By i y)) a.2 may).0 in
         let linked = linked_by i (make_for s i) (s.job i) (device_for s i) (s.job i).client.stage (sound.exchanges i) on served in
         let shows : (job_after_action i (make_for s i) (listed_devices s) (s.job i) (device_for s i) (Actions.Answers a.0 a.1)).session.shown ≡ Some ds =

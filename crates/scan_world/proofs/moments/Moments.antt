@@ -64,6 +64,7 @@ use Rattle.scan_world.proofs.Changing.{LoadChanges, changes_or_same, changing_of
 use Rattle.scan_world.proofs.Traced.{AreOf, StepOf, comes_of}
 use Rattle.scan_world.proofs.moments.Entries.{own_party, past_end}
 use Rattle.scan_world.proofs.moments.Ran.{WereOn, came_there, runs_there, were_on}
+use Rattle.scan_world.proofs.moments.Stands.{served_at}
 use Rattle.scan_world.proofs.moments.Sends.{AllSend, FaultSends, event_sends}
 use Rattle.scan_world.proofs.moments.Whole.{all_sent}
 
@@ -80,8 +81,12 @@ abbrev pub FailedThere : Option FailureCounts → WorldCore → Core → ℕ →
 FailedThere None before behind i name = Unit {0}
 FailedThere (Some fault) before behind i name = FailedIn before behind i name
 
+-- where the session of a job stands, the world stands for this state
+abbrev pub StandsFor : History → Job → WorldCore → ℕ → SystemState → Type 0
+StandsFor h other v i s = (session : Session DeviceState) → SessionAt v i session → (g : Ghost) × IsFixed h other g × WorldRefines g v × (g.system ≡ s)
+
 -- a delivery to the daemon, in front of which the world stood for this state
-pub record AnswersAt (h : History) (w : WorldCore) (other : Job) (s : SystemState) (i : ℕ) (fault : Option FailureCounts) : Type 0 where
+pub record AnswersAt (h : History) (w : WorldCore) (other : Job) (s : SystemState) (i : ℕ) (challenge : Challenge) (fault : Option FailureCounts) : Type 0 where
   pub n : ℕ
   pub at : Moment h w (ToDaemon i n)
   pub ghost : Ghost
@@ -91,9 +96,10 @@ pub record AnswersAt (h : History) (w : WorldCore) (other : Job) (s : SystemStat
   pub failed : FailedThere fault at.before at.behind.daemon i (job_at h other i).device
   pub came : CameAsItRan i at.before at.behind
   pub whole : (session : Session DeviceState) (now : SessionAt at.behind i session) → now.endpoint.client.out ≡ []
+  pub later : StandsFor h other at.behind i (after_transition s (By i (Actions.Answers challenge fault)))
 
 abbrev pub AnsweredSo : History → WorldCore → Job → SystemState → Transition → Type 0
-AnsweredSo h w other s (By i (Actions.Answers challenge fault)) = IsUnderWay (s.job i).client.stage → AnswersAt h w other s i fault
+AnsweredSo h w other s (By i (Actions.Answers challenge fault)) = IsUnderWay (s.job i).client.stage → AnswersAt h w other s i challenge fault
 AnsweredSo h w other s x = Unit {0}
 
 -- a source that failed did so in its event
@@ -145,12 +151,12 @@ next_client : (i : ℕ) (k : Make) (ds : List ℕ) (p : JobState) (dev : Abstrac
 next_client i k ds p dev challenge fault [] = refl
 next_client i k ds p dev challenge fault (q ∷ rest) = refl
 
-spent_by : (s : SystemState) (j : ℕ) (challenge : Challenge) (fault : Option FailureCounts) → without_first (s.job j).todo ≡ [] → ((after_transition s (By j (Actions.Answers challenge fault))).job j).todo ≡ []
+pub spent_by : (s : SystemState) (j : ℕ) (challenge : Challenge) (fault : Option FailureCounts) → without_first (s.job j).todo ≡ [] → ((after_transition s (By j (Actions.Answers challenge fault))).job j).todo ≡ []
 spent_by s j challenge fault one =
     let p = s.job j in
     ap (λ (q : JobState). q.todo) (own_party s j (Actions.Answers challenge fault)) ∙ next_todo j (make_for s j) (listed_devices s) p (device_for s j) challenge fault p.todo refl one
 
-few_left : (s : SystemState) (j : ℕ) → Invariant s → IsUnderWay (s.job j).client.stage → without_first (s.job j).todo ≡ []
+pub few_left : (s : SystemState) (j : ℕ) → Invariant s → IsUnderWay (s.job j).client.stage → without_first (s.job j).todo ≡ []
 few_left s j sound on = few j (make_for s j) (s.job j) (device_for s j) (s.job j).client.stage (sound.exchanges j) on
 
 answered : (s : SystemState) (j : ℕ) (challenge : Challenge) (fault : Option FailureCounts) → Invariant s → IsUnderWay ((after_transition s (By j (Actions.Answers challenge fault))).job j).client.stage → ((after_transition s (By j (Actions.Answers challenge fault))).job j).todo ≡ []
@@ -193,7 +199,7 @@ spent_then infos (Load name source) s x sound of i challenge fault other = absur
 spent_then infos (Unplug name) s x sound of i challenge fault other = absurd other
 
 -- where none is left, the event leaves none
-abbrev NoneLeft : ℕ → SystemState → Type 0
+abbrev pub NoneLeft : ℕ → SystemState → Type 0
 NoneLeft k s = (s.job k).todo ≡ []
 
 still_none : (infos : List DeviceInfo) (k n : ℕ) (s : SystemState) (x : Transition) → StepOf infos (ToDaemon k n) x → NoneLeft k s → NoneLeft k (after_transition s x)
@@ -208,6 +214,31 @@ still_none infos k n s (Uses u d shown left) of none = absurd of
 all_none : (infos : List DeviceInfo) (k n : ℕ) (xs : List Transition) (s : SystemState) → AreOf infos (ToDaemon k n) xs → NoneLeft k s → NoneLeft k (after_all s xs)
 all_none infos k n [] s of none = none
 all_none infos k n (x ∷ xs) s of none = all_none infos k n xs (after_transition s x) of.1 (still_none infos k n s x of.0 none)
+
+-- a session that ended takes no step more
+served_off : (s : SystemState) (j k : ℕ) → j ≡ k → (s.job j).served ≡ true → (s.job k).served ≡ false → ⊥
+served_off s j k same on off = let clash : true ≡ false = sym on ∙ (ap (λ (m : ℕ). (s.job m).served) same ∙ off) in cc
+
+pub off_stays : (infos : List DeviceInfo) (k n : ℕ) (xs : List Transition) (s : SystemState) → AreOf infos (ToDaemon k n) xs → IsHistory s xs → (s.job k).served ≡ false → ((after_all s xs).job k).served ≡ false
+off_stays infos k n [] s of may off = off
+off_stays infos k n (By j (Actions.Answers challenge fault) ∷ xs) s of may off = absurd (served_off s j k of.0.0 may.0.0 off)
+off_stays infos k n (By j (Actions.Breaks memory) ∷ xs) s of may off = absurd (served_off s j k of.0.0 may.0.0 off)
+off_stays infos k n (By j x ∷ xs) s of may off = absurd of.0.1
+off_stays infos k n (Loads d page ∷ xs) s of may off = absurd of.0
+off_stays infos k n (Unplugs d ∷ xs) s of may off = absurd of.0
+off_stays infos k n (Uses u d shown left ∷ xs) s of may off = absurd of.0
+
+-- where no request is left, all stays, or the session ends
+pub ends_or_stays : (infos : List DeviceInfo) (k n : ℕ) (xs : List Transition) (s : SystemState) → AreOf infos (ToDaemon k n) xs → IsHistory s xs → NoneLeft k s → (after_all s xs ≡ s) ⊎ (((after_all s xs).job k).served ≡ false)
+ends_or_stays infos k n [] s of may none = inl refl
+ends_or_stays infos k n (By j (Actions.Answers challenge fault) ∷ xs) s of may none = absurd (may.0.1 (subst (λ (m : ℕ). NoneLeft m s) (sym of.0.0) none))
+ends_or_stays infos k n (By j (Actions.Breaks memory) ∷ xs) s of may none =
+    let ended : ((after_transition s (By j (Actions.Breaks memory))).job j).served ≡ false = ap (λ (q : JobState). q.served) (own_party s j (Actions.Breaks memory)) in
+    inr (off_stays infos k n xs (after_transition s (By j (Actions.Breaks memory))) of.1 may.1 (subst (λ (m : ℕ). ((after_transition s (By j (Actions.Breaks memory))).job m).served ≡ false) of.0.0 ended))
+ends_or_stays infos k n (By j x ∷ xs) s of may none = absurd of.0.1
+ends_or_stays infos k n (Loads d page ∷ xs) s of may none = absurd of.0
+ends_or_stays infos k n (Unplugs d ∷ xs) s of may none = absurd of.0
+ends_or_stays infos k n (Uses u d shown left ∷ xs) s of may none = absurd of.0
 
 -- the event can happen to its job, where it is one that a job ends by, or a delivery to the daemon
 abbrev CanEvent : WorldCore → Event → Type 0
@@ -260,14 +291,23 @@ record Between (h : History) (w : WorldCore) (other : Job) (e : Event) (m : Mome
   pub stands : WorldRefines t m.before
   pub fixed : IsFixed h other t
   pub behind : WorldRefines g m.behind
+  pub fixed_behind : IsFixed h other g
   pub came : CameEvent t.system m.before m.behind e
 
+-- behind the first step, where the session stands
+stands_later : (h : History) (w : WorldCore) (other : Job) (i n : ℕ) (m : Moment h w (ToDaemon i n)) (t g : Ghost) → Between h w other (ToDaemon i n) m t g → (s : SystemState) (xs : List Transition) → AreOf t.infos (ToDaemon i n) xs → IsHistory s xs → NoneLeft i s → g.system ≡ after_all s xs → StandsFor h other m.behind i s
+stands_later h w other i n m t g b s xs of may none rules session now = elim (ends_or_stays t.infos i n xs s of may none) [
+  | inl same ↦ (g, b.fixed_behind, b.behind, rules ∙ same)
+  | inr off ↦ absurd (let clash : true ≡ false = sym (served_at g m.behind i session b.behind now) ∙ (ap (λ (u : SystemState). (u.job i).served) rules ∙ off) in cc)
+]
+
 -- of the first step, in the state that the world in front of the event stood for
-at_first_step : (h : History) (w : WorldCore) (other : Job) (e : Event) (m : Moment h w e) (t g : Ghost) → Between h w other e m t g → (x : Transition) (xs : List Transition) → StepOf t.infos e x → AreOf t.infos e xs → g.system ≡ after_all (after_transition t.system x) xs → FailsSo (FailedHere h w other e m) t.system x → AnsweredSo h w other t.system x
-at_first_step h w other e m t g b (By i (Actions.Answers challenge fault)) xs of more rules fails = λ on.
+at_first_step : (h : History) (w : WorldCore) (other : Job) (e : Event) (m : Moment h w e) (t g : Ghost) → Between h w other e m t g → (x : Transition) (xs : List Transition) → StepOf t.infos e x → AreOf t.infos e xs → IsHistory (after_transition t.system x) xs → g.system ≡ after_all (after_transition t.system x) xs → FailsSo (FailedHere h w other e m) t.system x → AnsweredSo h w other t.system x
+at_first_step h w other e m t g b (By i (Actions.Answers challenge fault)) xs of more may rules fails = λ on.
     let failed = there_if fault m.before m.behind.daemon i (job_at h other i).device (fails_there (FailedHere h w other e m) t.system i challenge fault fails on) in
     let r = answers_event (λ (event : Event). (at : Moment h w event) × Between h w other event at t g × FailedThere fault at.before at.behind.daemon i (job_at h other i).device × AreOf t.infos event xs) t.infos i challenge fault e (m, b, failed, more) of in
-    let none = all_none t.infos i r.0 xs (after_transition t.system (By i (Actions.Answers challenge fault))) r.1.3 (spent_by t.system i challenge fault (few_left t.system i b.stands.sound on)) in
+    let spent = spent_by t.system i challenge fault (few_left t.system i b.stands.sound on) in
+    let none = all_none t.infos i r.0 xs (after_transition t.system (By i (Actions.Answers challenge fault))) r.1.3 spent in
     record {
       n = r.0;
       at = r.1.0;
@@ -278,8 +318,9 @@ at_first_step h w other e m t g b (By i (Actions.Answers challenge fault)) xs of
       failed = r.1.2;
       came = r.1.1.came on;
       whole = all_sent g r.1.0.behind i r.1.1.behind (ap (λ (s : SystemState). (s.job i).todo) rules ∙ none);
+      later = stands_later h w other i r.0 r.1.0 t g r.1.1 (after_transition t.system (By i (Actions.Answers challenge fault))) xs r.1.3 may spent rules;
     }
-at_first_step h w other e m t g b x xs of more rules fails = tt
+at_first_step h w other e m t g b x xs of more may rules fails = tt
 
 not_again : (h : History) (w : WorldCore) (other : Job) (infos : List DeviceInfo) (e : Event) (s : SystemState) (x : Transition) → IsSpent infos e s → StepOf infos e x → IsEnabled s x → AnsweredSo h w other s x
 not_again h w other infos e s (By i (Actions.Answers challenge fault)) spent of may = λ on. absurd (may.1 (spent i challenge fault of on))
@@ -290,12 +331,12 @@ later_steps keeps h w other infos e [] s sound spent of may = tt
 later_steps keeps h w other infos e (x ∷ xs) s sound spent of may =
     (not_again h w other infos e s x spent of.0 may.0, later_steps keeps h w other infos e xs (after_transition s x) (keeps s (x ∷ []) sound (may.0, tt)) (spent_then infos e s x sound of.0) of.1 may.1)
 
-event_answers : HistoriesKeepInvariant → (h : History) (w : WorldCore) (other : Job) (e : Event) (m : Moment h w e) (t g : Ghost) → WorldRefines t m.before → IsFixed h other t → WorldRefines g m.behind → (xs : List Transition) → CameEvent t.system m.before m.behind e ⊎ (xs ≡ []) → g.system ≡ after_all t.system xs → AreOf t.infos e xs → AllAlong (FailsSo (FailedHere h w other e m)) t.system xs → IsHistory t.system xs → AllAlong (AnsweredSo h w other) t.system xs
-event_answers keeps h w other e m t g stands fixed behind [] came rules of fails may = tt
-event_answers keeps h w other e m t g stands fixed behind (x ∷ xs) (inr none) rules of fails may = absurd (let clash : ◌≡◌ {A = List Transition} (x ∷ xs) [] = none in cc)
-event_answers keeps h w other e m t g stands fixed behind (x ∷ xs) (inl came) rules of fails may =
-    let b : Between h w other e m t g = record { stands = stands; fixed = fixed; behind = behind; came = came } in
-    (at_first_step h w other e m t g b x xs of.0 of.1 rules fails.0, later_steps keeps h w other t.infos e xs (after_transition t.system x) (keeps t.system (x ∷ []) stands.sound (may.0, tt)) (spent_then t.infos e t.system x stands.sound of.0) of.1 may.1)
+event_answers : HistoriesKeepInvariant → (h : History) (w : WorldCore) (other : Job) (e : Event) (m : Moment h w e) (t g : Ghost) → WorldRefines t m.before → IsFixed h other t → WorldRefines g m.behind → IsFixed h other g → (xs : List Transition) → CameEvent t.system m.before m.behind e ⊎ (xs ≡ []) → g.system ≡ after_all t.system xs → AreOf t.infos e xs → AllAlong (FailsSo (FailedHere h w other e m)) t.system xs → IsHistory t.system xs → AllAlong (AnsweredSo h w other) t.system xs
+event_answers keeps h w other e m t g stands fixed behind fixed_behind [] came rules of fails may = tt
+event_answers keeps h w other e m t g stands fixed behind fixed_behind (x ∷ xs) (inr none) rules of fails may = absurd (let clash : ◌≡◌ {A = List Transition} (x ∷ xs) [] = none in cc)
+event_answers keeps h w other e m t g stands fixed behind fixed_behind (x ∷ xs) (inl came) rules of fails may =
+    let b : Between h w other e m t g = record { stands = stands; fixed = fixed; behind = behind; fixed_behind = fixed_behind; came = came } in
+    (at_first_step h w other e m t g b x xs of.0 of.1 may.1 rules fails.0, later_steps keeps h w other t.infos e xs (after_transition t.system x) (keeps t.system (x ∷ []) stands.sound (may.0, tt)) (spent_then t.infos e t.system x stands.sound of.0) of.1 may.1)
 
 -- ---- what else comes to a job that is under way, comes by an event that came to it as it ran
 
@@ -381,7 +422,7 @@ after_then : (s : SystemState) (xs ys : List Transition) → after_all s (xs ++ 
 after_then s [] ys = refl
 after_then s (x ∷ xs) ys = after_then (after_transition s x) xs ys
 
-one_comes : (e : Event) (t : Ghost) (steps : List Transition) (u : Ghost) → GhostComesAll source_state (e ∷ []) t steps u → GhostComes source_state e t steps u
+pub one_comes : (e : Event) (t : Ghost) (steps : List Transition) (u : Ghost) → GhostComesAll source_state (e ∷ []) t steps u → GhostComes source_state e t steps u
 one_comes e t steps u (first, more, v, is, comes, (none, same)) =
     let steps_are : steps ≡ first = is ∙ (ap (λ (xs : List Transition). first ++ xs) none ∙ append-nil first) in
     subst (λ (xs : List Transition). GhostComes source_state e t xs u) (sym steps_are) (subst (GhostComes source_state e t first) (sym same) comes)
@@ -494,7 +535,7 @@ one_comes_then laws h w other make e m more t loads fit may fixed made next =
       legal = history_then t.system r.steps later.steps r.legal (subst (λ (s : SystemState). IsHistory s later.steps) r.rules_are later.legal);
       rules_are = later.rules_are ∙ (ap (λ (s : SystemState). after_all s later.steps) r.rules_are ∙ sym (after_then t.system r.steps later.steps));
       stands = later.stands;
-      answered = along_then (AnsweredSo h w other) t.system r.steps later.steps (event_answers laws.keeps h w other e m t g stands fixed r.stands r.steps came r.rules_are of fails r.legal) (subst (λ (s : SystemState). AllAlong (AnsweredSo h w other) s later.steps) r.rules_are later.answered);
+      answered = along_then (AnsweredSo h w other) t.system r.steps later.steps (event_answers laws.keeps h w other e m t g stands fixed r.stands (same ∙ fixed) r.steps came r.rules_are of fails r.legal) (subst (λ (s : SystemState). AllAlong (AnsweredSo h w other) s later.steps) r.rules_are later.answered);
       happened = along_then (HappenedSo h w other) t.system r.steps later.steps (event_happened laws.last h w other e m t r.steps r.legal of fails (event_sends e t g u v r.steps stands r.stands c) came) (subst (λ (s : SystemState). AllAlong (HappenedSo h w other) s later.steps) r.rules_are later.happened);
     }
 

@@ -16,14 +16,15 @@ use Rattle.dispatch.specs.declared.table.place.Place.{Place}
 use Rattle.dispatch.specs.declared.table.place.Slot.{Slot}
 use Rattle.dispatch.specs.declared.table.place.Slot.TheVariants.{In, Out, Gone}
 use Rattle.dispatch.specs.Table.{find_name}
+use Rattle.saned_requests.specs.declared.session.Session.{Session}
 use Rattle.scan_job.specs.declared.job.Job.{Job}
 use Rattle.system_model.specs.AbstractMessages.{AbstractReply, AbstractRequest, Challenge, Open, Authorize, Get, Set, Start, Greeted, Listed, Opened, Challenged, Described, Got, Gave, Shaped, Begun, Acked, Refused, same_text}
 use Rattle.system_model.specs.AbstractDevices.{AbstractDevice, ScanPhase, Resting, Between, Reading, is_held_by, is_resting, without_first}
 use Rattle.system_model.specs.Actions
-use Rattle.system_model.specs.Actions.{Action, answer_next, environment_of, job_after_action, served_by}
+use Rattle.system_model.specs.Actions.{Action, answer_next, device_after_answer, environment_of, job_after_action, served_by}
 use Rattle.system_model.specs.Client.{AbstractJob, AbstractProgress, ClientView, JobStage, AbstractTask, Idle, Running, Done, Ended, Greeting, Listing, Opening, Allowing, Describing, Putting, Getting, Starting, Shaping, Imaging, List_, Show, SetOnly, Scan, Batch, progress_after_init}
 use Rattle.system_model.specs.ClientReplies.{finish_in, hear_at, hear_in, client_after_bytes, stage_after_stop}
-use Rattle.system_model.specs.Daemon.{Environment, FailureCounts, TransferState, Quiet, Waiting, Streaming, Ending, allow, answer, answer_awaited, answer_if, begin_page, begin_pass, get_reply, hand_out_device, open_listed, put_reply, refuse, serve, set_reply, start_at, start_effect, start_or_fail, start_page, take_listed}
+use Rattle.system_model.specs.Daemon.{AnswerEffect, Environment, FailureCounts, TransferState, Quiet, Waiting, Streaming, Ending, allow, answer, answer_awaited, answer_if, begin_page, begin_pass, get_reply, hand_out_device, open_listed, put_reply, refuse, serve, set_reply, start_at, start_effect, start_or_fail, start_page, take_listed}
 use Rattle.system_model.specs.Devices.{Make, AbstractAcceptedSet, accept_value, has_readable_value, picture_frames}
 use Rattle.system_model.specs.SystemStates.{JobState, SystemState, device_for, listed_devices, make_for, wanted_place}
 use Rattle.system_model.specs.Transitions.{By, IsEnabled, IsActionEnabled, IsHistory, IsUnderWay, Loads, Transition, Unplugs, Uses, after_all, after_transition}
@@ -33,29 +34,31 @@ use Rattle.event_world.specs.Worlds.{WorldCore}
 use Rattle.world_refines.specs.FailedSources.{AllAlong}
 use Rattle.world_refines.specs.GhostStates.{Ghost, backend_of, is_guarded, name_at, place_named}
 use Rattle.world_refines.specs.WorldRefinement.{HaveDifferentNames, WorldRefines, stranger_of}
+use Rattle.world_refines.proofs.job_events.Constant.{Fixed}
 use Rattle.world_refines.proofs.state.Finding.{find_there, names_at}
 use Rattle.scan_world.specs.Endings.{HasPassed, WasOpened}
 use Rattle.scan_world.specs.Histories.{History}
-use Rattle.scan_world.specs.Sessions.{Has, StrangerHas}
+use Rattle.scan_world.specs.Sessions.{Has, SessionAt, StrangerHas}
 use Rattle.scan_world.proofs.Evident.{Opens}
 use Rattle.scan_world.proofs.Along.{Here, Laws, own_place}
 use Rattle.scan_world.proofs.Begun.{job_stays, party_stays}
 use Rattle.scan_world.proofs.Pages.{HasDevice, IsOfOne, name_there}
 use Rattle.scan_world.proofs.Scanned.{infos_of, name_of}
-use Rattle.scan_world.proofs.moments.Entries.{own_party, unsome}
+use Rattle.scan_world.proofs.moments.Entries.{own_device, own_party, unsome}
 use Rattle.scan_world.proofs.moments.Judged.{Front, asked_open, here_then, infos_there, judged_by}
-use Rattle.scan_world.proofs.moments.Moments.{AnsweredSo}
+use Rattle.scan_world.proofs.moments.Moments.{AnsweredSo, AnswersAt}
 use Rattle.scan_world.proofs.moments.Requests.{IsOpening}
-use Rattle.scan_world.proofs.moments.Stands.{has_holds, stranger_holds, table_of}
+use Rattle.scan_world.proofs.moments.Stands.{has_holds, job_has, stranger_holds, table_of}
 
 -- ---- what an opening comes from
 
--- the device is listed and free, and may be opened
-pub record Grants (dev : AbstractDevice) (awaited : Option Challenge) (x : Environment) (q : AbstractRequest) : Type 0 where
+-- the device is listed and free, and may be opened; and client i has it then
+pub record Grants (i : ℕ) (left : AnswerEffect) (dev : AbstractDevice) (awaited : Option Challenge) (x : Environment) (q : AbstractRequest) : Type 0 where
   pub opens : IsOpening q
   pub listed : dev.listed ≡ true
   pub free : dev.holder ≡ None
   pub permitted : (x.guarded ≡ false) ⊎ ((c : Challenge) × (awaited ≡ Some c) × (x.allows c ≡ true))
+  pub takes : left.device.holder ≡ Some i
 
 -- where one of these tells that the device is opened, that is so
 abbrev pub TellsIf : Type 0 → List AbstractReply → Type 0
@@ -76,8 +79,8 @@ open_grants F i k dev c challenge false guarded f = tt
 open_grants F i k dev c challenge true true f = tt
 open_grants F i k dev c challenge true false f = hand_grants F i k dev c dev.holder (f refl refl)
 
-allow_grants : (F : Type 0) (i : ℕ) (k : Make) (dev : AbstractDevice) (c : TransferState) (a b : Bool) → (b ≡ true → dev.listed ≡ true → dev.holder ≡ None → F) → TellsIf F (allow i k dev c a b).told
-allow_grants F i k dev c true true f = take_grants F i k dev c dev.listed (f refl)
+allow_grants : (F : Type 0) (i : ℕ) (k : Make) (dev : AbstractDevice) (c : TransferState) (a b : Bool) → (a ≡ true → b ≡ true → dev.listed ≡ true → dev.holder ≡ None → F) → TellsIf F (allow i k dev c a b).told
+allow_grants F i k dev c true true f = take_grants F i k dev c dev.listed (f refl refl)
 allow_grants F i k dev c true false f = tt
 allow_grants F i k dev c false b f = tt
 
@@ -120,30 +123,47 @@ start_grants F k dev x Waiting = tt
 start_grants F k dev x Streaming = tt
 start_grants F k dev x Ending = tt
 
-open_free : (i : ℕ) (k : Make) (dev : AbstractDevice) (c : TransferState) (x : Environment) → TellsIf (Grants dev None x Open) (open_listed i k dev c x.challenge dev.listed x.guarded).told
-open_free i k dev c x = open_grants (Grants dev None x Open) i k dev c x.challenge dev.listed x.guarded (λ listed unguarded free. record { opens = tt; listed = listed; free = free; permitted = inl unguarded })
+abbrev Opens_to : ℕ → Make → AbstractDevice → TransferState → Environment → AnswerEffect
+Opens_to i k dev c x = open_listed i k dev c x.challenge dev.listed x.guarded
 
-serve_grants : (i : ℕ) (k : Make) (dev : AbstractDevice) (c : TransferState) (x : Environment) (q : AbstractRequest) → TellsIf (Grants dev None x q) (serve i k dev c x q).told
+open_free : (i : ℕ) (k : Make) (dev : AbstractDevice) (c : TransferState) (x : Environment) → TellsIf (Grants i (Opens_to i k dev c x) dev None x Open) (Opens_to i k dev c x).told
+open_free i k dev c x = open_grants (Grants i (Opens_to i k dev c x) dev None x Open) i k dev c x.challenge dev.listed x.guarded (λ listed unguarded free. record {
+  opens = tt;
+  listed = listed;
+  free = free;
+  permitted = inl unguarded;
+  takes = ap (λ (b : Bool). (open_listed i k dev c x.challenge b x.guarded).device.holder) listed
+      ∙ (ap (λ (b : Bool). (open_listed i k dev c x.challenge true b).device.holder) unguarded ∙ ap (λ (o : Option ℕ). (hand_out_device i k dev c o).device.holder) free);
+})
+
+serve_grants : (i : ℕ) (k : Make) (dev : AbstractDevice) (c : TransferState) (x : Environment) (q : AbstractRequest) → TellsIf (Grants i (serve i k dev c x q) dev None x q) (serve i k dev c x q).told
 serve_grants i k dev c x Open = open_free i k dev c x
-serve_grants i k dev c x (Get n) = get_grants (Grants dev None x (Get n)) k dev c n (has_readable_value k dev.options n)
-serve_grants i k dev c x (Set n value) = set_grants (Grants dev None x (Set n value)) k dev c n value (is_resting dev.phase)
-serve_grants i k dev c x Start = start_grants (Grants dev None x Start) k dev x c
+serve_grants i k dev c x (Get n) = get_grants (Grants i (serve i k dev c x (Get n)) dev None x (Get n)) k dev c n (has_readable_value k dev.options n)
+serve_grants i k dev c x (Set n value) = set_grants (Grants i (serve i k dev c x (Set n value)) dev None x (Set n value)) k dev c n value (is_resting dev.phase)
+serve_grants i k dev c x Start = start_grants (Grants i (serve i k dev c x Start) dev None x Start) k dev x c
 serve_grants i k dev c x q = tt
 
-refuse_grants : (i : ℕ) (k : Make) (dev : AbstractDevice) (c : TransferState) (x : Environment) (q : AbstractRequest) → TellsIf (Grants dev None x q) (refuse i k dev c x q).told
+refuse_grants : (i : ℕ) (k : Make) (dev : AbstractDevice) (c : TransferState) (x : Environment) (q : AbstractRequest) → TellsIf (Grants i (refuse i k dev c x q) dev None x q) (refuse i k dev c x q).told
 refuse_grants i k dev c x Open = open_free i k dev c x
 refuse_grants i k dev c x q = tt
 
-awaited_grants : (i : ℕ) (k : Make) (dev : AbstractDevice) (c : TransferState) (x : Environment) (sent : Challenge) (q : AbstractRequest) → TellsIf (Grants dev (Some sent) x q) (answer_awaited i k dev c x sent q).told
+awaited_grants : (i : ℕ) (k : Make) (dev : AbstractDevice) (c : TransferState) (x : Environment) (sent : Challenge) (q : AbstractRequest) → TellsIf (Grants i (answer_awaited i k dev c x sent q) dev (Some sent) x q) (answer_awaited i k dev c x sent q).told
 awaited_grants i k dev c x sent (Authorize challenge) =
-    allow_grants (Grants dev (Some sent) x (Authorize challenge)) i k dev c (same_text challenge sent) (x.allows sent) (λ allowed listed free. record { opens = tt; listed = listed; free = free; permitted = inr (sent, refl, allowed) })
+    allow_grants (Grants i (answer_awaited i k dev c x sent (Authorize challenge)) dev (Some sent) x (Authorize challenge)) i k dev c (same_text challenge sent) (x.allows sent) (λ same allowed listed free. record {
+      opens = tt;
+      listed = listed;
+      free = free;
+      permitted = inr (sent, refl, allowed);
+      takes = ap (λ (b : Bool). (allow i k dev c b (x.allows sent)).device.holder) same ∙ (ap (λ (b : Bool). (allow i k dev c true b).device.holder) allowed
+          ∙ (ap (λ (b : Bool). (take_listed i k dev c b).device.holder) listed ∙ ap (λ (o : Option ℕ). (hand_out_device i k dev c o).device.holder) free));
+    })
 awaited_grants i k dev c x sent q = tt
 
-if_grants : (b : Bool) (i : ℕ) (k : Make) (dev : AbstractDevice) (c : TransferState) (x : Environment) (q : AbstractRequest) → TellsIf (Grants dev None x q) (answer_if b i k dev c x q).told
+if_grants : (b : Bool) (i : ℕ) (k : Make) (dev : AbstractDevice) (c : TransferState) (x : Environment) (q : AbstractRequest) → TellsIf (Grants i (answer_if b i k dev c x q) dev None x q) (answer_if b i k dev c x q).told
 if_grants true i k dev c x q = serve_grants i k dev c x q
 if_grants false i k dev c x q = refuse_grants i k dev c x q
 
-answer_grants : (i : ℕ) (k : Make) (dev : AbstractDevice) (c : TransferState) (awaited : Option Challenge) (x : Environment) (q : AbstractRequest) → TellsIf (Grants dev awaited x q) (answer i k dev c awaited x q).told
+answer_grants : (i : ℕ) (k : Make) (dev : AbstractDevice) (c : TransferState) (awaited : Option Challenge) (x : Environment) (q : AbstractRequest) → TellsIf (Grants i (answer i k dev c awaited x q) dev awaited x q) (answer i k dev c awaited x q).told
 answer_grants i k dev c None x q = if_grants (is_held_by i dev.holder) i k dev c x q
 answer_grants i k dev c (Some sent) x q = awaited_grants i k dev c x sent q
 
@@ -189,8 +209,24 @@ permitted_by h w i job s e on served a o (inr (c, awaited, allows)) = inr (judge
 abbrev pub IsOpened : History → WorldCore → ℕ → Job → Type 0
 IsOpened h w i job = WasOpened h w i job × HasDevice h (place_named (infos_of h) job.device)
 
-opened_by : (h : History) (w : WorldCore) (i : ℕ) (job : Job) (s : SystemState) (x : Environment) (q : AbstractRequest) (rest : List AbstractRequest) → Here h i job s → IsUnderWay (s.job i).client.stage → (s.job i).served ≡ true → Front h w job s i → (s.job i).todo ≡ q ∷ rest → x.guarded ≡ (s.job i).session.job.guarded → x.allows ≡ (s.job i).session.job.allows → Grants (device_for s i) (s.job i).session.awaited x q → IsOpened h w i job
-opened_by h w i job s x q rest e on served a todo guards allows g =
+-- the answer to it
+abbrev Answered : SystemState → ℕ → Challenge → Option FailureCounts → AbstractRequest → AnswerEffect
+Answered s i challenge fault q = served_by i (make_for s i) (listed_devices s) (s.job i) (device_for s i) challenge fault q
+
+-- behind the event its session, where it stands, has the device that was opened
+has_behind : (h : History) (w : WorldCore) (i : ℕ) (job : Job) (s : SystemState) (challenge : Challenge) (fault : Option FailureCounts) (q : AbstractRequest) (rest : List AbstractRequest) (m : AnswersAt h w job s i challenge fault) → (s.job i).todo ≡ q ∷ rest → (Answered s i challenge fault q).device.holder ≡ Some i → name_at (infos_of h) (wanted_place s i) ≡ Some job.device → (session : Session DeviceState) → SessionAt m.at.behind i session → (d : DeviceState) × Has m.at.behind i job.device d
+has_behind h w i job s challenge fault q rest m todo takes named session now =
+    let b = m.later session now in
+    let k = wanted_place s i in
+    let dev : b.0.system.device k ≡ (Answered s i challenge fault q).device =
+    ap (λ (u : SystemState). u.device k) b.3 ∙ (own_device s i (Actions.Answers challenge fault) ∙ ap (device_after_answer i (make_for s i) (listed_devices s) (s.job i) (device_for s i) challenge fault) todo) in
+    let there : name_at b.0.infos k ≡ Some job.device = subst (λ (infos : List DeviceInfo). name_at infos k ≡ Some job.device) (sym (ap (λ (f : Fixed). f.1) b.1)) named in
+    let has = job_has b.0 m.at.behind k i job.device now.endpoint now.is_there b.2 (ap (λ (x : AbstractDevice). x.holder) dev ∙ takes) there in
+    (has.0, has.1)
+
+opened_by : (h : History) (w : WorldCore) (i : ℕ) (job : Job) (s : SystemState) (challenge : Challenge) (fault : Option FailureCounts) (x : Environment) (q : AbstractRequest) (rest : List AbstractRequest) → Here h i job s → IsUnderWay (s.job i).client.stage → (s.job i).served ≡ true → AnswersAt h w job s i challenge fault → (s.job i).todo ≡ q ∷ rest → x.guarded ≡ (s.job i).session.job.guarded → x.allows ≡ (s.job i).session.job.allows → Grants i (Answered s i challenge fault q) (device_for s i) (s.job i).session.awaited x q → IsOpened h w i job
+opened_by h w i job s challenge fault x q rest e on served m todo guards allows g =
+    let a : Front h w job s i = ((challenge, fault), m) in
     let d = place_named (infos_of h) job.device in
     let place : wanted_place s i ≡ d = e.fine.places i ∙ own_place h i job e.own_job.at in
     let there : HasDevice h d = subst (HasDevice h) place ((e.fine.slots (wanted_place s i)).listed g.listed) in
@@ -207,6 +243,7 @@ opened_by h w i job s x q rest e on served a todo guards allows g =
       free = none_has t a.1.at.before job.device (wanted_place s i) a.1.stands (ap (λ (dev : AbstractDevice). dev.holder) same ∙ g.free) named;
       unshared = none_shares t a.1.at.before job.device (wanted_place s i) a.1.stands (ap (λ (dev : AbstractDevice). dev.holder) same ∙ g.free) named;
       permitted = permitted_by h w i job s e on served a (q, rest, todo, g.opens) may;
+      taken = has_behind h w i job s challenge fault q rest m todo g.takes (subst (λ (k : ℕ). name_at (infos_of h) k ≡ Some job.device) (sym place) name);
     } in
     (opened, there)
 
@@ -426,12 +463,12 @@ abbrev pub OpenedSo : Type 0 → JobState → Type 0
 OpenedSo F p = OpenedAt F p.session.job.task p.client.stage × TellsIf F p.due
 
 answers_so : (F : Type 0) (i : ℕ) (k : Make) (ds : List ℕ) (p : JobState) (dev : AbstractDevice) (challenge : Challenge) (fault : Option FailureCounts) (qs : List AbstractRequest) → p.todo ≡ qs →
-    ((q : AbstractRequest) (rest : List AbstractRequest) → p.todo ≡ q ∷ rest → Grants dev p.session.awaited (environment_of p.session ds challenge fault) q → F) → OpenedSo F p → OpenedSo F (answer_next i k ds p dev challenge fault qs)
+    ((q : AbstractRequest) (rest : List AbstractRequest) → p.todo ≡ q ∷ rest → Grants i (served_by i k ds p dev challenge fault q) dev p.session.awaited (environment_of p.session ds challenge fault) q → F) → OpenedSo F p → OpenedSo F (answer_next i k ds p dev challenge fault qs)
 answers_so F i k ds p dev challenge fault [] todo f o = o
 answers_so F i k ds p dev challenge fault (q ∷ rest) todo f o =
     let x = environment_of p.session ds challenge fault in
     let told = answer_grants i k dev p.session.transfer p.session.awaited x q in
-    (o.0, all_told F p.due (served_by i k ds p dev challenge fault q).told o.1 (told_by (Grants dev p.session.awaited x q) F (served_by i k ds p dev challenge fault q).told (f q rest todo) told))
+    (o.0, all_told F p.due (served_by i k ds p dev challenge fault q).told o.1 (told_by (Grants i (served_by i k ds p dev challenge fault q) dev p.session.awaited x q) F (served_by i k ds p dev challenge fault q).told (f q rest todo) told))
 
 hears_so : (F : Type 0) (p : JobState) (r : AbstractReply) → ((rest : List AbstractReply) × (p.due ≡ r ∷ rest)) → OpenedSo F p → OpenedAt F p.session.job.task (hear_in p.client.stage p.session.job p.client r).stage × TellsIf F (without_first p.due)
 hears_so F p r (rest, is) o =
@@ -439,7 +476,7 @@ hears_so F p r (rest, is) o =
     (heard_in F p.client.stage p.session.job p.client r refl o.0 (first_told F r rest t), subst (TellsIf F) (ap without_first (sym is)) (rest_told F r rest t))
 
 own_so : (F : Type 0) (i : ℕ) (k : Make) (ds : List ℕ) (p : JobState) (dev : AbstractDevice) (x : Action) → IsActionEnabled i k p dev x →
-    ((challenge : Challenge) (fault : Option FailureCounts) → x ≡ Actions.Answers challenge fault → (q : AbstractRequest) (rest : List AbstractRequest) → p.todo ≡ q ∷ rest → Grants dev p.session.awaited (environment_of p.session ds challenge fault) q → F) → OpenedSo F p → OpenedSo F (job_after_action i k ds p dev x)
+    ((challenge : Challenge) (fault : Option FailureCounts) → x ≡ Actions.Answers challenge fault → (q : AbstractRequest) (rest : List AbstractRequest) → p.todo ≡ q ∷ rest → Grants i (served_by i k ds p dev challenge fault q) dev p.session.awaited (environment_of p.session ds challenge fault) q → F) → OpenedSo F p → OpenedSo F (job_after_action i k ds p dev x)
 own_so F i k ds p dev Actions.Connects may f o = (tt, o.1)
 own_so F i k ds p dev (Actions.Answers challenge fault) may f o = answers_so F i k ds p dev challenge fault p.todo refl (f challenge fault refl) o
 own_so F i k ds p dev (Actions.Hears reply) may f o = hears_so F p reply may.1 o
@@ -460,7 +497,7 @@ own_so F i k ds p dev Actions.Stops may f o = (stopped_so F p.session.job.task s
 
 -- ---- all steps; of a job that is over, what was so at its end
 
-abbrev Kept : Type 0 → JobState → JobStage → Type 0
+abbrev pub Kept : Type 0 → JobState → JobStage → Type 0
 Kept F p Idle = OpenedSo F p
 Kept F p (Running g) = OpenedSo F p
 Kept F p Done = OpenedAt F p.session.job.task Done
@@ -472,17 +509,24 @@ kept_of F p (Running g) at o = o
 kept_of F p Done at o = subst (OpenedAt F p.session.job.task) at o.0
 kept_of F p (Ended status why) at o = tt
 
-abbrev KeptNow : Type 0 → JobState → Type 0
+abbrev pub KeptNow : Type 0 → JobState → Type 0
 KeptNow F p = Kept F p p.client.stage
+
+-- of a job that is under way
+pub under_so : (F : Type 0) (p : JobState) (stage : JobStage) → IsUnderWay stage → Kept F p stage → OpenedSo F p
+under_so F p Idle on k = k
+under_so F p (Running g) on k = k
+under_so F p Done on k = absurd on
+under_so F p (Ended status why) on k = absurd on
 
 under_step : (h : History) (w : WorldCore) (i : ℕ) (job : Job) (s : SystemState) (x : Action) → Here h i job s → IsUnderWay (s.job i).client.stage → AnsweredSo h w job s (By i x) → IsEnabled s (By i x) → OpenedSo (IsOpened h w i job) (s.job i) → KeptNow (IsOpened h w i job) ((after_transition s (By i x)).job i)
 under_step h w i job s x e on so may o =
     let F = IsOpened h w i job in
     let p = s.job i in
     let then_is = own_so F i (make_for s i) (listed_devices s) p (device_for s i) x may (λ challenge fault is q rest todo g.
-    let front : Front h w job s i = (fault, (subst (λ (y : Action). AnsweredSo h w job s (By i y)) is so) on) in
+    let front : AnswersAt h w job s i challenge fault = (subst (λ (y : Action). AnsweredSo h w job s (By i y)) is so) on in
     let served : p.served ≡ true = (subst (λ (y : Action). IsActionEnabled i (make_for s i) p (device_for s i) y) is may).0 in
-    opened_by h w i job s (environment_of p.session (listed_devices s) challenge fault) q rest e on served front todo refl refl g) o in
+    opened_by h w i job s challenge fault (environment_of p.session (listed_devices s) challenge fault) q rest e on served front todo refl refl g) o in
     subst (KeptNow F) (sym (own_party s i x)) (kept_of F (job_after_action i (make_for s i) (listed_devices s) p (device_for s i) x) _ refl then_is)
 
 over_step : Laws → (F : Type 0) (s : SystemState) (i : ℕ) (x : Action) (stage : JobStage) → (s.job i).client.stage ≡ stage → (IsUnderWay stage → ⊥) → IsEnabled s (By i x) → Kept F (s.job i) stage → KeptNow F ((after_transition s (By i x)).job i)
@@ -502,7 +546,7 @@ own_step laws h w i job s x (Running g) at e so may k = under_step h w i job s x
 own_step laws h w i job s x Done at e so may k = over_step laws (IsOpened h w i job) s i x Done at (λ on. on) may k
 own_step laws h w i job s x (Ended status why) at e so may k = over_step laws (IsOpened h w i job) s i x (Ended status why) at (λ on. on) may k
 
-abbrev KeptAt : History → WorldCore → ℕ → Job → SystemState → Type 0
+abbrev pub KeptAt : History → WorldCore → ℕ → Job → SystemState → Type 0
 KeptAt h w i job s = KeptNow (IsOpened h w i job) (s.job i)
 
 by_step : Laws → (h : History) (w : WorldCore) (i : ℕ) (job : Job) (s : SystemState) (j : ℕ) (x : Action) (b : Bool) → eqb i j ≡ b → Here h i job s → AnsweredSo h w job s (By j x) → IsEnabled s (By j x) → KeptAt h w i job s → KeptAt h w i job (after_transition s (By j x))
@@ -511,7 +555,7 @@ by_step laws h w i job s j x true e here so may k =
     subst (λ (n : ℕ). AnsweredSo h w job s (By n x) → IsEnabled s (By n x) → KeptAt h w i job (after_transition s (By n x))) (eqb-true i j e)
     (λ r l. own_step laws h w i job s x (s.job i).client.stage refl here r l k) so may
 
-one_step : Laws → (h : History) (w : WorldCore) (i : ℕ) (job : Job) (s : SystemState) (x : Transition) → Here h i job s → AnsweredSo h w job s x → IsEnabled s x → KeptAt h w i job s → KeptAt h w i job (after_transition s x)
+pub one_step : Laws → (h : History) (w : WorldCore) (i : ℕ) (job : Job) (s : SystemState) (x : Transition) → Here h i job s → AnsweredSo h w job s x → IsEnabled s x → KeptAt h w i job s → KeptAt h w i job (after_transition s x)
 one_step laws h w i job s (By j x) here so may k = by_step laws h w i job s j x (eqb i j) refl here so may k
 one_step laws h w i job s (Loads d page) here so may k = k
 one_step laws h w i job s (Unplugs d) here so may k = k

@@ -35,10 +35,10 @@ use Rattle.scan_world.proofs.moments.Entries.{past_end}
 use Rattle.scan_world.proofs.moments.Holder.{no_endpoints}
 use Rattle.scan_world.proofs.moments.Linked.{goes}
 
-abbrev Slot : Type 0
+abbrev pub Slot : Type 0
 Slot = SessionSlot DeviceState
 
-abbrev Slots : Type 0
+abbrev pub Slots : Type 0
 Slots = List (Option Slot)
 
 pub decide : (a b : ℕ) → (a ≡ b) ⊎ (a ≢ b)
@@ -92,7 +92,7 @@ held_first p source [] word lease e busy = e
 held_first p source (x ∷ held) word lease e busy = held_if p source x held word lease (p x) e busy (λ w there. held_first p source held w lease there busy)
 
 -- the session is as it was, or its first lease of that name has the page
-abbrev Laid : List ℕ → SourceState → Slots → Slots → ℕ → Session DeviceState → Type 0
+abbrev pub Laid : List ℕ → SourceState → Slots → Slots → ℕ → Session DeviceState → Type 0
 Laid name source old new n s = (session_in (session_slot_of new n) ≡ Some s) ⊎ (session_in (session_slot_of new n) ≡ Some (record s { held = held_with name source s.held }))
 
 laid_here : (name : List ℕ) (source : SourceState) (n : ℕ) (x : Option Slot) (slots : Slots) (s : Session DeviceState) (c : Bool) → is_slot_number n x ≡ c → session_in (if c then x else session_slot_of slots n) ≡ Some s → Laid name source (x ∷ slots) (slot_with_page name source x ∷ slots) n s
@@ -119,7 +119,7 @@ unfolding on_first
 laid_all name source n [] s is = inl is
 laid_all name source n (x ∷ slots) s is = laid_if name source n x slots s (holds name x) is (laid_all name source n slots s)
 
-laid_core : (name : List ℕ) (source : SourceState) (n : ℕ) (d : Core) (s : Session DeviceState) (b : Bool) → session_of d n ≡ Some s → Laid name source d.slots (if b then record d { slots = on_first (holds name) (slot_with_page name source) d.slots } else record d { registry = table_after_load d.registry name source }).slots n s
+pub laid_core : (name : List ℕ) (source : SourceState) (n : ℕ) (d : Core) (s : Session DeviceState) (b : Bool) → session_of d n ≡ Some s → Laid name source d.slots (if b then record d { slots = on_first (holds name) (slot_with_page name source) d.slots } else record d { registry = table_after_load d.registry name source }).slots n s
 laid_core name source n d s true is = laid_all name source n d.slots s is
 laid_core name source n d s false is = inl is
 

@@ -23,7 +23,7 @@ use Rattle.event_world.specs.declared.endpoint.Endpoint.{Endpoint}
 use Rattle.event_world.specs.declared.event.JobEvent.{JobEvent}
 use Rattle.event_world.specs.JobEvents.{job_event_of}
 use Rattle.event_world.specs.JobMoves.{moves_left_of}
-use Rattle.event_world.specs.Worlds.{Runs, WorldCore}
+use Rattle.event_world.specs.Worlds.{Leads, Runs, WorldCore}
 use Rattle.world_refines.specs.GhostStates.{Ghost, place_of_info}
 use Rattle.world_refines.specs.WorldRefinement.{WorldRefines, client_at_greeting}
 use Rattle.strangers.specs.Together.{AllIsKeptAmongStrangers}
@@ -70,7 +70,7 @@ came_there all h other u v i x l run can ran =
     let some : 0 < left_at u i = some_left (left_at u i) (λ none.
     let off = k.promises.left i ran.0 ran.1 (sym left ∙ none) in
     let clash : true ≡ false = sym (ap is_running ran.2) ∙ off in cc) in
-    let less = move_lowers (job_event_of i x ∷ []) u v run i x refl can some in
+    let less = move_lowers (job_event_of i x) u v (subst (Leads source_state (job_event_of i x) u) (sym run.2) run.1) i x refl can some in
     (ran, λ same. not_less (left_at u i) (subst (λ (w : WorldCore). left_at w i < left_at u i) same less))
 
 -- ---- who is under way was so before

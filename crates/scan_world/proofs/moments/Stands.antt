@@ -75,6 +75,17 @@ lends j make core (Some id) true device s h k is =
     let p = table_holds j make h.session.held core.registry device h.shows.devices k is in
     record { id = id; linked = refl; session = h.session; stands = h.stands; word = p.word; lease = p.lease; held = p.stands; place = p.place; lent = h.shows.devices.leases p.word p.lease p.stands }
 
+-- a session that stands is served
+served_one : (j : ℕ) (make : ℕ → Make) (core : Core) (link : Option SessionId) (served : Bool) (device : ℕ → AbstractDevice) (s : AbstractSession) → IsServed j make core link served device s → (session : Session DeviceState) → session_in (slot_of_link core link) ≡ Some session → served ≡ true
+served_one j make core link true device s h session stands = refl
+served_one j make core link false device s h session stands = absurd (let clash : None ≡ Some session = sym h.0 ∙ stands in cc)
+
+pub served_at : (t : Ghost) (w : WorldCore) (i : ℕ) (s : Session DeviceState) → WorldRefines t w → SessionAt w i s → (t.system.job i).served ≡ true
+served_at t w i s h a =
+    let e = h.endpoints i a.endpoint a.is_there in
+    let there : session_in (slot_of_link w.daemon a.endpoint.link) ≡ Some s = ap (λ (l : Option SessionId). session_in (slot_of_link w.daemon l)) a.linked ∙ a.stands in
+    served_one i t.system.make w.daemon a.endpoint.link (t.system.job i).served t.system.device (session_by i t.system.device (t.system.job i)) e.served s there
+
 lease_name : (t : Ghost) (w : WorldCore) (l : Lease DeviceState) → WorldRefines t w → IsLeaseOf l w.daemon.registry → name_at t.infos l.place ≡ Some l.device.info.name
 lease_name t w l h o =
     subst (λ (infos : List DeviceInfo). name_at infos l.place ≡ Some l.device.info.name) (sym h.is_of.infos) (names_at w.daemon.registry l.place o.place o.at ∙ ap (λ (x : List ℕ). Some x) (sym o.name))

@@ -126,7 +126,7 @@ step_starts : (h : History) (w : WorldCore) (changing : List JointEvent) (i : �
 step_starts h w changing i job s x e f on so all = subst (λ (p : JobState). AreStarts h w changing i job 0 p.session.started) (sym (own_party s i x)) (elim (started_by i (make_for s i) (listed_devices s) (s.job i) (device_for s i) x) [
   | inl same ↦ subst (AreStarts h w changing i job 0) (sym same) all
   | inr a ↦
-      let front : Front h w job s i = (a.1, (subst (λ (y : Action). AnsweredSo h w job s (By i y)) a.2 so) on) in
+      let front : Front h w job s i = ((a.0, a.1), (subst (λ (y : Action). AnsweredSo h w job s (By i y)) a.2 so) on) in
       subst (λ (y : Action). AreStarts h w changing i job 0 (job_after_action i (make_for s i) (listed_devices s) (s.job i) (device_for s i) y).session.started) (sym a.2)
       (answer_starts h w changing i job s a.0 a.1 (s.job i).todo refl e f on front all)
 ])

@@ -2,7 +2,6 @@
 use Rattle.std.specs.Prelude.{cond, option_map}
 use Rattle.std.specs.List.{AllByRecursion}
 use Rattle.std.proofs.Common.{◌≡◌, ◌≢◌, ◌∙◌, ℕ, List, [], ◌∷◌, ◌++◌, Option, Some, Bool, true, false, refl, sym, ap, subst, length, map, slice_get}
-use Rattle.netpbm.specs.Pnm.{Denotes}
 use Rattle.page_picture.specs.Page.{IsPageView}
 use Rattle.page_picture.specs.Shows.{Frame}
 use Rattle.device_api.specs.InForce as devices
@@ -45,6 +44,7 @@ use Rattle.world_refines.specs.WorldRefinement.{IsFinished, KeepsFiles, AreListe
 use Rattle.world_refines.specs.WorldPromises.{AreListed, AreReported, AreShown, HasCause, IsMeant, IsOutcome, KeepsPromise, OutcomesAreRight, ScansAreMeant}
 use Rattle.world_refines.proofs.state.Infos.{stand_there}
 use Rattle.world_refines.proofs.state.GhostClients.{under_by, woken_under}
+use Rattle.frame_join.specs.PictureText.{IsPictureFile}
 
 -- ---- a client view that is over is the model's own
 
@@ -190,7 +190,7 @@ meant_by t w i endpoint begin q file h at picture steady page_view finished give
       picture = meant.0;
       in_force = in_force;
       meant = meant.1;
-      denotes = subst (λ (x : List ℕ). Denotes x meant.0) (sym given) (finished.denotes meant.0 meant.2);
+      denotes = subst (λ (x : List ℕ). IsPictureFile x meant.0) (sym given) (finished.denotes meant.0 meant.2);
     }
 
 pub scans_are_meant : ScansAreMeant

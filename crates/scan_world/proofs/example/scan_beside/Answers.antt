@@ -9,7 +9,7 @@ pub returns-clause-scanned : goal.returns-clause-scanned
 returns-clause-scanned c = λ scan.
     let boxed = c.in-Ok-new.ensures.ok in
     let made = c.in-Ok.ensures.ok in
-    beside_boxed _ c.push.new.self.items c.into_dyn_box.result c.args.users c.push-3.new.self.items c.args.first c.args.second c.in_ok-both_ask.field-0.items _ _ _ c.args.name c.new.result c.args.page c.in_ok-outcome-2.field-0.now c.in_ok-file.field-0.now
+    beside_boxed _ c.push.new.self.items c.into_dyn_box.result c.args.users _ c.push-3.new.self.items c.args.first c.args.second c.in_ok-both_ask.field-0.items _ _ _ c.args.name c.new.result c.args.page c.in_ok-outcome-2.field-0.now c.in_ok-file.field-0.now
     c.extend_from_slice.new.self.items c.in-Ok-new-2.ensures.led c.run.ensures.led c.run_all.ensures.kept (given_file _ c.in_ok-file.field-0.now c.in_ok-file.ensures.is c.in_ok-file.ensures.kept)
     (let a = c.push.ensures.items in let b = c.is_err.ensures in let d = c.new-devices.ensures.items in let e = c.if-is_err.false in search rules)
     (read_made own-1 (own-1.entry at-1-1) at-1-1 refl _ (λ j v. j.1.state v) c.into_dyn_box.result.vtable c.into_dyn_box.result.value c.in-Ok-new.scanner.value c.into_dyn_box.ensures.1 ∙ boxed ∙ made)
@@ -26,7 +26,7 @@ pub returns-clause-busy : goal.returns-clause-busy
 returns-clause-busy c = λ yes.
     let boxed = c.in-Ok-new.ensures.ok in
     let made = c.in-Ok.ensures.ok in
-    busy_boxed _ c.push.new.self.items c.into_dyn_box.result c.args.users c.push-3.new.self.items c.args.first c.args.second c.in_ok-both_ask.field-0.items _ _ _ c.args.name c.new.result c.in_ok-outcome.field-0.now c.in-Ok-new-2.ensures.led
+    busy_boxed _ c.push.new.self.items c.into_dyn_box.result c.args.users _ c.push-3.new.self.items c.args.first c.args.second c.in_ok-both_ask.field-0.items _ _ _ c.args.name c.new.result c.in_ok-outcome.field-0.now c.in-Ok-new-2.ensures.led
     c.run.ensures.led c.run_all.ensures.kept c.in_ok-outcome.ensures.kept
     (let a = c.push.ensures.items in let b = c.is_err.ensures in let d = c.new-devices.ensures.items in let e = c.if-is_err.false in search rules)
     (read_made own-1 (own-1.entry at-1-1) at-1-1 refl _ (λ j v. j.1.state v) c.into_dyn_box.result.vtable c.into_dyn_box.result.value c.in-Ok-new.scanner.value c.into_dyn_box.ensures.1 ∙ boxed ∙ made)

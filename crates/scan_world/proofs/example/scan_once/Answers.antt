@@ -9,7 +9,7 @@ pub returns : goal.returns
 returns c = λ scan.
     let boxed = c.in-Ok-new.ensures.ok in
     let made = c.in-Ok.ensures.ok in
-    once_boxed _ c.push.new.self.items c.into_dyn_box.result c.args.users c.push-2.new.self.items c.args.job _ _ c.args.name c.new.result c.args.page c.in_ok-outcome.field-0.now c.in_ok-file.field-0.now c.extend_from_slice.new.self.items
+    once_boxed _ c.push.new.self.items c.into_dyn_box.result c.args.users _ c.push-2.new.self.items c.args.job _ _ c.args.name c.new.result c.args.page c.in_ok-outcome.field-0.now c.in_ok-file.field-0.now c.extend_from_slice.new.self.items
     c.in-Ok-new-2.ensures.led c.run_all.ensures.kept (given_file _ c.in_ok-file.field-0.now c.in_ok-file.ensures.is c.in_ok-file.ensures.kept)
     (let a = c.push.ensures.items in let b = c.is_err.ensures in let d = c.new-devices.ensures.items in let e = c.if-is_err.false in search rules)
     (read_made own-1 (own-1.entry at-1-1) at-1-1 refl _ (λ j v. j.1.state v) c.into_dyn_box.result.vtable c.into_dyn_box.result.value c.in-Ok-new.scanner.value c.into_dyn_box.ensures.1 ∙ boxed ∙ made)

@@ -3,7 +3,7 @@ use Rattle.frame_join.specs.FrameHistory.{after_pull}
 use Rattle.frame_join.specs.PixelJoinStates.{PixelRepresents, IsPixelDrained}
 use Rattle.frame_join.specs.Inside.{may_go}
 use Rattle.frame_join.proofs.PullLaws.{run_on, went_on, spent, drained}
-use Rattle.frame_join.proofs.EndLaws.{gone_denotes, joined_no_fault, not_whole}
+use Rattle.frame_join.proofs.EndLaws.{gone_file, joined_no_fault, not_whole}
 use Rattle.frame_join.proofs.pixel_join.PixelJoin.pull.Goals as goal
 
 pub returns-then-end-at-clause-gone : goal.returns-then-end-at-clause-gone
@@ -16,7 +16,7 @@ pub returns-then-end-at-clause-denotes : goal.returns-then-end-at-clause-denotes
 returns-then-end-at-clause-denotes c = λ past stands joined none some p shows.
     let same = c.loop-at.invariant.first none in
     let stop : may_go c.args.self.now ≡ false = rw same at (c.next_run-end.ensures.none (search rules)).0 in
-    gone_denotes past c.args.self.now stands joined (spent past c.args.self.now stands stop (joined_no_fault past c.args.self.now stands joined)) p shows
+    gone_file past c.args.self.now stands joined (spent past c.args.self.now stands stop (joined_no_fault past c.args.self.now stands joined)) p shows
 
 pub returns-then-end-at-clause-drained : goal.returns-then-end-at-clause-drained
 returns-then-end-at-clause-drained c = λ past stands through none some.
