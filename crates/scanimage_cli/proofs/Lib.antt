@@ -6,3 +6,9 @@ pub mod JoinLemmas
 pub mod NetDone
 pub mod Carried
 pub mod PutPieces
+pub mod Written
+pub mod RanAt
+pub mod Destinations
+pub mod PageTexts
+pub mod PagesLeft
+pub mod Carrying

@@ -1,5 +1,6 @@
 -- Streams before a call and behind it, each with what is seen of it.
 use Rattle.std.specs.Prelude.{ℕ, Option, List}
+use Rattle.scan_job.specs.Shelves.{Stock}
 
 -- **streams of a call (`passed`, `dialled`, `held`)**: each as it was before a call and as it is behind it: a control
 -- connection, of which is seen what reads of it will give and what was written to it; what makes data connections, of
@@ -38,3 +39,11 @@ pub record HeldOutput (W O : Type 0) : Type 0 where
 
 abbrev pub held : {W O : Type 0} → (W → O) → W → W → HeldOutput W O
 held contents was now = record { contents = contents; was = was; now = now }
+
+-- what the outputs of a job's files hold, where it is told: the one whose file is named, and the shelf of a batch's
+pub record FilesHeld : Type 0 where
+  pub named : Option (List ℕ)
+  pub stock : Option Stock
+
+abbrev pub files_held : Option (List ℕ) → Option Stock → FilesHeld
+files_held named stock = record { named = named; stock = stock }

@@ -18,3 +18,6 @@ pub mod Plans
 pub mod Inputs
 pub mod Whole
 pub mod Inside
+pub mod JobOutputs
+pub mod Written
+pub mod RecordedOutputs

@@ -33,11 +33,12 @@ abbrev pub output_or_standard : Option (List ℕ) → Destination
 output_or_standard None = destinations.StandardOutput
 output_or_standard (Some path) = destinations.Path path
 
--- where the file of a task goes: the files of a batch to the current folder
+-- where the file of a task goes: only a scan has one that can be named, and the files of a batch go to the current
+-- folder
 abbrev pub destination_of : Task → Option (List ℕ) → Destination
-destination_of ListTask path = output_or_standard path
-destination_of Show path = output_or_standard path
-destination_of SetOnly path = output_or_standard path
+destination_of ListTask path = destinations.StandardOutput
+destination_of Show path = destinations.StandardOutput
+destination_of SetOnly path = destinations.StandardOutput
 destination_of Scan path = output_or_standard path
 destination_of (Batch count) path = destinations.Folder
 

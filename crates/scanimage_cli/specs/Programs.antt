@@ -16,37 +16,47 @@ use Rattle.scan_job.specs.declared.report.Reports.{Reports}
 use Rattle.client_replies.specs.ProtocolStates.{target_of}
 use Rattle.net_jobs.specs.Batches.{MayScan, pages_of, IsPageFile}
 use Rattle.net_jobs.specs.JobTraces.{JobTrace, TraceEvent, EventsLead, initial_trace}
-use Rattle.local_job.specs.LocalRun.{DeviceAndOutput}
-use Rattle.scanimage_cli.specs.CallStreams.{HeldOutput}
+use Rattle.recorded.specs.Names.{IsNamed}
+use Rattle.scan_job.specs.FileOutputs.{TakesBack}
+use Rattle.scan_job.specs.Shelves.{Stock}
+use Rattle.net_jobs.specs.Outputs.{page_outputs_from}
+use Rattle.local_job.specs.LocalPages.{with_shelf}
+use Rattle.local_job.specs.LocalRun.{with_file}
+use Rattle.scanimage_cli.specs.CallStreams.{FilesHeld, HeldOutput, files_held}
+use Rattle.scanimage_cli.specs.JobOutputs.{JobOutputs, LeavesNoneOfPlan}
 use Rattle.scanimage_cli.specs.DeviceList.{device_lines, net_prefix}
 use Rattle.scanimage_cli.specs.Doing.{DoesJob, DoesBatch}
 use Rattle.scanimage_cli.specs.Host.{IsAddressOf}
 use Rattle.scanimage_cli.specs.Printing.{Prints, TakesOrFails}
 use Rattle.scanimage_cli.specs.declared.host.ControlConnection.{ControlConnection}
+use Rattle.scanimage_cli.specs.declared.outputs.Outputs.{Outputs}
 use Rattle.scanimage_cli.specs.declared.planning.Destination.{Destination}
 use Rattle.scanimage_cli.specs.declared.planning.Destination.TheVariants.{StandardOutput, Path, Folder}
 use Rattle.scanimage_cli.specs.declared.planning.JobPlan.{JobPlan}
 use Rattle.scanimage_cli.specs.declared.planning.Remote.{Remote}
 use Rattle.scanimage_cli.specs.declared.printed.Printout.{Printout}
 
--- what standard output and standard error hold, where they tell, and whether it is noted that an output failed
-pub record StandardStreams : Type 0 where
+-- what standard output, standard error and the outputs of files hold, where they tell, and whether it is noted that an
+-- output failed
+pub record ProgramOutputs : Type 0 where
   pub out : Option (List ℕ)
   pub err : Option (List ℕ)
+  pub files : FilesHeld
   pub failed : Bool
 
-abbrev pub standard_streams : Option (List ℕ) → Option (List ℕ) → Bool → StandardStreams
-standard_streams out err failed = record { out = out; err = err; failed = failed }
+-- what is seen of the outputs of a call
+abbrev pub seen_outputs : {O E N S : Type 0} → (O → Option (List ℕ)) → (E → Option (List ℕ)) → (N → Option (List ℕ))
+    → (S → Option Stock) → Outputs O E N S → ProgramOutputs
+seen_outputs out err named stock all = record {
+  out = out all.out;
+  err = err all.err;
+  files = files_held (named all.files.named) (stock all.files.shelf);
+  failed = all.tally.failed;
+}
 
--- the same before a call, and behind it: of standard output, of standard error, and of whether it is noted that an
--- output failed
-abbrev pub streams_before : {O E : Type 0} → HeldOutput O (Option (List ℕ)) → HeldOutput E (Option (List ℕ))
-    → Bool × Bool → StandardStreams
-streams_before out err failed = standard_streams (out.contents out.was) (err.contents err.was) failed.0
-
-abbrev pub streams_behind : {O E : Type 0} → HeldOutput O (Option (List ℕ)) → HeldOutput E (Option (List ℕ))
-    → Bool × Bool → StandardStreams
-streams_behind out err failed = standard_streams (out.contents out.now) (err.contents err.now) failed.1
+-- what a job's own file can go to
+abbrev pub job_part : ProgramOutputs → JobOutputs
+job_part all = record { out = all.out; files = all.files }
 
 -- the job of a plan, with this password
 pub record IsJobOf (plan : JobPlan) (password : List ℕ) (job : Job) : Type 0 where
@@ -73,21 +83,24 @@ abbrev pub IsDeviceNamed : Option (List ℕ) → List DeviceInfo → List ℕ �
 IsDeviceNamed None infos device = (first : DeviceInfo) × (slice_get infos 0 ≡ Some first) × (device ≡ first.name)
 IsDeviceNamed (Some name) infos device = device ≡ name
 
--- A job on a device, done with its file where it is to go: standard output holds what it held, and the file if it goes
--- there; of the system's files nothing is known.
-pub data DoesPlanned (destination : Destination) (job : Job) (was now : DeviceAndOutput)
-    (printed : Printout) : Type 0 where
-  ToOutput : destination ≡ StandardOutput → DoesJob job was now printed → DoesPlanned destination job was now printed
+-- A job on a device, done with its file where it is to go, and no other output touched: standard output; the output of
+-- named files, under the name that the plan has for it; or the shelf, where each page of a batch has its own.
+pub data DoesPlanned (destination : Destination) (job : Job) (device : DeviceState × DeviceState)
+    (was now : JobOutputs) (printed : Printout) : Type 0 where
+  ToOutput : destination ≡ StandardOutput
+      → DoesJob job (with_file device.0 was.out) (with_file device.1 now.out) printed → now.files ≡ was.files
+      → DoesPlanned destination job device was now printed
   ToPath : (path : List ℕ) → destination ≡ Path path
-      → DoesJob job (record was { output = None }) (record now { output = None }) printed → now.output ≡ was.output
-      → DoesPlanned destination job was now printed
+      → (begun : Option (List ℕ)) → IsNamed path was.files.named begun
+      → DoesJob job (with_file device.0 begun) (with_file device.1 now.files.named) printed → now.out ≡ was.out
+      → now.files.stock ≡ was.files.stock → DoesPlanned destination job device was now printed
   ToFolder : destination ≡ Folder
-      → DoesBatch job (record { device = was.device; stock = None }) (record { device = now.device; stock = None })
-      printed → now.output ≡ was.output → DoesPlanned destination job was now printed
+      → DoesBatch job (with_shelf device.0 was.files.stock) (with_shelf device.1 now.files.stock) printed
+      → now.out ≡ was.out → now.files.named ≡ was.files.named → DoesPlanned destination job device was now printed
 
 -- The job that was asked for is done on the device of the table that it names; its table is printed behind its file,
 -- and the lines of its rounded settings on standard error.
-pub record HasDoneHere (table : Table) (asked : AskedHere) (was now : StandardStreams) : Type 0 where
+pub record HasDoneHere (table : Table) (asked : AskedHere) (was now : ProgramOutputs) : Type 0 where
   pub job : Job
   pub asked_for : IsJobOf asked.plan asked.password job
   pub named : IsDeviceNamed asked.device (listed_infos table) job.device
@@ -96,24 +109,23 @@ pub record HasDoneHere (table : Table) (asked : AskedHere) (was now : StandardSt
   pub found : unplug_answer table job.device ≡ Ok old
   pub behind : Option (List ℕ)
   pub printed : Printout
-  pub does : DoesPlanned asked.plan.destination job (record { device = old; output = was.out })
-      (record { device = new; output = behind }) printed
+  pub does : DoesPlanned asked.plan.destination job (old, new) (job_part was)
+      (record { out = behind; files = now.files }) printed
   pub printed_out : Appends behind now.out printed.table.items
   pub rounded : TakesOrFails was.err now.err printed.rounded.items now.failed
 
 -- **done by the program (`EndsWellHere`, `IsDoneHere`, `HasDoneHere`, `IsJobOf`, `DoesPlanned`)**: a list prints a line
 -- for each device that is listed, in order, and nothing on standard error; anything else is the job of the plan, with
 -- the password, on the device that is named, or the first, its file where the plan has it go.
-pub record IsDoneHere (table : Table) (asked : AskedHere) (was now : StandardStreams) : Type 0 where
+pub record IsDoneHere (table : Table) (asked : AskedHere) (was now : ProgramOutputs) : Type 0 where
   pub list : asked.plan.task ≡ ListTask
-      → Appends was.out now.out (device_lines [] (listed_infos table)) × (now.err ≡ was.err)
+      → Appends was.out now.out (device_lines [] (listed_infos table)) × (now.err ≡ was.err) × (now.files ≡ was.files)
   pub job : asked.plan.task ≢ ListTask → HasDoneHere table asked was now
 
 -- the same of a call
-abbrev pub EndsWellHere : {O E : Type 0} → Table → AskedHere → HeldOutput O (Option (List ℕ))
-    → HeldOutput E (Option (List ℕ)) → Bool × Bool → Type 0
-EndsWellHere table asked out err failed =
-    IsDoneHere table asked (streams_before out err failed) (streams_behind out err failed)
+abbrev pub EndsWellHere : {T : Type 0} → Table → AskedHere → HeldOutput T ProgramOutputs → Type 0
+EndsWellHere table asked outputs =
+    IsDoneHere table asked (outputs.contents outputs.was) (outputs.contents outputs.now)
 
 -- a job's one file: the text that was written is the whole file of the picture that the frames show, or nothing, where
 -- the job is no scan
@@ -123,16 +135,18 @@ pub record GaveFile (job : Job) (trace : JobTrace) (was now : Option (List ℕ))
   pub file : job.task ≡ Scan → (p : Picture) × ShowsFrames trace.protocol.history.ended p × IsPictureFile text p
   pub none : job.task ≢ Scan → text ≡ []
 
--- the file, or the files of a batch, went where they were to go; of the system's files nothing is known
-abbrev pub GavePlanned : Destination → Job → JobTrace → Option (List ℕ) → Option (List ℕ) → Type 0
-GavePlanned StandardOutput job trace was now = GaveFile job trace was now
-GavePlanned (Path path) job trace was now = GaveFile job trace None None × (now ≡ was)
+-- the file, or the files of a batch, went where they were to go, and no other output was touched
+abbrev pub GavePlanned : Destination → Job → JobTrace → JobOutputs → JobOutputs → Type 0
+GavePlanned StandardOutput job trace was now = GaveFile job trace was.out now.out × (now.files ≡ was.files)
+GavePlanned (Path path) job trace was now = ((begun : Option (List ℕ)) × IsNamed path was.files.named begun
+    × GaveFile job trace begun now.files.named) × (now.out ≡ was.out) × (now.files.stock ≡ was.files.stock)
 GavePlanned Folder job trace was now = MayScan job.task (length (pages_of trace)) × All IsPageFile (pages_of trace)
-    × (now ≡ was)
+    × TakesBack was.files.stock (page_outputs_from 1 (pages_of trace)) now.files.stock × (now.out ≡ was.out)
+    × (now.files.named ≡ was.files.named)
 
 -- the job is done by the client's rules, for replies and frames that came, its file where it is to go, and what its
 -- reports come to is to be printed
-pub record RanThere (job : Job) (host : List ℕ) (destination : Destination) (was now : Option (List ℕ))
+pub record RanThere (job : Job) (host : List ℕ) (destination : Destination) (was now : JobOutputs)
     (printed : Printout) : Type 0 where
   pub reports : Reports
   pub trace : JobTrace
@@ -160,7 +174,7 @@ pub record IsConnectedTo (remote : Remote) (control : ControlConnection) : Type 
 -- password, for the device that is asked for there, done by the client's rules over a connection to the host and port
 -- that are asked, its file where the plan has it go; behind it its list or table is printed, and the lines of its
 -- rounded settings on standard error.
-pub record IsDoneThere (asked : AskedThere) (was now : StandardStreams) : Type 0 where
+pub record IsDoneThere (asked : AskedThere) (was now : ProgramOutputs) : Type 0 where
   pub job : Job
   pub asked_for : IsJobOf asked.plan asked.password job
   pub device : job.device ≡ asked.remote.device
@@ -168,11 +182,16 @@ pub record IsDoneThere (asked : AskedThere) (was now : StandardStreams) : Type 0
   pub connected : IsConnectedTo asked.remote control
   pub behind : Option (List ℕ)
   pub printed : Printout
-  pub ran : RanThere job asked.remote.host asked.plan.destination was.out behind printed
+  pub ran : RanThere job asked.remote.host asked.plan.destination (job_part was)
+      (record { out = behind; files = now.files }) printed
   pub printed_out : Appends behind now.out printed.table.items
   pub rounded : TakesOrFails was.err now.err printed.rounded.items now.failed
 
 -- the same of a call
-abbrev pub EndsWellThere : {O E : Type 0} → AskedThere → HeldOutput O (Option (List ℕ)) → HeldOutput E (Option (List ℕ))
-    → Bool × Bool → Type 0
-EndsWellThere asked out err failed = IsDoneThere asked (streams_before out err failed) (streams_behind out err failed)
+abbrev pub EndsWellThere : {T : Type 0} → AskedThere → HeldOutput T ProgramOutputs → Type 0
+EndsWellThere asked outputs = IsDoneThere asked (outputs.contents outputs.was) (outputs.contents outputs.now)
+
+-- of the plan no file is left behind a call
+abbrev pub EndsWithNone : {T : Type 0} → JobPlan → HeldOutput T ProgramOutputs → Type 0
+EndsWithNone plan outputs =
+    LeavesNoneOfPlan plan (job_part (outputs.contents outputs.was)) (job_part (outputs.contents outputs.now))

@@ -112,10 +112,9 @@ fn destination_of(task: Task, path: Option<Text>) -> Destination
 {
     match (task, path) {
         (Task::Batch(_), _) => Destination::Folder,
-        (Task::List | Task::Show | Task::SetOnly | Task::Scan, Some(path)) => {
-            Destination::Path(path)
-        }
-        (Task::List | Task::Show | Task::SetOnly | Task::Scan, None) => Destination::StandardOutput,
+        (Task::Scan, Some(path)) => Destination::Path(path),
+        (Task::Scan, None) => Destination::StandardOutput,
+        (Task::List | Task::Show | Task::SetOnly, _) => Destination::StandardOutput,
     }
 }
 

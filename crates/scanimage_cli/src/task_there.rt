@@ -1,21 +1,21 @@
 ghost use Rattle.std.specs.Prelude.{◌≡◌, true, IfOk, IfErr, OnOk, OnErr};
-ghost use Rattle.scan_job.specs.declared.job.Task.TheVariants.{Scan};
-ghost use Rattle.scan_job.specs.FileOutputs.{StopsShort};
-ghost use Rattle.scanimage_cli.specs.Programs.{EndsWellThere, IsConnectedTo, RanThere, asked_there};
+ghost use Rattle.scanimage_cli.specs.Programs.{EndsWellThere, EndsWithNone, IsConnectedTo, RanThere, asked_there, seen_outputs};
 ghost use Rattle.scanimage_cli.specs.CallStreams.{held};
+ghost use Rattle.scanimage_cli.specs.JobOutputs.{LeavesNone, job_outputs};
 ghost use Rattle.scanimage_cli.specs.Ending.{IsFailure, IsOfJob, IsOfOutput};
 
 use crate::ending::Ending;
-use crate::folder::Folder;
 use crate::host::{ControlConnection, HostDial};
 use crate::net_doing::{do_net_batch, do_net_job};
+use crate::outputs::{JobFiles, Outputs};
 use crate::planning::{Destination, JobPlan, Remote};
 use crate::printed::Printout;
 use crate::printing::print_all;
-use crate::program_output::OutputFile;
 use local_job::OutputTally;
+use recorded::NamedOutput;
 use sane_fixed::Text;
-use scan_job::Job;
+use scan_job::{Job, Shelf};
+use std::alloc::Global;
 use std::io::Write;
 
 /// What makes the connections to a host, and the control connection to the port that is asked.
@@ -39,18 +39,22 @@ fn connections<'a>(
 }
 
 /// Does a job over connections to its host, its file where it is to go.
-fn run_job<O: Write>(
-    rt: &HostRuntime,
+fn run_job<O: Write, N: NamedOutput, S: Shelf>(
+    alloc: Global,
     host: &[u8],
     job: Job,
     destination: Destination,
     made: (HostDial<'_>, ControlConnection),
     out: &mut O,
+    files: &mut JobFiles<N, S>,
     outputs: &mut OutputTally,
 ) -> Result<Printout, Ending>
-    ensures ran { IfOk result
-        (RanThere job host.now destination (O.contents out.old) (O.contents out.new)) }
-    ensures no_file { OnErr result (StopsShort (O.contents out.old) (O.contents out.new)) }
+    ensures ran { IfOk result (RanThere job host.now destination
+        (job_outputs (O.contents out.old) (N.contents files.old.named) (S.stock files.old.shelf))
+        (job_outputs (O.contents out.new) (N.contents files.new.named) (S.stock files.new.shelf))) }
+    ensures no_file { OnErr result (LeavesNone destination
+        (job_outputs (O.contents out.old) (N.contents files.old.named) (S.stock files.old.shelf))
+        (job_outputs (O.contents out.new) (N.contents files.new.named) (S.stock files.new.shelf))) }
     ensures output { IfErr result (λ ending. IsOfOutput ending → outputs.new.failed ≡ true) }
     ensures failed { IfErr result IsFailure }
     // It is a status and its cause.
@@ -58,46 +62,45 @@ fn run_job<O: Write>(
 {
     let (mut dial, mut control) = made;
     let stream = &mut control.stream;
-    let alloc = rt.alloc();
     match destination {
         Destination::StandardOutput => {
             do_net_job(alloc, host, job, stream, &mut dial, out, outputs)
         }
         Destination::Path(path) => {
-            let mut file = OutputFile::Unmade(rt, path);
-            do_net_job(alloc, host, job, stream, &mut dial, &mut file, outputs)
+            files.named.begin(path);
+            let named = &mut files.named;
+            do_net_job(alloc, host, job, stream, &mut dial, named, outputs)
         }
         Destination::Folder => {
-            let mut folder = Folder { rt };
-            do_net_batch(alloc, host, job, stream, &mut dial, &mut folder, outputs)
+            let shelf = &mut files.shelf;
+            do_net_batch(alloc, host, job, stream, &mut dial, shelf, outputs)
         }
     }
 }
 
 /// Does what is asked for on the daemon of a host, with the device of that name there.
-pub fn run_net_task<O: Write, E: Write>(
+pub fn run_net_task<O: Write, E: Write, N: NamedOutput, S: Shelf>(
     rt: &HostRuntime,
     remote: Remote,
     plan: JobPlan,
     password: Text,
-    out: &mut O,
-    err: &mut E,
-    outputs: &mut OutputTally,
+    outputs: &mut Outputs<O, E, N, S>,
 ) -> Result<(), Ending>
     /// Where a job over the net ends well, it is the one that the plan has for that host, port and device, done by the client's
     /// rules, its file where the plan has it go, and behind it its list or table is printed, and its rounded settings on standard
     /// error.
     /// Carried by: `done` of `run_net_task`: `EndsWellThere`, `IsDoneThere`
     ensures done { OnOk result (EndsWellThere (asked_there remote plan password)
-        (held O.contents out.old out.new) (held E.contents err.old err.new)
-        (outputs.old.failed, outputs.new.failed)) }
-    /// Where a scan over the net does not, a standard output that tells its bytes took no whole file.
-    /// Carried by: `no_file` of `run_net_task`
-    ensures no_file { plan.task ≡ Scan
-        → OnErr result (StopsShort (O.contents out.old) (O.contents out.new)) }
-    ensures output { IfErr result (λ ending. IsOfOutput ending → outputs.new.failed ≡ true) }
+        (held (seen_outputs O.contents E.contents N.contents S.stock) outputs.old outputs.new)) }
+    /// Where it does not, the output that the file of a scan over the net was to go to took no whole file, where it tells its
+    /// bytes, and no other was touched; a batch leaves its finished pages alone; and what has no file touches none.
+    /// Carried by: `no_file` of `run_net_task`: `EndsWithNone`, `LeavesNoneOfPlan`
+    ensures no_file { OnErr result (EndsWithNone plan
+        (held (seen_outputs O.contents E.contents N.contents S.stock) outputs.old outputs.new)) }
+    ensures output { IfErr result
+        (λ ending. IsOfOutput ending → outputs.new.tally.failed ≡ true) }
     // Nothing is printed on standard error then.
-    ensures silent { OnErr result (E.contents err.new ≡ E.contents err.old) }
+    ensures silent { OnErr result (E.contents outputs.new.err ≡ E.contents outputs.old.err) }
     /// No ending of any of its parts has the exit status 0.
     ensures failed { IfErr result IsFailure }
     // It is a status and its cause.
@@ -125,13 +128,15 @@ pub fn run_net_task<O: Write, E: Write>(
     }
     let made = connections(rt, &remote)?;
     let printed = run_job(
-        rt,
+        rt.alloc(),
         remote.host.as_bytes(),
         job,
         destination,
         made,
-        out,
-        outputs,
+        &mut outputs.out,
+        &mut outputs.files,
+        &mut outputs.tally,
     )?;
-    print_all(out, err, &printed, outputs)
+    let (out, err) = (&mut outputs.out, &mut outputs.err);
+    print_all(out, err, &printed, &mut outputs.tally)
 }

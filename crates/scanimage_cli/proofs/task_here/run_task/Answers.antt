@@ -1,8 +1,9 @@
 use Rattle.std.proofs.Common.{rules, ◌≡◌, ◌≢◌, refl, sym, ap, ◌∙◌, Ok}
+use Rattle.std.proofs.lemmas.Result.{err_from_is_err_and}
 use Rattle.scan_job.specs.declared.job.Task.TheVariants.{List as ListTask}
 use Rattle.virtual_scanner.specs.Scanners.{scanner_state}
 use Rattle.dispatch.specs.Table.{seen_unplug, table, unplug_answer}
-use Rattle.scanimage_cli.proofs.Carried.{listed, on_ok_of, on_ok_of_two, scan_prints_none, well_is_no_end}
+use Rattle.scanimage_cli.proofs.Carried.{batch_prints_none, does_spare, job_leaves, list_leaves, listed, on_err, on_ok_of, on_ok_of_two, print_leaves, scan_prints_none, untouched_plan}
 use denote.Param.Object.{read_made}
 use Rattle.scanimage_cli.proofs.task_here.run_task.OwnLists.{at-1-1, own-1}
 use Rattle.scanimage_cli.proofs.task_here.run_task.Goals as goal
@@ -10,7 +11,7 @@ use Rattle.scanimage_cli.proofs.task_here.run_task.Goals as goal
 pub returns-then-eq-clause-done : goal.returns-then-eq-clause-done
 returns-then-eq-clause-done g c =
     let is : c.args.plan.task ≡ ListTask = search rules in
-    on_ok_of c.print.result (listed _ _ _ _ _ is (search rules) refl) c.print.ensures.whole
+    on_ok_of c.print.result (listed _ _ _ _ _ is (search rules) refl refl) c.print.ensures.whole
 
 pub returns-clause-done : goal.returns-clause-done
 returns-clause-done g c =
@@ -34,6 +35,31 @@ returns-clause-done g c =
       };
     }) c.print_all.ensures.table c.print_all.ensures.rounded
 
+pub returns-then-eq-clause-no_file : goal.returns-then-eq-clause-no_file
+returns-then-eq-clause-no_file g c =
+    let is : c.args.plan.task ≡ ListTask = search rules in
+    list_leaves c.args.plan _ _ c.print.result is refl
+
 pub returns-clause-no_file : goal.returns-clause-no_file
-returns-clause-no_file g c scan =
-    well_is_no_end _ c.print_all.result (c.print_all.ensures.nothing (scan_prints_none c.args.plan.destination _ _ _ c.in_ok-printed.printed scan c.in_ok-printed.ensures.done))
+returns-clause-no_file g c =
+    print_leaves c.args.plan _ _ c.in_ok-printed.printed.table.items c.print_all.result c.print_all.ensures.nothing
+    (λ scan. scan_prints_none c.args.plan.destination _ _ _ _ c.in_ok-printed.printed scan c.in_ok-printed.ensures.done)
+    (λ count batch. batch_prints_none c.args.plan.destination _ _ _ _ c.in_ok-printed.printed count batch c.in_ok-printed.ensures.done)
+    (λ at. does_spare c.args.plan.destination _ _ _ _ c.in_ok-printed.printed at c.in_ok-printed.ensures.done)
+
+pub returns-in_err-device-clause-no_file : goal.returns-in_err-device-clause-no_file
+returns-in_err-device-clause-no_file g c = on_err c.from_residual.result (untouched_plan c.args.plan _)
+
+pub returns-in_default-unplug-clause-no_file : goal.returns-in_default-unplug-clause-no_file
+returns-in_default-unplug-clause-no_file g c = untouched_plan c.args.plan _
+
+pub returns-in_default-new-clause-no_file : goal.returns-in_default-new-clause-no_file
+returns-in_default-new-clause-no_file g c = untouched_plan c.args.plan _
+
+pub returns-in_err-printed-clause-no_file : goal.returns-in_err-printed-clause-no_file
+returns-in_err-printed-clause-no_file g c = on_err c.from_residual-in_err-printed.result (job_leaves c.args.plan _ _ c.in_err-printed.ensures.no_file)
+
+pub returns-in_err-printed-clause-output : goal.returns-in_err-printed-clause-output
+returns-in_err-printed-clause-output g c =
+    let p = err_from_is_err_and c.from_residual-in_err-printed.result c.from_residual-in_err-printed.ensures.1 in
+    rw (p.1, p.2) c.in_err-printed.ensures.output

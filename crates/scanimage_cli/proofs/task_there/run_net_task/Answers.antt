@@ -1,7 +1,7 @@
-use Rattle.std.proofs.Common.{rules, ◌≡◌, refl, subst}
+use Rattle.std.proofs.Common.{rules, ◌≡◌, refl}
 use Rattle.scan_job.specs.declared.job.Job.{Job}
-use Rattle.scanimage_cli.specs.Programs.{RanThere}
-use Rattle.scanimage_cli.proofs.Carried.{nothing_stops_short, on_err, on_ok_of_two, scan_there_prints_none, well_is_no_end}
+use Rattle.scanimage_cli.proofs.Carried.{batch_there_prints_none, job_leaves, on_err, on_ok_of_two, print_leaves, ran_spares, scan_there_prints_none, untouched_plan}
+use Rattle.scanimage_cli.proofs.RanAt.{ran_at}
 use Rattle.scanimage_cli.proofs.task_there.run_net_task.Goals as goal
 
 pub returns-clause-done : goal.returns-clause-done
@@ -17,14 +17,26 @@ returns-clause-done g c =
       connected = c.in_ok-made.ensures.connected;
       behind = g.O.Write.contents c.run_job.new.out;
       printed = c.in_ok-printed.printed;
-      ran = subst (λ h. RanThere job h c.args.plan.destination (g.O.Write.contents c.args.out.now) (g.O.Write.contents c.run_job.new.out) c.in_ok-printed.printed) host c.in_ok-printed.ensures.ran;
+      ran = ran_at job _ c.args.remote.host c.args.plan.destination _ _ c.in_ok-printed.printed host c.in_ok-printed.ensures.ran;
       printed_out = printed;
       rounded = rounded;
     }) c.print_all.ensures.table c.print_all.ensures.rounded
 
 pub returns-in_err-made-clause-no_file : goal.returns-in_err-made-clause-no_file
-returns-in_err-made-clause-no_file g c scan = on_err _ (nothing_stops_short (g.O.Write.contents c.args.out.now))
+returns-in_err-made-clause-no_file g c = on_err _ (untouched_plan c.args.plan _)
 
 pub returns-clause-no_file : goal.returns-clause-no_file
-returns-clause-no_file g c scan =
-    well_is_no_end _ c.print_all.result (c.print_all.ensures.nothing (scan_there_prints_none c.args.plan.destination _ _ _ _ c.in_ok-printed.printed scan c.in_ok-printed.ensures.ran))
+returns-clause-no_file g c =
+    print_leaves c.args.plan _ _ c.in_ok-printed.printed.table.items c.print_all.result c.print_all.ensures.nothing
+    (λ scan. scan_there_prints_none c.args.plan.destination _ _ _ _ c.in_ok-printed.printed scan c.in_ok-printed.ensures.ran)
+    (λ count batch. batch_there_prints_none c.args.plan.destination _ _ _ _ c.in_ok-printed.printed count batch c.in_ok-printed.ensures.ran)
+    (λ at. ran_spares c.args.plan.destination _ _ _ _ c.in_ok-printed.printed at c.in_ok-printed.ensures.ran)
+
+pub returns-in_default-clause-no_file : goal.returns-in_default-clause-no_file
+returns-in_default-clause-no_file g c = untouched_plan c.args.plan _
+
+pub returns-in-Some-clause-no_file : goal.returns-in-Some-clause-no_file
+returns-in-Some-clause-no_file g c = untouched_plan c.args.plan _
+
+pub returns-in_err-printed-clause-no_file : goal.returns-in_err-printed-clause-no_file
+returns-in_err-printed-clause-no_file g c = on_err c.from_residual-in_err-printed.result (job_leaves c.args.plan _ _ c.in_err-printed.ensures.no_file)

@@ -1,8 +1,9 @@
 use Rattle.std.proofs.Common.{rules, ◌≡◌}
 use Rattle.std.proofs.lemmas.Result.{err_from_is_err_and}
 use Rattle.scanimage_cli.specs.declared.planning.Location.TheVariants.{Here, There}
-use Rattle.scanimage.proofs.Carrying.{carried_fresh, carried_here, carried_there, on_ok_of}
-use Rattle.scanimage.proofs.run.Goals as goal
+use Rattle.scanimage_cli.proofs.Carried.{on_ok_of}
+use Rattle.scanimage_cli.proofs.Carrying.{carried_fresh, carried_here, carried_there, leaves_none_of}
+use Rattle.scanimage_cli.proofs.program_run.run.Goals as goal
 
 pub returns-in-There-clause-done : goal.returns-in-There-clause-done
 returns-in-There-clause-done g c =
@@ -39,3 +40,9 @@ pub returns-in_err-password-clause-output : goal.returns-in_err-password-clause-
 returns-in_err-password-clause-output g c =
     let p = err_from_is_err_and c.from_residual-in_err-password.result c.from_residual-in_err-password.ensures.1 in
     rw (p.1, p.2) (λ is. absurd (c.in_err-password.ensures.spares is))
+
+pub returns-in-There-clause-no_file : goal.returns-in-There-clause-no_file
+returns-in-There-clause-no_file g c = leaves_none_of c.args.words.now c.in_ok-plan.plan _ _ c.run_net_task.result c.in_ok-plan.ensures.planned c.run_net_task.ensures.no_file
+
+pub returns-clause-no_file : goal.returns-clause-no_file
+returns-clause-no_file g c = leaves_none_of c.args.words.now c.in_ok-plan.plan _ _ c.run_task.result c.in_ok-plan.ensures.planned c.run_task.ensures.no_file
