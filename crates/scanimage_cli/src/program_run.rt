@@ -126,7 +126,8 @@ pub fn program(
     >,
 ) -> ExitCode
     /// Where the exit status is 0, the calls on standard output, on the one file that was named and on those of a batch took
-    /// what the words ask for: of a scan its file, in the one place that they name, of a batch the files of its pages.
+    /// what the words ask for: of a scan a whole file, in the one place that they name, of a batch one of each page. Of
+    /// which config no clause says, since the process's inputs tell no text.
     /// Carried by: `written` of `program`: `IsWrittenFor`, `IsWritten`
     ensures written { code_of result ≡ 0 → IsWrittenFor no_texts words.now
         (taken_outputs outputs.old) (taken_outputs outputs.new) }
