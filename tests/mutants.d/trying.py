@@ -4,8 +4,10 @@ import os
 import shutil
 import subprocess
 import tempfile
+import threading
 import time
 from concurrent.futures import ThreadPoolExecutor
+from contextlib import ExitStack, nullcontext
 
 from crates import below, crates
 from judge import Said, asked
@@ -14,6 +16,8 @@ from parse import FUNCTION, ROOT, functions, read
 KIT = functools.cache(lambda: os.path.dirname(subprocess.run(["rt", "doc"], capture_output=True, text=True, check=True).stdout.strip()))
 # what an edit comes to: a goal, or of a statement a law, refuses it; only code does; only a proof's text; nothing; it is no edit
 GOAL, LAW, CODE, TEXT, NOT, BAD, LEFT = "by a goal", "by a law", "by code alone", "by a text alone", "not refused", "no edit", "left, for time"
+# held by a check that runs alone while it waits for every lane, so that two of them do not wait for each other
+EVERY_LANE = threading.Lock()
 
 
 def rattle(crate, folder, kept, jobs):
@@ -32,6 +36,13 @@ def link(one, other):
     return os.link(one, other) if one.endswith(".oantt") else shutil.copy2(one, other)
 
 
+def adopt(crate, lanes, jobs):
+    """Where the gate took a crate's proof from an earlier run, its own folder has none: `rt check` adopts what the machine keeps."""
+    with lanes:
+        words = {"cwd": f"{ROOT}/crates/{crate}", "env": os.environ | {"RT_JOBS": str(jobs)}}
+        subprocess.run(["rt", "check"], stdin=subprocess.DEVNULL, stdout=subprocess.DEVNULL, stderr=subprocess.DEVNULL, check=False, **words)
+
+
 def laws_of(crate):
     """The functions of a crate whose bodies are empty."""
     texts = [read(f"{at}/{it}") for at, _, names in os.walk(f"{ROOT}/crates/{crate}/src") for it in names if it.endswith(".rt")]
@@ -41,14 +52,20 @@ def laws_of(crate):
 class Bench:
     """A crate that stands proved, and copies of it in which edits are tried, so many at a time as there are lanes."""
 
-    def __init__(self, crate, at, lanes, jobs, until):
-        self.crate, self.at, self.lanes, self.laws, self.seed, self.until = crate, at, lanes, laws_of(crate), f"{at}/seed", until
+    def __init__(self, crate, at, lanes, count, jobs, until):
+        self.crate, self.at, self.lanes, self.count, self.laws, self.seed, self.until = crate, at, lanes, count, laws_of(crate), f"{at}/seed", until
         started = f"{ROOT}/crates/{crate}/out/incremental"
+        if not os.path.isdir(started):
+            adopt(crate, lanes, jobs)
         shutil.copytree(started, self.seed, copy_function=link) if os.path.isdir(started) else os.makedirs(self.seed)
         self.said = self.ran({}, self.seed, jobs)
+        self.said = self.said if self.said.is_judged else self.ran({}, self.seed, jobs, alone=True)
 
-    def ran(self, texts, kept, jobs=1):
-        with self.lanes, tempfile.TemporaryDirectory(dir=self.at) as room:
+    def ran(self, texts, kept, jobs=1, alone=False):
+        """A check of the crate with other texts of some files, beside others or, where memory may have been short, alone."""
+        with EVERY_LANE if alone else nullcontext(), ExitStack() as held, tempfile.TemporaryDirectory(dir=self.at) as room:
+            for _ in range(self.count if alone else 1):
+                held.enter_context(self.lanes)
             for part in (it for it in ("src", "specs", "proofs") if os.path.isdir(f"{ROOT}/crates/{self.crate}/{it}")):
                 shutil.copytree(f"{ROOT}/crates/{self.crate}/{part}", f"{room}/{part}")
             for file, text in texts.items():
@@ -57,7 +74,7 @@ class Bench:
             ran = subprocess.run(rattle(self.crate, room, kept, jobs), cwd=room, stdin=subprocess.DEVNULL, stdout=subprocess.PIPE, stderr=subprocess.STDOUT, errors="replace", check=False)
         return Said(ran.returncode, ran.stdout.split("\n"), texts)
 
-    def check(self, edits, other=None):
+    def check(self, edits, other=None, alone=False):
         """What a check says of the crate with these edits, and with other texts of some files."""
         texts = dict(other or {})
         for file, old, new in (pair for edit in edits for pair in edit.pairs):
@@ -67,7 +84,7 @@ class Bench:
             texts[file] = text.replace(old, new)
         with tempfile.TemporaryDirectory(dir=self.at) as room:
             shutil.copytree(self.seed, f"{room}/kept", copy_function=link)
-            return self.ran(texts, f"{room}/kept")
+            return self.ran(texts, f"{room}/kept", alone=alone)
 
 
 def asked_again(bench, edit, said):
@@ -90,6 +107,7 @@ def alone(bench, edit):
     if time.time() > bench.until:
         return LEFT, ""
     said = bench.check([edit])
+    said = said if said.is_judged else bench.check([edit], alone=True)
     if said.is_proved or edit.is_right:
         return (GOAL if said.is_proved and edit.is_right else NOT), "it is proved" if said.is_proved else said.first_error()
     if not said.is_judged:
@@ -126,14 +144,14 @@ def try_together(bench, waiting):
             return
 
 
-def try_crate(crate, edits, lanes, jobs, until):
+def try_crate(crate, edits, lanes, count, jobs, until):
     """Tries these edits of a crate, begun until then; why it could not, where it is not proved without any."""
     if time.time() > until:
         for edit in edits:
             edit.fate, edit.note = LEFT, ""
         return ""
     with tempfile.TemporaryDirectory(prefix="mutants-") as at, ThreadPoolExecutor(max(1, len(edits))) as pool:
-        bench = Bench(crate, at, lanes, jobs, until)
+        bench = Bench(crate, at, lanes, count, jobs, until)
         if not bench.said.is_proved:
             return f"{crate}: it is not proved without any edit: {bench.said.first_error()[:300]}"
         together = [it for it in edits if it.is_body and it.place and not it.is_right]
