@@ -4,9 +4,10 @@ use Rattle.std.specs.Prelude.{◌==◌, ◌||◌, slice_index_or}
 use Rattle.std.proofs.lemmas.Bool.Decides.{nat_tests}
 use Rattle.std.proofs.lemmas.Option.{get_or_from_slice_get, slice_get-get_or}
 use Rattle.netpbm.specs.Pnm.{IsWhole}
+use Rattle.netpbm.specs.NoFile.{HoldsNoFile}
 use Rattle.frame_join.specs.FrameHistory.{JoinHistory, IsJoined, empty_history}
 use Rattle.frame_join.specs.JoinStates.{JoinState, Represents}
-use Rattle.frame_join.proofs.EndSteps.{whole_not}
+use Rattle.frame_join.proofs.EndSteps.{holds_no_file}
 use Rattle.scan_job.specs.declared.job.Task.{Task}
 use Rattle.scan_job.specs.declared.job.Task.TheVariants as tasks
 use Rattle.scan_job.specs.declared.outcome.Outcome.{Outcome}
@@ -88,19 +89,19 @@ ends_as task Running progress past d f = may_end task progress past f.0 f.1
 ends_as task (Done reports) progress past d f = absurd (let clash : true ≡ false = d in cc)
 ends_as task (Ended status why) progress past d f = f
 
-short_yet : (task : Task) (past : JoinHistory) (join : JoinState) → Represents past join → FitsEnded task past → IsWhole past.given → ⊥
-short_yet (tasks.Batch count) past join stands ended whole = whole_not past join stands (λ joined. ended joined whole) whole
-short_yet tasks.List past join stands ended whole = whole_not past join stands ended whole
-short_yet tasks.Show past join stands ended whole = whole_not past join stands ended whole
-short_yet tasks.SetOnly past join stands ended whole = whole_not past join stands ended whole
-short_yet tasks.Scan past join stands ended whole = whole_not past join stands ended whole
+part_yet : (task : Task) (past : JoinHistory) → FitsEnded task past → IsJoined past → IsWhole past.given → ⊥
+part_yet (tasks.Batch count) past ended joined = ended joined
+part_yet tasks.List past ended joined = absurd (ended joined)
+part_yet tasks.Show past ended joined = absurd (ended joined)
+part_yet tasks.SetOnly past ended joined = absurd (ended joined)
+part_yet tasks.Scan past ended joined = absurd (ended joined)
 
-pub short_tells : (p : Endpoint) (file : List ℕ) → FilesRepresent p → is_done p.client.outcome ≡ false → p.file ≡ Some file → IsWhole file → ⊥
-short_tells p file (Underway past pages u) not_done e whole =
+pub short_tells : (p : Endpoint) (file : List ℕ) → FilesRepresent p → is_done p.client.outcome ≡ false → p.file ≡ Some file → HoldsNoFile file
+short_tells p file (Underway past pages u) not_done e =
     let ended = ends_as p.client.target.task p.client.outcome p.client.progress past not_done u.holds.serves.fits in
     let same : file ≡ past.given = kept_some p.out_of_memory past.given p.file file u.holds.files.file e in
-    short_yet p.client.target.task past p.client.join u.holds.serves.stands ended (subst IsWhole same whole)
-short_tells p file (AllLaid pages a) not_done e whole = let clash : true ≡ false = sym a.done ∙ not_done in cc
+    subst HoldsNoFile (sym same) (holds_no_file past p.client.join u.holds.serves.stands (part_yet p.client.target.task past ended))
+short_tells p file (AllLaid pages a) not_done e = absurd (let clash : true ≡ false = sym a.done ∙ not_done in cc)
 
 -- ---- no file
 

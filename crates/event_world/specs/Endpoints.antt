@@ -32,10 +32,10 @@ abbrev pub no_pages : List (Option (List ℕ))
 no_pages =
     None ∷ None ∷ None ∷ None ∷ None ∷ None ∷ None ∷ None ∷ None ∷ None ∷ None ∷ None ∷ None ∷ None ∷ None ∷ None ∷ []
 
--- **endpoint (`Endpoint`, `IsNew`)**: of a job: its client, whether its control connection was made, the session while
--- that stands and whether the daemon has ended it, the data connection with the bytes on it and whether the end record
--- is among them, the file under way and those of the finished pages, whether a growth was refused, and more moves than
--- it may still take: at first 2^34, and 2^36 for a batch.
+-- **endpoint (`Endpoint`, `IsNew`)**: of a job. It has the client, whether its control connection was made, the session
+-- while that stands and whether the daemon has ended it, the data connection with its bytes and whether the end record
+-- is among them, the file under way and those of the finished pages, and whether a growth was refused. It has more
+-- moves than the job may still take: at first 2^34, and 2^36 for a batch.
 --
 -- a client that was just made, no connection and an empty file
 pub record IsNew (job : Job) (p : Endpoint) : Type 0 where
@@ -65,8 +65,8 @@ after_link_loss link c =
     if is_lost_by link c.outcome c.progress then after_client_end statuses.IoError whys.Lost c else c
 
 -- **what becomes of it (`with_link`, `without_link`, `with_image_link`, `without_image_link`, `IsCancelled`,
--- `laid_by`)**: a connection is made or lost, with what the client makes of that; the job is given up and says
--- farewell; the file of a page that is finished is laid by, and an empty one is under way.
+-- `laid_by`)**: a connection is made or lost, and the client makes something of that; the job is given up and says
+-- farewell; the file of a finished page is laid by, and an empty one is under way.
 abbrev pub with_link : SessionId → Endpoint → Endpoint
 with_link id p = record p { was_connected = true; link = Some id }
 

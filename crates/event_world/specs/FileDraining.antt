@@ -26,9 +26,9 @@ pub record HasFiles (given : List ℕ) (pages : List JoinHistory) (p : Endpoint)
   pub count : p.finished ≡ length pages
   pub room : length p.pages ≡ 16
 
--- **holds (`HoldsHistory`, `HasFiles`, `KeepsFile`)**: the client stands for a history of its join, the file under way
--- is what that gave, and the file of each finished page what the join of that page gave; or it is none, once a growth
--- was refused.
+-- **holds (`HoldsHistory`, `HasFiles`, `KeepsFile`)**: the client stands for a history of its join. The file under way
+-- is what that join gave, and the file of each finished page is what its join gave. Once a growth was refused there is
+-- no file.
 pub record HoldsHistory (past : JoinHistory) (pages : List JoinHistory) (p : Endpoint) : Type 0 where
   pub task : p.task ≡ p.client.target.task
   pub serves : ClientRepresents past p.client
@@ -92,8 +92,8 @@ HasDrained false past pages old new = RunsDry past pages old new
 abbrev pub HasPlace : Endpoint → List JoinHistory → Type 0
 HasPlace p pages = turns p.client.outcome p.client.progress ≡ true → length pages < 16
 
--- **drained (`Drains`, `RunsDry`, `TurnsTo`)**: all that may be given of a file was laid down: where the picture is
--- whole, what was given denotes it; or the page of a batch is whole and laid by, and the client asks for the next.
+-- **drained (`Drains`, `RunsDry`, `TurnsTo`)**: all that a file may give was laid down. The bytes given of a whole
+-- picture denote it. Or the page of a batch is whole and laid by, and the client asks for the next.
 pub record Drains (old new : Endpoint) : Type 0 where
   -- a job of another task has no file
   pub none : scans old.task ≡ false → new ≡ old

@@ -64,9 +64,9 @@ pub record IsAllLaid (pages : List JoinHistory) (p : Endpoint) : Type 0 where
   pub pages_are : ArePages pages
 
 -- **files stand (`FilesRepresent`, `FileIsUnderWay`, `IsAllLaid`, `IsPage`)**: the files of a job are those of what its
--- client was told: behind the finished pages, each a whole file of the picture that its frames show, stands the file
--- under way, which is that of the picture where the job is done and what was told is one; or a batch is done with its
--- last page, and all its files are laid by.
+-- client was told. Each finished page has a whole file of the picture that its frames show. Behind them stands the file
+-- under way; where the job is done and was told a picture, it is that picture's file. A batch that is done has all its
+-- files laid by, the last one too.
 pub data FilesRepresent (p : Endpoint) : Type 0 where
   Underway : (past : JoinHistory) (pages : List JoinHistory) → FileIsUnderWay past pages p → FilesRepresent p
   AllLaid : (pages : List JoinHistory) → IsAllLaid pages p → FilesRepresent p

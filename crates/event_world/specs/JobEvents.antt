@@ -63,9 +63,9 @@ IsFlowing frames.Ending = Unit {0}
 abbrev pub frame_state_at : Core → ℕ → FrameState
 frame_state_at d n = frame_in (session_of d n)
 
--- **can happen (`Can`)**: a connection stands and has something to do: bytes wait and some are moved; a frame waits for
--- its connection and the client wants it; a frame streams or is to be ended. A job that runs is connected once and can
--- be given up; a loss needs its connection alone.
+-- **can happen (`Can`)**: a connection stands and has something to do. Bytes wait, and some are moved; a frame waits
+-- for its connection, and the client wants it; a frame streams or is to be ended. A job that runs is connected once and
+-- can be given up. A loss needs its connection alone.
 abbrev pub Can : Core → Endpoint → JobEvent → Type 0
 Can d p Connect = (is_running p.client.outcome ≡ true) × (p.was_connected ≡ false)
 Can d p (ToDaemon n) = IsSome p.link × (p.client.out ≢ []) × (0 < n)
@@ -196,9 +196,9 @@ NeedsLink (DataToClient n) = ⊥
 NeedsLink Cancel = ⊥
 NeedsLink job_event = Unit {0}
 
--- **does, happens (`Does`, `Happens`)**: what it makes of the daemon and of the endpoint: a session opened, a piece
--- fed, replies taken and heard, a data connection made, a turn and its record, a piece of records seen, a loss, a
--- farewell. Where it cannot happen nothing changes.
+-- **does, happens (`Does`, `Happens`)**: what an event makes of the daemon and of the endpoint: a session opened, a
+-- piece fed, replies taken and heard, a data connection made, a turn and its record, a piece of records seen, a loss, a
+-- farewell. An event that cannot happen changes nothing.
 abbrev pub Does : Core → Endpoint → JobEvent → Core → Endpoint → Type 0
 Does d p Connect e q = (port : ℕ) × Connects port (is_closed d) d p e q
 Does d p (ToDaemon n) e q = IfLinked p.link (λ k. FeedsPiece k n d p e q)

@@ -9,9 +9,9 @@ use Rattle.event_world.specs.declared.event.JobEvent.TheVariants.{DataToClient, 
 use Rattle.event_world.specs.declared.endpoint.Endpoint.{Endpoint}
 use Rattle.event_world.specs.JobEvents.{Can, job_event_of}
 
--- **move (`in_order`, `IsFirstMove`, `IsNextMove`)**: the connection made, at most 4,096 bytes to the daemon, as many
--- to the client, the data connection made, its bytes to the client, the daemon's turn: the first that can happen; and
--- then the loss of a connection whose session the daemon has ended.
+-- **move (`in_order`, `IsFirstMove`, `IsNextMove`)**: the first that can happen of these: the connection is made; at
+-- most 4,096 bytes go to the daemon; as many go to the client; the data connection is made; its bytes go to the client;
+-- the daemon takes a turn; a connection is lost whose session the daemon has ended.
 --
 -- the moves of a job, in their order
 abbrev pub in_order : List JobEvent

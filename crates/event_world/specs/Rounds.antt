@@ -29,8 +29,8 @@ pub record IsMoveOf (w : WorldCore) (i : ℕ) (event : Event) : Type 0 where
 abbrev pub RestsAt : WorldCore → ℕ → Type 0
 RestsAt w i = (p : Endpoint) → slice_get w.endpoints i ≡ Some p → IsNextMove w.daemon i p None ⊎ (moves_left_of p ≡ 0)
 
--- **rounds (`TakesMove`, `IsRound`, `Rounds`, `RoundsRunOut`)**: the turn of a job is its next move, where it has one
--- and moves left; a round is one turn of each job, in their order; rounds run out where no job has a move, or moves
+-- **rounds (`TakesMove`, `IsRound`, `Rounds`, `RoundsRunOut`)**: the turn of a job is its next move, if it has one and
+-- has moves left. A round is one turn of each job, in their order. Rounds run out when no job has a move, or moves
 -- left.
 abbrev pub TakesMove : (Source → SourceState) → ℕ → Option Event → WorldCore → WorldCore → Type 0
 TakesMove source i None w v = RestsAt w i × (v ≡ w)

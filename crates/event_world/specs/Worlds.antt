@@ -25,8 +25,8 @@ use Rattle.event_world.specs.Endpoints.{IsNew}
 use Rattle.event_world.specs.JobEvents.{Happens}
 
 -- **a world (`WorldState`, `AreNew`, `HasWorldFault`, `HasFaultAmong`, `IsInitialWorld`)**: the daemon and the
--- endpoints; that each job has its endpoint, to which nothing has happened; why there is no world of these devices and
--- jobs, the first fault in its order; and a new one, whose devices are reset.
+-- endpoints. In a new one each job has its endpoint, to which nothing has happened, and the devices are reset.
+-- `HasWorldFault` says why there is no world of these devices and jobs: the first fault in its order.
 --
 -- A world whose devices are seen as S.
 pub record WorldState (S : Type 0) : Type 0 where
@@ -86,8 +86,8 @@ pub record IsInitialWorld (devices : List DeviceState) (users : List Entry) (see
 
 -- ---- events
 
--- **leads, runs (`AtEndpoint`, `Leads`, `Runs`)**: an event is what happens to the endpoint of its job, and no other
--- changes; a page that is laid in and a device that is taken out are the daemon's calls; a list of events is one after
+-- **leads, runs (`AtEndpoint`, `Leads`, `Runs`)**: an event of a job happens to its endpoint, and no other endpoint
+-- changes. A page is laid in, and a device taken out, by the daemon's calls. A list of events happens one after
 -- another.
 --
 -- It happens to the job of that place, by the daemon and its endpoint; no other endpoint changes. Where there is no

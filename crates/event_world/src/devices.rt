@@ -41,8 +41,8 @@ pub fn parts_of<D: Device>(
     devices: Vec<D>,
     jobs: Vec<Job>,
 ) -> Result<(Registry<D>, Endpoints), (WorldFault, Vec<D>)>
-    /// Of what a world is made, the table of its devices and the endpoints of its jobs, is made or refused so for
-    /// devices of any type.
+    /// The parts of a world, the table of its devices and the endpoints of its jobs, are made or refused so for devices of any
+    /// type.
     /// Carried by: `registry`, `endpoints`, `accepted`, `fault`, `back` of `parts_of`; `EventWorld::over`
     ensures registry { IfOk result (λ parts.
         table D.state parts.0 ≡ fresh_table (map D.state devices.items)) }

@@ -3,7 +3,7 @@
 ghost use Rattle.std.specs.Prelude.{ℕ, ◌≡◌, ◌-◌, ◌<◌, ◌≤◌, List, Some, None, true, false, slice_get};
 ghost use Rattle.page_picture.specs.Source.{SourceState};
 ghost use Rattle.page_sources.specs.declared.kinds.Source.{Source};
-ghost use Rattle.netpbm.specs.Pnm.{IsWhole};
+ghost use Rattle.netpbm.specs.NoFile.{HoldsNoFile};
 ghost use Rattle.scan_job.specs.declared.job.Job.{Job};
 ghost use Rattle.scan_job.specs.declared.job.Task.TheVariants as tasks;
 ghost use Rattle.saned_core.specs.DaemonStates.{Core};
@@ -25,8 +25,9 @@ pub fn files_are_represented()
         → Runs source events w v → AllFilesRepresent w.endpoints → AllFilesRepresent v.endpoints }
 {}
 
-/// What these files tell: that of a finished page is whole, and of the picture that the page's frames show, and so is that of a
-/// scan that is done. The file under way of a job that is not done is never whole. Where there is none a growth was refused.
+/// What these files tell. That of a finished page is whole, and of the picture that the page's frames show. So is that of a scan
+/// that is done. No front of the file under way of a job that is not done is whole. A file is missing only after a growth was
+/// refused.
 pub fn files_tell()
     /// Each finished page of a batch is a whole file of the picture that the page's frames show, and so is the file
     /// of a scan that is done.
@@ -34,10 +35,10 @@ pub fn files_tell()
         → FilesRepresent p → finished_page p k ≡ Some file → IsFileOf file }
     ensures scan { (p : Endpoint) (file : List ℕ) → FilesRepresent p → p.task ≡ tasks.Scan
         → is_done p.client.outcome ≡ true → p.file ≡ Some file → IsFileOf file }
-    /// The file under way of a job that is not done is never whole, and a file is none only where the job is told as
-    /// out of memory.
+    /// No front of the file under way of a job that is not done is whole. A file is missing only if the job is told as out of
+    /// memory.
     ensures short { (p : Endpoint) (file : List ℕ) → FilesRepresent p
-        → is_done p.client.outcome ≡ false → p.file ≡ Some file → IsWhole file → ⊥ }
+        → is_done p.client.outcome ≡ false → p.file ≡ Some file → HoldsNoFile file }
     ensures none { (p : Endpoint) → FilesRepresent p → p.file ≡ None → p.out_of_memory ≡ true }
     ensures no_page { (p : Endpoint) (k : ℕ) → FilesRepresent p
         → 0 < k → k ≤ p.finished → k ≤ 16 → finished_page p k ≡ None → p.out_of_memory ≡ true }

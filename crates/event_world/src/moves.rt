@@ -84,11 +84,11 @@ fn moves_left_of(endpoint: &Endpoint) -> u64
 }
 
 impl<D: Device> EventWorld<D> {
-    /// The next move of job i: the first that can happen of its connection made, all bytes to the daemon, all bytes to the
-    /// client, the data connection made, its bytes to the client and the daemon's turn of it; and then the loss of a control
-    /// connection whose session the daemon has ended. None where the job does not run.
+    /// The next move of job i: the first that can happen of these: its connection is made, all bytes go to the daemon, all bytes
+    /// go to the client, the data connection is made, its bytes go to the client, the daemon takes a turn of it, a control
+    /// connection is lost whose session the daemon has ended. A job that does not run has none.
     pub fn next_move(&self, i: usize) -> Option<Event>
-        /// `next_move` gives the first event that can happen in the order of the moves, and none where none can or
+        /// `next_move` gives the first event that can happen, in the order of the moves. It gives none if none can happen, or if
         /// the job does not run.
         ensures is { (p : Endpoint) → slice_get self.now.endpoints i ≡ Some p
             → IsNextMove (core D.state self.now.daemon) i p result }

@@ -138,9 +138,9 @@ impl<D: Device> EventWorld<D> {
 
     /// Events in this order. One that cannot happen changes nothing.
     pub fn run(&mut self, events: Vec<Event>)
-        /// `EventWorld::run` does to daemon and clients exactly what its events say, one after another, and nothing where
-        /// an event cannot happen; but that it does not tell which data port a session is opened with (1, by the
-        /// private `connect`), which no call of a world shows.
+        /// `EventWorld::run` does to daemon and clients exactly what its events say, one after another. An event that cannot
+        /// happen does nothing. One thing is not told: the data port that a session is opened with (1, by the private `connect`),
+        /// which no call of a world shows.
         /// Carried by: `EventWorld::run`: `Runs`, `Happens`
         ///
         /// A delivery moves the first so many bytes, at most 4,096, of those that wait, and feeds just these to the

@@ -1,8 +1,14 @@
 -- What an end answers, and what whole frames show.
-use Rattle.std.proofs.Common.{◌≡◌, ℕ, ◌<◌, ◌+◌, ◌*◌, ◌⊎◌, inl, inr, Bool, true, false, List, [], ◌∷◌, ◌++◌, length, arith, refl, sym, ap, ◌∙◌, subst}
+use Rattle.std.proofs.Common.{◌≡◌, ◌≢◌, ℕ, take, drop, ◌<◌, ◌+◌, ◌*◌, ◌⊎◌, inl, inr, Bool, true, false, List, [], ◌∷◌, ◌++◌, length, arith, refl, sym, ap, ◌∙◌, subst}
 use Rattle.std.specs.Prelude.{nat_lt, ◌↔◌, if◌then◌else◌, Option, Some, None, Ok, Err, slice_index}
 use Rattle.netpbm.specs.Picture.{Picture}
+use Rattle.std.specs.Prelude.{nat_lt}
+use Rattle.std.proofs.lemmas.Bool.{ltb-true}
+use Rattle.std.proofs.lemmas.Bool.Decides.{nat_tests}
+use Rattle.std.proofs.lemmas.List.{take_all, take-append-drop, length-drop}
+use Rattle.frame_join.proofs.FrontLaws.{no_front}
 use Rattle.netpbm.specs.Pnm.{IsWhole}
+use Rattle.netpbm.specs.NoFile.{HoldsNoFile}
 use Rattle.sane_fixed.specs.declared.frame_format.FrameFormat.{FrameFormat}
 use Rattle.sane_fixed.specs.declared.frame_format.FrameFormat.TheVariants.{Gray, Rgb, Red, Green, Blue}
 use Rattle.frame_join.specs.declared.join_stage.JoinFault.{JoinFault}
@@ -22,7 +28,7 @@ use Rattle.frame_join.specs.PictureText.{IsPictureFile}
 use Rattle.frame_join.specs.Inside.{value_ended, answer_at}
 use Rattle.frame_join.proofs.AcceptLaws.{alone_is}
 use Rattle.frame_join.proofs.FrameLaws.{denotes_shown}
-use Rattle.frame_join.proofs.StreamLaws.{grown, goes_is_not_whole, nothing_is_not_whole, frame_picture, frame_sample_small, alone_channels}
+use Rattle.frame_join.proofs.StreamLaws.{grown, goes_holds_none, nothing_holds_none, frame_picture, frame_sample_small, alone_channels}
 use Rattle.frame_join.proofs.KeptLaws.{open_parts, pass_parts}
 use Rattle.frame_join.proofs.SideLaws.{three_parts, side_shows, colors_show}
 use Rattle.frame_join.proofs.HeightLaws.{shown_full, color_full, settled_shows, unsettled_shows}
@@ -88,23 +94,37 @@ joined_under past v stands joined = elim (joined_stage past v stands joined) [
   | inr colors ↦ (at_stage WholeColors past v colors stands).4
 ]
 
--- what went out before the picture is whole is not whole
-pub not_whole : (past : JoinHistory) (v : PixelJoinState) → PixelRepresents past v → (IsJoined past → ⊥) → IsWhole past.given → ⊥
-not_whole past v stands unjoined = by_stage v.stage refl
+-- where no fault stands and what went out is no whole text, no front of it is one
+fronts_hold : (past : JoinHistory) (v : PixelJoinState) → PixelRepresents past v → past.fault ≡ None → (IsWhole past.given → ⊥) → HoldsNoFile past.given
+fronts_hold past v stands calm part = λ n. by n (nat_lt n (length past.given)) refl
   where
-    nothing : past.given ≡ [] → IsWhole past.given → ⊥
-    nothing none whole = nothing_is_not_whole (subst IsWhole none whole)
+    by : (n : ℕ) (less : Bool) → nat_lt n (length past.given) ≡ less → IsWhole (take n past.given) → ⊥
+    by n true e =
+        let some : drop n past.given ≢ [] = λ none. omega (arith, ltb-true n (length past.given) e, length-drop n past.given, ap (λ (l : List ℕ). length l) none) in
+        no_front past v (take n past.given) (drop n past.given) stands calm (sym (take-append-drop n past.given)) some
+    by n false e = λ whole. part (subst IsWhole (take_all n past.given (grind (arith, nat_tests, e))) whole)
 
-    by_stage : (s : Stage) → v.stage ≡ s → IsWhole past.given → ⊥
-    by_stage Idle e whole = nothing (at_stage Idle past v e stands).2 whole
-    by_stage (Failed x) e whole = at_stage (Failed x) past v e stands whole
-    by_stage Under e whole =
+-- unless the picture is whole and all of its file went out, what went out holds no whole text
+pub holds_none : (past : JoinHistory) (v : PixelJoinState) → PixelRepresents past v → (IsJoined past → IsWhole past.given → ⊥) → HoldsNoFile past.given
+holds_none past v stands part = by_stage v.stage refl
+  where
+    nothing : past.given ≡ [] → HoldsNoFile past.given
+    nothing none = subst HoldsNoFile (sym none) nothing_holds_none
+
+    by_stage : (s : Stage) → v.stage ≡ s → HoldsNoFile past.given
+    by_stage Idle e = nothing (at_stage Idle past v e stands).2
+    by_stage (Failed x) e = at_stage (Failed x) past v e stands
+    by_stage Under e =
         let at = at_stage Under past v e stands in
-        goes_is_not_whole at.0 past.given v at.3.goes (at.3.last_row_waits (ap is_under e)) whole
-    by_stage Keeping e whole = nothing (at_stage Keeping past v e stands).2.silent.given_is whole
-    by_stage Between e whole = nothing (at_stage Between past v e stands).1.silent.given_is whole
-    by_stage Whole e whole = unjoined (answers past v stands ∙ ap answer_at e)
-    by_stage WholeColors e whole = unjoined (answers past v stands ∙ ap answer_at e)
+        goes_holds_none at.0 past.given v at.3.goes (at.3.last_row_waits (ap is_under e))
+    by_stage Keeping e = nothing (at_stage Keeping past v e stands).2.silent.given_is
+    by_stage Between e = nothing (at_stage Between past v e stands).1.silent.given_is
+    by_stage Whole e = fronts_hold past v stands (fault_at Whole past v e stands) (part (answers past v stands ∙ ap answer_at e))
+    by_stage WholeColors e = fronts_hold past v stands (fault_at WholeColors past v e stands) (part (answers past v stands ∙ ap answer_at e))
+
+-- so it is no whole text itself
+pub not_whole : (past : JoinHistory) (v : PixelJoinState) → PixelRepresents past v → (IsJoined past → ⊥) → IsWhole past.given → ⊥
+not_whole past v stands unjoined whole = holds_none past v stands (λ joined. absurd (unjoined joined)) (length past.given) (subst IsWhole (sym (take_all (length past.given) past.given (omega arith))) whole)
 
 -- ---- what whole frames show
 

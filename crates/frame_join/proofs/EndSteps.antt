@@ -4,6 +4,7 @@ use Rattle.std.specs.Prelude.{◌&&◌, ◌||◌, ◌↔◌, Option, Some, None,
 use Rattle.std.proofs.lemmas.Bool.{and_parts}
 use Rattle.netpbm.specs.Picture.{Picture}
 use Rattle.netpbm.specs.Pnm.{IsWhole}
+use Rattle.netpbm.specs.NoFile.{HoldsNoFile}
 use Rattle.page_picture.specs.Shows.{Frame, ShowsFrames}
 use Rattle.frame_join.specs.declared.join_stage.JoinFault.{JoinFault}
 use Rattle.frame_join.specs.declared.join_stage.JoinFault.TheVariants.{Short}
@@ -20,7 +21,7 @@ use Rattle.frame_join.specs.PictureText.{IsPictureFile}
 use Rattle.frame_join.specs.JoinStates.{JoinState, Represents}
 use Rattle.frame_join.proofs.TestLemmas.{or_left, or_right, not_true}
 use Rattle.frame_join.proofs.KeptLaws.{kept_shape}
-use Rattle.frame_join.proofs.EndLaws.{joined_shows, gone_file, not_whole}
+use Rattle.frame_join.proofs.EndLaws.{joined_shows, gone_file, holds_none, not_whole}
 use Rattle.frame_join.proofs.PixelPasts.{end_same, answer_same, frames_same, shown_wide, shown_narrow, IsSure, AreSure, sure, sure-append}
 use Rattle.frame_join.proofs.PixelSteps.{under_alone, alone_not_kept, fails_kept, in_kept}
 use Rattle.frame_join.proofs.PixelParams.{pixels_kept}
@@ -124,6 +125,9 @@ pub shown_more : (past : JoinHistory) (v : JoinState) → Represents past v → 
 shown_more past v stands p shows = shown_wide past.ended p (sure past.ended stands.ended) shows
 
 -- ---- what those above need
+
+pub holds_no_file : (past : JoinHistory) (v : JoinState) → Represents past v → (IsJoined past → IsWhole past.given → ⊥) → HoldsNoFile past.given
+holds_no_file past v stands part = holds_none (pixel_history past) v.pixels stands.pixels (λ j. part (joined_more past j))
 
 pub whole_not : (past : JoinHistory) (v : JoinState) → Represents past v → (IsJoined past → ⊥) → IsWhole past.given → ⊥
 whole_not past v stands unjoined whole = not_whole (pixel_history past) v.pixels stands.pixels (λ j. unjoined (joined_more past j)) whole

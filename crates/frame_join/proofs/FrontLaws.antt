@@ -1,8 +1,9 @@
 -- A proper front of what went out is never a whole file.
-use Rattle.std.proofs.Common.{◌≡◌, ◌≢◌, ℕ, List, [], ◌∷◌, ◌++◌, length, ◌≤◌, ◌<◌, ◌+◌, ◌*◌, ◌^◌, Some, None, arith, refl, sym, ap, ◌∙◌, subst, length-append}
-use Rattle.std.proofs.lemmas.List.{append_assoc, nil_from_length}
+use Rattle.std.proofs.Common.{◌≡◌, ◌≢◌, ℕ, List, [], ◌∷◌, ◌++◌, length, ◌≤◌, ◌<◌, ◌+◌, ◌*◌, ◌^◌, Some, None, arith, refl, sym, ap, ◌∙◌, subst, take, drop, length-append}
+use Rattle.std.proofs.lemmas.List.{append_assoc, nil_from_length, take-append-drop}
 use Rattle.netpbm.specs.Pnm.{Denotes, IsWhole}
 use Rattle.netpbm.specs.Pnm.{magic}
+use Rattle.netpbm.specs.NoFile.{HoldsNoFile}
 use Rattle.netpbm.specs.FileText.{header_text, maxval_text}
 use Rattle.netpbm.specs.declared.format.PnmFormat.{PnmFormat}
 use Rattle.netpbm.specs.declared.format.PnmFormat.TheVariants.{Pbm, Pgm, Ppm}
@@ -61,6 +62,13 @@ no_front past v front more stands no_fault cut some whole = by_out (gave_out pas
     by_out : GaveOut past v → ⊥
     by_out (gave_nothing none) = some (back_nil front more (sym cut ∙ none))
     by_out (gave_file f goes) = some (streamed f past.given front more v goes cut whole)
+
+-- so no front of a proper front is one
+pub no_file_in_front : (past : JoinHistory) (v : PixelJoinState) (front more : List ℕ) → PixelRepresents past v → past.fault ≡ None → past.given ≡ front ++ more → more ≢ [] → HoldsNoFile front
+no_file_in_front past v front more stands no_fault cut some = λ n.
+    let all : past.given ≡ take n front ++ (drop n front ++ more) =
+    cut ∙ (ap (λ (l : List ℕ). l ++ more) (sym (take-append-drop n front)) ∙ append_assoc (take n front) (drop n front) more) in
+    no_front past v (take n front) (drop n front ++ more) stands no_fault all (λ none. some (back_nil (drop n front) more none))
 
 -- ---- no file is endless
 

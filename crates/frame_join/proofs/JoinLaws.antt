@@ -4,7 +4,7 @@ use Rattle.std.specs.Prelude.{nat_lt, ◌==◌, ◌&&◌, ◌||◌, if◌then◌
 use Rattle.std.proofs.lemmas.Bool.{and_parts, cases_lt}
 use Rattle.std.proofs.Math.Nat.{mul-sub}
 use Rattle.std.proofs.Math.Seq.{drop-nil}
-use Rattle.netpbm.specs.Pnm.{IsWhole}
+use Rattle.netpbm.specs.NoFile.{HoldsNoFile}
 use Rattle.netpbm.specs.FileText.{header_text}
 use Rattle.sane_fixed.specs.declared.byte_order.ByteOrder.{ByteOrder}
 use Rattle.sane_fixed.specs.declared.params.Params.{Params}
@@ -23,7 +23,7 @@ use Rattle.frame_join.specs.PixelJoinStates.{PixelJoinState, PixelRepresents, Pi
 use Rattle.frame_join.specs.Inside.{value_fed, value_ended, value_ended_at, kept_ended, with_known_height, color_put, color_ended, headed_by, put_plane, value_begun, value_begun_at, accepts_next, new_pixel_join, new_keeping_join}
 use Rattle.frame_join.proofs.TestLemmas.{lt_true, lt_false, not_lt_from, same_test, or_cases, or_other}
 use Rattle.frame_join.proofs.FrameLaws.{alone_parts}
-use Rattle.frame_join.proofs.StreamLaws.{grown, held_length, bytes_come, small_append, goes_is_not_whole, nothing_is_not_whole, row_front-zero, rows_front-zero}
+use Rattle.frame_join.proofs.StreamLaws.{grown, held_length, bytes_come, small_append, goes_holds_none, nothing_holds_none, row_front-zero, rows_front-zero}
 use Rattle.frame_join.proofs.KeptLaws.{open_parts, OpenParts, pass_parts, pass_that_is_pass}
 use Rattle.frame_join.proofs.ColorLaws.{has_color, planes_put, plane_none, nth_is, first_parts, second_parts, third_parts, after_one, after_two, pass_not_alone}
 use Rattle.frame_join.proofs.SideLaws.{three_parts, all_alone, side_small}
@@ -113,23 +113,23 @@ join_fed long starved bytes v =
     else (if starved then record v { stage = Failed NoMem } else record v { held = v.held ++ bytes })
 
 -- after a fault
-failed_stands : (past : JoinHistory) (v : PixelJoinState) (fault : JoinFault) → (IsWhole past.given → ⊥) → PixelRepresents (with_fault fault past) (record v { stage = Failed fault })
+failed_stands : (past : JoinHistory) (v : PixelJoinState) (fault : JoinFault) → HoldsNoFile past.given → PixelRepresents (with_fault fault past) (record v { stage = Failed fault })
 failed_stands past v fault none = record { fault = refl; at_stage = none }
 
 stream_fed : (long starved : Bool) (f : Frame) (bytes : List ℕ) (past : JoinHistory) (v : PixelJoinState) → v.stage ≡ Under → past.fault ≡ None → past.ended ≡ [] → StreamsRows f past.given v → ((i : ℕ) → slice_index bytes i < 256) → (long ≡ false → length f.payload + length bytes ≤ most_bytes f.params) → PixelRepresents (past_fed long starved f bytes past) (join_fed long starved bytes v)
-stream_fed true starved f bytes past v under fault ended s small room = failed_stands past v Long (goes_is_not_whole f past.given v s.goes (s.last_row_waits (ap is_under under)))
-stream_fed false true f bytes past v under fault ended s small room = failed_stands past v NoMem (goes_is_not_whole f past.given v s.goes (s.last_row_waits (ap is_under under)))
+stream_fed true starved f bytes past v under fault ended s small room = failed_stands past v Long (goes_holds_none f past.given v s.goes (s.last_row_waits (ap is_under under)))
+stream_fed false true f bytes past v under fault ended s small room = failed_stands past v NoMem (goes_holds_none f past.given v s.goes (s.last_row_waits (ap is_under under)))
 stream_fed false false f bytes past v under fault ended s small room = record {
   fault = fault ∙ sym (ap fault_in under);
   at_stage = subst (λ (t : Stage). PixelRepresentsAt t (record past { under = Some (grown f bytes) }) (record v { held = v.held ++ bytes })) (sym under) (grown f bytes, ended, refl, bytes_come f past.given bytes v s small (room refl));
 }
 
-silent_not_whole : (given : List ℕ) (v : PixelJoinState) → IsSilent given v → IsWhole given → ⊥
-silent_not_whole given v silent whole = nothing_is_not_whole (subst IsWhole silent.given_is whole)
+silent_holds_none : (given : List ℕ) (v : PixelJoinState) → IsSilent given v → HoldsNoFile given
+silent_holds_none given v silent = subst HoldsNoFile (sym silent.given_is) nothing_holds_none
 
 kept_fed : (long starved : Bool) (f : Frame) (bytes : List ℕ) (past : JoinHistory) (v : PixelJoinState) → v.stage ≡ Keeping → past.fault ≡ None → KeepsFrame f past v → ((i : ℕ) → slice_index bytes i < 256) → (long ≡ false → length f.payload + length bytes ≤ most_bytes f.params) → PixelRepresents (past_fed long starved f bytes past) (join_fed long starved bytes v)
-kept_fed true starved f bytes past v at fault k small room = failed_stands past v Long (silent_not_whole past.given v k.silent)
-kept_fed false true f bytes past v at fault k small room = failed_stands past v NoMem (silent_not_whole past.given v k.silent)
+kept_fed true starved f bytes past v at fault k small room = failed_stands past v Long (silent_holds_none past.given v k.silent)
+kept_fed false true f bytes past v at fault k small room = failed_stands past v NoMem (silent_holds_none past.given v k.silent)
 kept_fed false false f bytes past v at fault k small room = record {
   fault = fault ∙ sym (ap fault_in at);
   at_stage = subst (λ (t : Stage). PixelRepresentsAt t (record past { under = Some (grown f bytes) }) (record v { held = v.held ++ bytes })) (sym at) (
@@ -268,7 +268,7 @@ stream_ended true f past v under fault ended s full = record {
   fault = fault;
   at_stage = (f, ap (λ (l : List Frame). l ++ f ∷ []) ended, refl, full_size f (full refl), subst (λ (g : Frame). StreamsRows g past.given (record v { stage = Whole })) (sym (settled_known f s.goes.alone.lines_known)) (ended_streams f past.given v s));
 }
-stream_ended false f past v under fault ended s full = failed_stands past v Short (goes_is_not_whole f past.given v s.goes (s.last_row_waits (ap is_under under)))
+stream_ended false f past v under fault ended s full = failed_stands past v Short (goes_holds_none f past.given v s.goes (s.last_row_waits (ap is_under under)))
 
 -- a frame that is kept is a picture of unknown height, or one color
 pub kept_sort : (frames : List Frame) (f : Frame) → is_accepted frames f.params f.order ≡ true → is_alone f.params ≡ false → ((is_open_ended f.params ≡ true) × (frames ≡ [])) ⊎ (is_pass f.params ≡ true)
@@ -414,7 +414,7 @@ kept_is f past v k =
     ∙ ap (λ (p : Params). kept_closed (is_full f) (is_unknown p.lines) v) k.params
 
 kept_closes : (full : Bool) (f : Frame) (past : JoinHistory) (v : PixelJoinState) → past.fault ≡ None → KeepsFrame f past v → is_full f ≡ full → PixelRepresents (past_ended full f past) (kept_closed full (is_unknown f.params.lines) v)
-kept_closes false f past v fault k e = failed_stands past v Short (silent_not_whole past.given v k.silent)
+kept_closes false f past v fault k e = failed_stands past v Short (silent_holds_none past.given v k.silent)
 kept_closes true f past v fault k e = elim (kept_sort past.ended f k.accepted k.kept) [
   | inl rolled ↦
       let parts = open_parts f.params rolled.0 in
@@ -489,8 +489,8 @@ join_begun accepted starved began v =
 
 -- a frame that is accepted begins, or memory runs out, or it is not accepted
 begun_stands : (accepted starved : Bool) (p : Params) (o : ByteOrder) (past : JoinHistory) (began v : PixelJoinState) → past.given ≡ [] → (accepted ≡ true → PixelRepresents (record past { under = Some (new_frame p o) }) began) → PixelRepresents (past_begun accepted starved p o past) (join_begun accepted starved began v)
-begun_stands false starved p o past began v given new = failed_stands past v Shape (λ whole. nothing_is_not_whole (subst IsWhole given whole))
-begun_stands true true p o past began v given new = failed_stands past v NoMem (λ whole. nothing_is_not_whole (subst IsWhole given whole))
+begun_stands false starved p o past began v given new = failed_stands past v Shape (subst HoldsNoFile (sym given) nothing_holds_none)
+begun_stands true true p o past began v given new = failed_stands past v NoMem (subst HoldsNoFile (sym given) nothing_holds_none)
 begun_stands true false p o past began v given new = new refl
 
 -- the first frame: which of the two it is
@@ -557,7 +557,7 @@ begin_carries p o starved past v stands = by_stage v.stage refl
     moved : (q : JoinHistory) (w : PixelJoinState) → after_begin p o starved past ≡ q → value_begun p o starved v ≡ w → PixelRepresents q w → PixelRepresents (after_begin p o starved past) (value_begun p o starved v)
     moved q w a b new = subst (λ (q : JoinHistory). PixelRepresents q (value_begun p o starved v)) (sym a) (subst (λ (w : PixelJoinState). PixelRepresents q w) (sym b) new)
 
-    inside : (s : Stage) (f : Frame) → v.stage ≡ s → fault_in s ≡ None → past.under ≡ Some f → value_begun_at s p o starved v ≡ record v { stage = Failed Shape } → (IsWhole past.given → ⊥) → PixelRepresents (after_begin p o starved past) (value_begun p o starved v)
+    inside : (s : Stage) (f : Frame) → v.stage ≡ s → fault_in s ≡ None → past.under ≡ Some f → value_begun_at s p o starved v ≡ record v { stage = Failed Shape } → HoldsNoFile past.given → PixelRepresents (after_begin p o starved past) (value_begun p o starved v)
     inside s f e fault under value none =
         moved (with_fault Shape past) (record v { stage = Failed Shape })
         (begin_under p o starved past f (fault_at s past v e stands ∙ fault) under)
@@ -603,10 +603,10 @@ begin_carries p o starved past v stands = by_stage v.stage refl
         moved past v (begin_failed p o starved past x (fault_at (Failed x) past v e stands)) (ap (λ (s : Stage). value_begun_at s p o starved v) e) stands
     by_stage Under e =
         let at = at_stage Under past v e stands in
-        inside Under at.0 e refl at.2 refl (goes_is_not_whole at.0 past.given v at.3.goes (at.3.last_row_waits (ap is_under e)))
+        inside Under at.0 e refl at.2 refl (goes_holds_none at.0 past.given v at.3.goes (at.3.last_row_waits (ap is_under e)))
     by_stage Keeping e =
         let at = at_stage Keeping past v e stands in
-        inside Keeping at.0 e refl at.1 refl (silent_not_whole past.given v at.2.silent)
+        inside Keeping at.0 e refl at.1 refl (silent_holds_none past.given v at.2.silent)
 
 -- ---- the same of what the calls left
 

@@ -25,3 +25,4 @@ pub mod PixelSteps
 pub mod PixelKeeping
 pub mod JoinedLaws
 pub mod EndSteps
+pub mod GivenKept

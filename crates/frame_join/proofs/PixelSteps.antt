@@ -1,7 +1,7 @@
 -- What a join stands for, call by call, by what is kept of the frames.
 use Rattle.std.proofs.Common.{◌≡◌, ℕ, ◌+◌, Bool, true, false, List, [], ◌++◌, length, arith, refl, sym, ap, ◌∙◌, subst}
 use Rattle.std.specs.Prelude.{nat_lt, Option, Some, None, option_map}
-use Rattle.netpbm.specs.Pnm.{IsWhole}
+use Rattle.netpbm.specs.NoFile.{HoldsNoFile}
 use Rattle.sane_fixed.specs.declared.params.Params.{Params}
 use Rattle.sane_fixed.specs.declared.byte_order.ByteOrder.{ByteOrder}
 use Rattle.page_picture.specs.Shows.{Frame}
@@ -16,7 +16,7 @@ use Rattle.frame_join.specs.PixelJoinStates.{PixelJoinState, PixelRepresents, Pi
 use Rattle.frame_join.specs.Pixels.{is_kept, pixel_params, pixels_of, pixel_history}
 use Rattle.frame_join.specs.JoinStates.{JoinState, Represents, IsComing, AreEnded}
 use Rattle.frame_join.proofs.AcceptLaws.{alone_is}
-use Rattle.frame_join.proofs.StreamLaws.{nothing_is_not_whole}
+use Rattle.frame_join.proofs.StreamLaws.{nothing_holds_none}
 use Rattle.frame_join.proofs.PixelParams.{kept_not_alone, kept_is_alone, accepted_is_kept}
 use Rattle.frame_join.proofs.PixelPasts.{new_frame, begins_by, feeds_by, begin_same, feed_same}
 
@@ -140,13 +140,13 @@ after_fault fault p q w stands a b given = record { fault = b ∙ (sym a ∙ sta
     by Between at e = absurd (let clash : None ≡ Some fault = e in cc)
     by Whole at e = absurd (let clash : None ≡ Some fault = e in cc)
     by WholeColors at e = absurd (let clash : None ≡ Some fault = e in cc)
-    by (Failed x) at e = λ whole. at (subst (λ (l : List ℕ). IsWhole l) given whole)
+    by (Failed x) at e = subst HoldsNoFile (sym given) at
 
 -- a frame that is kept has given nothing yet
 pub fails_kept : (fault : JoinFault) (q : JoinHistory) (w : PixelJoinState) → PixelRepresents q w → is_keeping w.stage ≡ true → PixelRepresents (with_fault fault q) (record w { stage = Failed fault })
 fails_kept fault q w stands keeping =
     let given : q.given ≡ [] = (in_kept q w stands keeping).keeps.silent.given_is in
-    record { fault = refl; at_stage = λ whole. nothing_is_not_whole (subst (λ (l : List ℕ). IsWhole l) given whole) }
+    record { fault = refl; at_stage = subst HoldsNoFile (sym given) nothing_holds_none }
 
 pub fault_starved : (w : PixelJoinState) → fault_in w.stage ≡ Some NoMem → is_pixel_out_of_memory w ≡ true
 fault_starved w e = by w.stage e

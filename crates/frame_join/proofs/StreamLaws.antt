@@ -10,6 +10,7 @@ use Rattle.netpbm.specs.Picture.{Picture}
 use Rattle.netpbm.specs.declared.format.PnmFormat.{PnmFormat}
 use Rattle.netpbm.specs.declared.format.PnmFormat.TheVariants.{Pbm, Pgm, Ppm}
 use Rattle.netpbm.specs.Pnm.{Denotes, IsWhole, magic}
+use Rattle.netpbm.specs.NoFile.{HoldsNoFile}
 use Rattle.netpbm.specs.FileText.{concat_up_to, header_text}
 use Rattle.netpbm.proofs.WritingLaws.{joined-zero, joined-more}
 use Rattle.netpbm.proofs.PnmLaws.{no_prefix}
@@ -432,15 +433,20 @@ denotes_picture f parts small =
 
 -- ---- before the last row what went out is not whole
 
-pub goes_is_not_whole : (f : Frame) (given : List ℕ) (v : PixelJoinState) → HasGoneOut f given v → v.row < lines_in f.params.lines → IsWhole given → ⊥
-goes_is_not_whole f given v s row whole =
+pub goes_holds_none : (f : Frame) (given : List ℕ) (v : PixelJoinState) → HasGoneOut f given v → v.row < lines_in f.params.lines → HoldsNoFile given
+goes_holds_none f given v s row = λ n whole.
     let rest = file_more f given v s in
-    let full : IsWhole (given ++ rest.0) = (frame_picture f, subst (λ (l : List ℕ). Denotes l (frame_picture f)) (sym rest.1) (denotes_picture f s.alone s.bytes)) in
-    let none : rest.0 ≡ [] = no_prefix given rest.0 whole full in
-    let same : length given ≡ length (file_front f (lines_in f.params.lines)) = ap (λ (l : List ℕ). length l) (sym (append-nil given) ∙ (ap (λ (l : List ℕ). given ++ l) (sym none) ∙ rest.1)) in
+    let front : List ℕ = take n given in
+    let more : List ℕ = drop n given ++ rest.0 in
+    let all : front ++ more ≡ file_front f (lines_in f.params.lines) =
+    sym (append_assoc front (drop n given) rest.0) ∙ ap (λ (l : List ℕ). l ++ rest.0) (take-append-drop n given) ∙ rest.1 in
+    let full : IsWhole (front ++ more) = (frame_picture f, subst (λ (l : List ℕ). Denotes l (frame_picture f)) (sym all) (denotes_picture f s.alone s.bytes)) in
+    let none : more ≡ [] = no_prefix front more whole full in
+    let same : length given + length rest.0 ≡ length (file_front f (lines_in f.params.lines)) = sym (length-append given rest.0) ∙ ap (λ (l : List ℕ). length l) rest.1 in
+    let parts : length (drop n given) + length rest.0 ≡ 0 = sym (length-append (drop n given) rest.0) ∙ ap (λ (l : List ℕ). length l) none in
     let below = mul-add-lt v.row (row_bytes f.params) v.column (lines_in f.params.lines) row s.column in
     let head : v.headed ≤ length (header_text (header_alone f.params)) = subst (λ (l : List ℕ). v.headed ≤ length l) s.head s.headed in
-    omega (arith, same, below, head, given_length f given v s, file_length f (lines_in f.params.lines))
+    omega (arith, same, parts, below, head, given_length f given v s, file_length f (lines_in f.params.lines))
 
 magic_some : (g : PnmFormat) → 1 ≤ length (magic g)
 magic_some Pbm = omega arith
@@ -455,3 +461,10 @@ nothing_is_not_whole whole =
     let tail = b.is_header.width_field ++ (b.is_header.height_field ++ (b.is_header.maxval_field ++ (b.is_header.last ∷ []))) in
     let two : length b.head ≡ length (magic g) + length tail = ap (λ (l : List ℕ). length l) b.is_header.bytes ∙ length-append (magic g) tail in
     omega (arith, one, two, magic_some g)
+
+nothing_before : (n : ℕ) → IsWhole (take n []) → ⊥
+nothing_before zero whole = nothing_is_not_whole whole
+nothing_before (suc n) whole = nothing_is_not_whole whole
+
+pub nothing_holds_none : HoldsNoFile []
+nothing_holds_none = nothing_before

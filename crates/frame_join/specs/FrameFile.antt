@@ -87,8 +87,8 @@ file_of (f ∷ []) = if is_alone_format f.params.format then file_front (with_he
 file_of (a ∷ b ∷ []) = []
 file_of (a ∷ b ∷ c ∷ rest) = file_front (side_by_side c (planes_of (a ∷ b ∷ c ∷ []))) (lines_in c.params.lines)
 
--- what a pull that gives nothing into a buffer with room has given in all: of a frame whose rows go straight through
--- the header and the complete rows, the picture's last row excepted, or of a whole picture the file
+-- all that was given when a pull gives nothing into a buffer with room: of a frame whose rows go straight through, the
+-- header and the complete rows without the picture's last row; of a whole picture, the file
 abbrev pub AllGone : Option Frame → List Frame → List ℕ → Type 0
 AllGone (Some f) _ given = given ≡ gone_under f
 AllGone None frames given = given ≡ file_of frames

@@ -81,7 +81,7 @@ value_fed bytes starved v =
 
 -- ---- a frame begins
 
--- the value of a join in which a frame begins whose rows go straight through
+-- the value of a join as a frame begins whose rows go straight through
 abbrev pub new_pixel_join : Params → ByteOrder → PixelJoinState
 new_pixel_join params order = record {
   stage = Under;

@@ -7,11 +7,11 @@ use Rattle.frame_join.specs.JoinStages.{is_keeping}
 use Rattle.frame_join.specs.PixelJoinStates.{PixelJoinState, PixelRepresents, is_pixel_out_of_memory, IsPixelDrained}
 use Rattle.frame_join.specs.Pixels.{is_kept, pixel_history}
 
--- **the value of a join (`JoinState`, `Represents`)**: what a join keeps, which forgets most of its history, and which
--- histories it stands for.
+-- **the value of a join (`JoinState`, `Represents`)**: what a join keeps. It forgets most of its history, and stands
+-- for several histories.
 --
--- What a join keeps: the bytes that show pixels and how far their picture is, and, of a frame under way that is kept,
--- the bytes of a line and how many bytes came.
+-- What a join keeps: the bytes that show pixels, and how far their picture is. Of a frame under way that is kept: the
+-- bytes of a line, and how many bytes came.
 pub record JoinState : Type 0 where
   pub pixels : PixelJoinState
   pub line : ℕ

@@ -13,9 +13,9 @@ is_unknown None = true
 is_unknown (Some _) = false
 
 -- **a frame of unknown height, a pass (`is_open_ended`, `is_pass`), what may follow (`is_accepted`)**: a GRAY or RGB
--- frame whose lines are not told; a frame of one color of known lines; the first frame is a picture alone, of unknown
--- height or a pass, and after a pass come further ones of the other colors, alike in width, lines, depth and byte
--- order, the third alone the last.
+-- frame whose lines are not told; a frame of one color of known lines. The first frame is a picture alone, of unknown
+-- height, or a pass. After a pass come frames of the other colors, alike in width, lines, depth and byte order; the
+-- third alone is the last.
 --
 -- a frame of these parameters is a picture whose height its end tells
 abbrev pub is_open_ended : Params → Bool

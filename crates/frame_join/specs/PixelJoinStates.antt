@@ -1,7 +1,7 @@
 -- The value of a join, and which histories it stands for.
 use Rattle.std.specs.Prelude.{ℕ, ◌+◌, ◌*◌, ◌≤◌, ◌<◌, ◌≡◌, Bool, true, false, Some, None, List, [], ◌∷◌, ◌++◌, length}
 use Rattle.std.specs.Prelude.{slice_index, take, drop}
-use Rattle.netpbm.specs.Pnm.{IsWhole}
+use Rattle.netpbm.specs.NoFile.{HoldsNoFile}
 use Rattle.netpbm.specs.FileText.{header_text}
 use Rattle.sane_fixed.specs.declared.byte_order.ByteOrder.{ByteOrder}
 use Rattle.sane_fixed.specs.declared.params.Params.{Params}
@@ -16,8 +16,8 @@ use Rattle.frame_join.specs.FrameHistory.{JoinHistory, is_accepted, is_full}
 use Rattle.frame_join.specs.FrameFile.{header_alone, row_front, rows_front, with_height, frame_height}
 use Rattle.frame_join.specs.JoinStages.{fault_in, is_out_of_memory_at, is_under, is_keeping}
 
--- What a join keeps: how far it is, what was told of the frame, the header and how much of it has gone, the next byte
--- of the raster, the frame's bytes from that byte's line on, and the colors that ended. What has gone is no part of it.
+-- What a join keeps: how far it is, the parameters of the frame, the header and how much of it has gone, the next byte
+-- of the raster, the frame's bytes from that byte's line on, and the colors that ended. It does not keep what has gone.
 pub record PixelJoinState : Type 0 where
   pub stage : Stage
   pub params : Params
@@ -120,7 +120,7 @@ pub record HasColors (a b c : Frame) (given : List ℕ) (v : PixelJoinState) : T
 
 -- ---- which histories a value stands for
 
--- what a value at that stage says of the history; after a fault only that no whole text was given
+-- what a value at that stage says of the history; after a fault only that what was given holds no whole text
 abbrev pub PixelRepresentsAt : Stage → JoinHistory → PixelJoinState → Type 0
 PixelRepresentsAt Idle past v = (past.ended ≡ []) × (past.under ≡ None) × (past.given ≡ [])
 PixelRepresentsAt Under past v = (f : Frame) × (past.ended ≡ []) × (past.under ≡ Some f) × StreamsRows f past.given v
@@ -130,7 +130,7 @@ PixelRepresentsAt Whole past v = (f : Frame) × (past.ended ≡ f ∷ []) × (pa
     × (length f.payload ≡ frame_height f * f.params.bytes_per_line) × StreamsRows (with_height f) past.given v
 PixelRepresentsAt WholeColors past v = (a : Frame) × (b : Frame) × (c : Frame) × (past.ended ≡ a ∷ b ∷ c ∷ [])
     × (past.under ≡ None) × HasColors a b c past.given v
-PixelRepresentsAt (Failed fault) past v = (IsWhole past.given → ⊥)
+PixelRepresentsAt (Failed fault) past v = HoldsNoFile past.given
 
 -- the value stands for the history
 pub record PixelRepresents (past : JoinHistory) (v : PixelJoinState) : Type 0 where

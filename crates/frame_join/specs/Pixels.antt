@@ -29,8 +29,8 @@ pixel_params p = if is_kept p then record p { bytes_per_line = row_bytes p } els
 abbrev pub pixel_bytes : Params → List ℕ → List ℕ
 pixel_bytes p bytes = if is_kept p then pixels_from (row_bytes p) p.bytes_per_line 0 bytes else bytes
 
--- **what is kept of a frame (`pixels_of`)**: where a frame is kept until the picture is whole, of each of its lines the
--- bytes that show pixels, without what fills the line up behind them.
+-- **what is kept of a frame (`pixels_of`)**: of each line the bytes that show pixels, without the filling behind them.
+-- A frame is kept where its picture must be whole first.
 abbrev pub pixels_of : Frame → Frame
 pixels_of f = record { params = pixel_params f.params; order = f.order; payload = pixel_bytes f.params f.payload }
 

@@ -52,19 +52,19 @@ impl FrameJoin {
         }
     }
 
-    /// A frame begins. A fault comes to stand: `Shape` inside a frame, and for a frame other than one of gray or of red,
-    /// green and blue with `last_frame`, or three of red, green and blue once each in any order, the third alone with
-    /// `last_frame`, of one width, height, depth and byte order. Of each the depth is 8 or 16 (in gray also 1), the
-    /// pixels of a line are 1 to 65,536, the lines as many, or, where the frame is alone, not known, and a line has room
-    /// for its pixels and at most 1,048,576 bytes. `NoMem` comes to stand where a growth is refused. After the whole
-    /// picture, and after a fault, it changes nothing.
+    /// A frame begins. The fault `Shape` comes to stand inside a frame, and for a frame that does not fit. A frame fits if it is
+    /// one of gray or of red, green and blue with `last_frame`, or one of three of red, green and blue once each in any order,
+    /// the third alone with `last_frame`, of one width, height, depth and byte order. Its depth is 8 or 16 (in gray also 1). Its
+    /// lines have 1 to 65,536 pixels, and room for these in at most 1,048,576 bytes. It has 1 to 65,536 lines, or, if it is
+    /// alone, an unknown number. `NoMem` comes to stand if a growth is refused. After the whole picture, and after a fault, it
+    /// changes nothing.
     ///
     /// The first frame reserves room for the header, and for one line and 4,096 bytes where its rows go straight
     /// through.
     pub fn begin(&mut self, alloc: Global, params: &Params, order: ByteOrder)
         // Whatever was told before, the join stands for that and the frame.
-        /// A join takes, in any pieces, one GRAY or RGB frame, of known height or not, or a RED, a GREEN and a BLUE
-        /// frame in any order; it refuses every other shape.
+        /// A join takes these frames, in any pieces: one GRAY or RGB frame, of known height or not, or a RED, a GREEN and a BLUE
+        /// frame in any order. It refuses every other shape.
         /// Carried by: `begin`, `feed`, `fault` of `FrameJoin`
         ensures carried { (past : JoinHistory) → Represents past self.old
             → Represents (after_begin params.now order (is_out_of_memory self.new) past) self.new }
@@ -122,7 +122,7 @@ impl FrameJoin {
     pub fn feed(&mut self, bytes: &[u8])
         ensures carried { (past : JoinHistory) → Represents past self.old
             → Represents (after_feed bytes.now (is_out_of_memory self.new) past) self.new }
-        // Where a pull gave nothing before and no frame is kept, a piece of at most 4,096 bytes takes no memory.
+        // If a pull gave nothing before and no frame is kept, a piece of at most 4,096 bytes takes no memory.
         ensures room { IsDrained self.old
             → length bytes.now ≤ 4096 → is_out_of_memory self.new ≡ is_out_of_memory self.old }
         // No bytes take none.

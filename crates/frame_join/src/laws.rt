@@ -1,6 +1,7 @@
 ghost use Rattle.std.specs.Prelude.{◌≡◌, ◌≢◌, ◌<◌, ◌≤◌, ◌*◌, ◌||◌, ◌++◌, None, Some, true, ◌^◌, ℕ, List, [], ◌∷◌, length, map, slice_index};
 ghost use Rattle.netpbm.specs.Picture.{Picture};
 ghost use Rattle.netpbm.specs.Pnm.{IsWhole};
+ghost use Rattle.netpbm.specs.NoFile.{HoldsNoFile};
 ghost use Rattle.netpbm.specs.FileText.{header_text, row_text, concat_up_to};
 ghost use Rattle.page_picture.specs.Shows.{Frame, ShowsAlone, ShowsColors, ShowsFrames, frame_sample, channels_within};
 ghost use Rattle.frame_join.specs.AloneFrame.{is_alone, lines_in, row_bytes};
@@ -12,29 +13,29 @@ ghost use Rattle.frame_join.specs.Pixels.{is_kept, pixels_of};
 ghost use Rattle.frame_join.specs.JoinStates.{JoinState, Represents};
 ghost use Rattle.frame_join.specs.Laws.{MostIsOfPixels, PlanesAreOfPixels, ShownColorsAreAccepted, WholeFileIsOfOneFrame, FrameFileIsTheWritersText};
 
-/// Before the picture is whole, what was given in all is no whole text.
+/// Unless the picture is whole and all of its file was given, no front of what was given in all is a whole text.
 pub fn not_whole_before()
-    ensures { (past : JoinHistory) (join : JoinState)
-        → Represents past join → (IsJoined past → ⊥) → IsWhole past.given → ⊥ }
+    ensures { (past : JoinHistory) (join : JoinState) → Represents past join
+        → (IsJoined past → IsWhole past.given → ⊥) → HoldsNoFile past.given }
 {}
 
-/// Where no fault stands, a proper front of what was given in all is no whole text.
+/// Where no fault stands, a proper front of what was given in all holds no whole text.
 pub fn no_front_is_whole()
     /// No proper front of what went out is a whole text.
     ensures { (past : JoinHistory) (join : JoinState) (front more : List ℕ) → Represents past join
-        → past.fault ≡ None → past.given ≡ front ++ more → more ≢ [] → IsWhole front → ⊥ }
+        → past.fault ≡ None → past.given ≡ front ++ more → more ≢ [] → HoldsNoFile front }
 {}
 
 /// Where no fault stands, what was given in all is less than 2^40 bytes.
 pub fn no_file_is_endless()
-    /// What goes out in all is less than 2^40 bytes.
+    /// Less than 2^40 bytes go out in all.
     ensures { (past : JoinHistory) (join : JoinState)
         → Represents past join → past.fault ≡ None → length past.given < 2 ^ 40 }
 {}
 
 pub fn only_pixels_are_kept()
-    /// Of frames that are kept a join holds the bytes that show pixels, and no others: of the frame under way at most
-    /// what as many rows have, however long its lines are told to be.
+    /// A join holds only the bytes that show pixels of frames that are kept. It holds at most what that many rows have of the
+    /// frame under way, however long its lines are told to be.
     /// Carried by: `coming`, `most`, `colors`, `size` of `only_pixels_are_kept`
     ensures coming { (past : JoinHistory) (join : JoinState) (f : Frame)
         → Represents past join → is_keeping join.pixels.stage ≡ true
@@ -72,8 +73,8 @@ pub fn whole_file_is_of_one_frame()
     ensures { WholeFileIsOfOneFrame }
 {}
 
-/// The header and the first rows that a frame gives for its file are those of the writer's text for the picture that
-/// the frame shows: the comment in the second line, and the bits past a row's end 0.
+/// The header and the first rows that a frame gives for its file are those of the writer's text for its picture: the comment is
+/// the second line, and the bits past a row's end are 0.
 pub fn frame_file_is_the_writers_text()
     ensures { FrameFileIsTheWritersText }
 {}

@@ -331,8 +331,8 @@ impl PixelJoin {
         }
     }
 
-    /// Writes bytes that may go out to `buf` from `at` on, of the header one, else some of a row, and says where it
-    /// stopped; that is at `at` only where none may go out.
+    /// Writes bytes that may go out to `buf` from `at` on, first of the header, then of a row, and says where it stopped. It
+    /// stops at `at` only if none may go out.
     fn next_run(&mut self, buf: &mut [u8], at: usize) -> usize
         requires { at < length buf.old }
         ensures low { at ≤ result }
@@ -564,12 +564,12 @@ impl PixelJoin {
         }
     }
 
-    /// A frame begins. A fault comes to stand: `Shape` inside a frame, and for a frame other than one of gray or of red,
-    /// green and blue with `last_frame`, or three of red, green and blue once each in any order, the third alone with
-    /// `last_frame`, of one width, height, depth and byte order. Of each the depth is 8 or 16 (in gray also 1), the
-    /// pixels of a line are 1 to 65,536, the lines as many, or, where the frame is alone, not known, and a line has room
-    /// for its pixels and at most 1,048,576 bytes. `NoMem` comes to stand where a growth is refused. After the whole
-    /// picture, and after a fault, it changes nothing.
+    /// A frame begins. The fault `Shape` comes to stand inside a frame, and for a frame that does not fit. A frame fits if it is
+    /// one of gray or of red, green and blue with `last_frame`, or one of three of red, green and blue once each in any order,
+    /// the third alone with `last_frame`, of one width, height, depth and byte order. Its depth is 8 or 16 (in gray also 1). Its
+    /// lines have 1 to 65,536 pixels, and room for these in at most 1,048,576 bytes. It has 1 to 65,536 lines, or, if it is
+    /// alone, an unknown number. `NoMem` comes to stand if a growth is refused. After the whole picture, and after a fault, it
+    /// changes nothing.
     ///
     /// The first frame reserves room for the header, and for one line and 4,096 bytes where its rows go straight
     /// through.
@@ -590,7 +590,7 @@ impl PixelJoin {
     pub fn feed(&mut self, bytes: &[u8])
         ensures carried { (past : JoinHistory) → PixelRepresents past self.old → PixelRepresents
             (after_feed bytes.now (is_pixel_out_of_memory self.new) past) self.new }
-        // Where a pull gave nothing before and no frame is kept, a piece of at most 4,096 bytes takes no memory.
+        // If a pull gave nothing before and no frame is kept, a piece of at most 4,096 bytes takes no memory.
         ensures room { IsPixelDrained self.old → length bytes.now ≤ 4096
             → is_pixel_out_of_memory self.new ≡ is_pixel_out_of_memory self.old }
         // No bytes take none.
@@ -670,7 +670,7 @@ fn let_go(held: &mut Vec<u8>, start: usize, more: usize) -> usize
     0
 }
 
-/// A join in which a frame begins whose rows go straight through.
+/// A join as a frame begins whose rows go straight through.
 fn new_pixel_join(alloc: Global, params: &Params, order: ByteOrder) -> Result<PixelJoin, AllocError>
     requires { AloneParts params.now }
     ensures { IfOk result (λ join. join ≡ new_pixel_join params.now order) }

@@ -350,8 +350,8 @@ impl Planes {
         self.put_between(8, ByteOrder::Big, y, from, end, buf.len(), buf);
     }
 
-    /// Puts the bytes of row `y` of the file from place `from` on, where the three colors of each pixel stand side by side,
-    /// two bytes each, which the colors have in that order.
+    /// Puts the bytes of row `y` of the file from place `from` on. The three colors of each pixel stand side by side, two bytes
+    /// each, in the order that the colors have.
     pub(crate) fn put_side_words(&self, order: ByteOrder, y: u32, from: usize, buf: &mut [u8])
         requires place { from + length buf.old ≤ 1048576 }
         ensures { (i : ℕ) → i < length buf.old →

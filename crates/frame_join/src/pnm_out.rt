@@ -42,7 +42,7 @@ impl PnmOut {
         ensures gone { (past : JoinHistory) → Represents past join.old → past.fault ≡ None
             → result ≡ 0 → 0 < length buf.old → AllGone past.under past.ended past.given }
         // Then, where the picture is whole, what was given in all denotes the picture that the frames show.
-        /// What was pulled in all then denotes that picture, and before it is never whole.
+        /// All that was pulled then denotes that picture. Before, no front of it is whole.
         /// Carried by: `denotes`, `whole` of `PnmOut::pull`; `not_whole_before`
         ensures denotes { (past : JoinHistory)
             → Represents past join.old → IsJoined past → result ≡ 0 → 0 < length buf.old

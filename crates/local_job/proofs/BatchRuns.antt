@@ -182,7 +182,7 @@ stops_cancelled t count before after new stop rest is = record {
   few = is.few;
   ended = elim is.ended [
     | inl last ↦ inl (last_cancelled t is.files before after new stop rest last)
-    | inr (few, behind) ↦ inr (few, record { text = behind.text; not_whole = behind.not_whole; left = behind.left; is_left = behind.is_left; outputs = behind.outputs; cause = page_cancelled _ _ new stop behind.cause })
+    | inr (few, behind) ↦ inr (few, record { text = behind.text; none = behind.none; left = behind.left; is_left = behind.is_left; outputs = behind.outputs; cause = page_cancelled _ _ new stop behind.cause })
   ];
 }
 

@@ -3,7 +3,7 @@ use Rattle.std.proofs.Common.{◌≡◌, ◌∙◌, ◌⊎◌, inl, inr, refl, s
 use Rattle.std.specs.Prelude.{◌≢◌, Result, Ok, Err, IfOk, OnOk}
 use Rattle.std.proofs.lemmas.List.{append-nil, append_assoc}
 use Rattle.sane_fixed.specs.declared.status.Status.TheVariants.{Inval, IoError, NoDocs}
-use Rattle.frame_join.proofs.StreamLaws.{nothing_is_not_whole}
+use Rattle.frame_join.proofs.StreamLaws.{nothing_holds_none}
 use Rattle.scan_frames.specs.Frames.{has_picture}
 use Rattle.scan_frames.specs.declared.setup.Setup.{Setup}
 use Rattle.device_api.specs.State.{DeviceState, HeldPage, Phase, AtRest, is_at_rest, page_of, state_at_rest, steady_of, with_phase}
@@ -184,7 +184,7 @@ page_ended s now new n count before stock next stop run few left ends =
         omega (arith, run.count, few),
         record {
           text = left.text;
-          not_whole = left.not_whole;
+          none = left.none;
           left = left.left;
           is_left = subst (λ (m : ℕ). AreLeft (m + 1) left.text left.left) number left.is_left;
           outputs = takes_then before stock next (outputs_from 1 run.files) left.left run.outputs left.outputs;
@@ -195,5 +195,5 @@ page_ended s now new n count before stock next stop run few left ends =
 
 -- there is no memory for the first
 pub no_memory_first : (s : DeviceState) (count : ℕ) (before : Option Stock) (stop : Stop) → 0 < count → stop ≡ no_memory → StopsAt count (record { device = s; stock = before }) (record { device = s; stock = before }) stop
-no_memory_first s count before stop some is = page_ended s s s 0 count before before before stop (none_run s before) some (record { text = []; not_whole = nothing_is_not_whole; left = []; is_left = refl; outputs = takes_none before })
+no_memory_first s count before stop some is = page_ended s s s 0 count before before before stop (none_run s before) some (record { text = []; none = nothing_holds_none; left = []; is_left = refl; outputs = takes_none before })
     (record { no_page = λ _. (refl, inl is); no_picture = λ _ _. inl is; cause = λ _ _. subst (λ (t : Stop). ScanHasCause t s s) (sym is) refl; same = of_nothing s s refl })

@@ -3,7 +3,7 @@ use Rattle.std.proofs.Common.{◌≡◌, ℕ, ◌+◌, ◌-◌, ◌<◌, List, [
 use Rattle.std.specs.Io.KnownBytes.{Appends}
 use Rattle.std.proofs.Math.Seq.{take-add}
 use Rattle.std.proofs.lemmas.List.{length-take}
-use Rattle.netpbm.specs.Pnm.{IsWhole}
+use Rattle.frame_join.proofs.GivenKept.{NoneBefore}
 use Rattle.sane_fixed.specs.declared.status.Status.{Status}
 use Rattle.sane_fixed.specs.declared.status.Status.TheVariants.{Good, Unsupported, Cancelled, DeviceBusy, Inval, Eof, Jammed, NoDocs, CoverOpen, IoError, NoMem, AccessDenied}
 use Rattle.page_picture.specs.Shows.{Frame}
@@ -208,11 +208,11 @@ more_bytes old now new pass given n buf past frame first before after was join i
 }
 
 pub cut_off : (s : DeviceState) (pass given : ℕ) (past : JoinHistory) (frame : Frame) (first contents : Option (List ℕ)) (join : JoinState) → past.fault ≡ None
-    → ((q : JoinHistory) (j : JoinState) → Represents q j → (IsJoined q → ⊥) → IsWhole q.given → ⊥) → IsReadTo s pass given (record { past = past; frame = frame; first = first }) (record { join = join; contents = contents }) → StopsShort first contents
+    → NoneBefore → IsReadTo s pass given (record { past = past; frame = frame; first = first }) (record { join = join; contents = contents }) → StopsShort first contents
 cut_off s pass given past frame first contents join no_fault law r = record {
   text = r.feeds.given;
   taken = r.feeds.taken;
-  not_whole = law (so_far past frame r.bytes r.feeds.given) join r.feeds.stands (λ joined.
+  none = law (so_far past frame r.bytes r.feeds.given) join r.feeds.stands (λ joined.
       let clash : Ok false ≡ Ok true = ap (λ (o : Option JoinFault). answer_by o (Some (record frame { payload = r.bytes })) past.ended) (sym no_fault) ∙ joined in
       absurd (cc));
 }

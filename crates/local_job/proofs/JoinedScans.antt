@@ -1,7 +1,7 @@
 -- A scan, pass after pass.
 use Rattle.std.proofs.Common.{◌≡◌, ℕ, suc, ◌+◌, ◌<◌, ◌≤◌, List, [], ◌∷◌, Option, Bool, true, false, refl, sym, ap, ◌∙◌, subst, arith}
 use Rattle.std.specs.Io.KnownBytes.{Appends}
-use Rattle.netpbm.specs.Pnm.{IsWhole}
+use Rattle.frame_join.proofs.GivenKept.{NoneBefore}
 use Rattle.scan_frames.specs.Frames.{has_picture}
 use Rattle.device_api.specs.State.{DeviceState, Phase, AtRest, Between, Reading, goes_to, is_at_rest, is_reading, next_pass, state_at_rest, with_phase, page_of}
 use Rattle.frame_join.specs.FrameHistory.{JoinHistory, empty_history, IsJoined}
@@ -109,6 +109,6 @@ pub no_more : (old now : DeviceState) (pass : ℕ) (before contents : Option (Li
 no_more old now pass before contents join gone many =
     omega (arith, many, (gone.joined before (Appends-nil before)).1.more, few_passes old.setup)
 
-pub stops_gone : (old now : DeviceState) (pass : ℕ) (before contents first : Option (List ℕ)) (join : JoinState) → ((q : JoinHistory) (j : JoinState) → Represents q j → (IsJoined q → ⊥) → IsWhole q.given → ⊥)
+pub stops_gone : (old now : DeviceState) (pass : ℕ) (before contents first : Option (List ℕ)) (join : JoinState) → NoneBefore
     → HasGone old now pass before join contents → Appends first before [] → StopsShort first contents
 stops_gone old now pass before contents first join law gone taken = stops old pass first contents join law (gone.joined first taken).1

@@ -5,7 +5,7 @@ use Rattle.std.proofs.Math.Seq.{take-length}
 use Rattle.std.proofs.lemmas.Bool.{eqb-true, ltb-false, ltb-true}
 use Rattle.std.proofs.Math.Nat.{div-le_of_le-mul}
 use Rattle.netpbm.specs.Picture.{Picture}
-use Rattle.netpbm.specs.Pnm.{IsWhole}
+use Rattle.frame_join.proofs.GivenKept.{NoneBefore}
 use Rattle.std.proofs.Common.{Result, Ok, Err}
 use Rattle.page_picture.specs.Page.{PageView, IsPageView}
 use Rattle.page_picture.specs.Meaning.{meaning_of, picture_of}
@@ -88,14 +88,14 @@ pub with_old : (old new : DeviceState) (phase : Phase) → new ≡ with_phase ol
 with_old old new phase is = ap (λ (s : DeviceState). with_phase s old.phase) (sym is)
 
 -- what was given so far is no whole file
-pub stops : (s : DeviceState) (pass : ℕ) (first contents : Option (List ℕ)) (join : JoinState) → ((q : JoinHistory) (j : JoinState) → Represents q j → (IsJoined q → ⊥) → IsWhole q.given → ⊥)
+pub stops : (s : DeviceState) (pass : ℕ) (first contents : Option (List ℕ)) (join : JoinState) → NoneBefore
     → HasJoined s pass first join contents → StopsShort first contents
 stops s pass first contents join law j =
     let few : length j.passes ≤ last_pass s.setup = omega (arith, j.count, j.more) in
     record {
       text = j.given;
       taken = j.taken;
-      not_whole = law _ join j.stands (λ joined. let clash : Ok false ≡ Ok true = ap (λ (b : Bool). Ok b) (sym (not_joined s.setup (page_of s) j.passes few)) ∙ joined in cc);
+      none = law _ join j.stands (λ joined. let clash : Ok false ≡ Ok true = ap (λ (b : Bool). Ok b) (sym (not_joined s.setup (page_of s) j.passes few)) ∙ joined in absurd (cc));
     }
 
 -- the history in which the frame of the pass has begun

@@ -3,7 +3,7 @@ use Rattle.std.proofs.Common.{◌≡◌, ◌∙◌, refl, sym, ap, subst, ℕ, B
 use Rattle.std.specs.Io.KnownBytes.{Appends}
 use Rattle.std.proofs.lemmas.List.{append-nil}
 use Rattle.netpbm.specs.Pnm.{IsWhole}
-use Rattle.frame_join.proofs.StreamLaws.{nothing_is_not_whole}
+use Rattle.frame_join.proofs.StreamLaws.{nothing_holds_none, nothing_is_not_whole}
 use Rattle.device_api.specs.State.{DeviceState}
 use Rattle.scan_job.specs.Shelves.{Stock, ReturnedOutput, Shelves}
 use Rattle.local_job.specs.OutputRequests.{IsAsked, bytes_held}
@@ -56,11 +56,11 @@ page_filed s k kept (Some b) (Some m) after out asked back scanned = filed_on s 
 
 left_on : (k : ℕ) (kept : Bool) (b m : Stock) (after : Option Stock) (out : Option (Option (List ℕ))) → IsAsked (Some b) out k (Some m) → GivesBack (Some m) out kept after
     → StopsShort (Some []) (bytes_held (Some m) out) → LeavesPage k (Some b) after
-left_on k kept b m after None asked back is = record { text = []; not_whole = nothing_is_not_whole; left = []; is_left = refl; outputs = none_back b m after asked back.0 }
+left_on k kept b m after None asked back is = record { text = []; none = nothing_holds_none; left = []; is_left = refl; outputs = none_back b m after asked back.0 }
 left_on k kept b m after (Some None) asked back is = absurd is.taken
 left_on k kept b m after (Some (Some bytes)) asked back is = record {
   text = is.text;
-  not_whole = is.not_whole;
+  none = is.none;
   left = returned_output k is.text kept ∷ [];
   is_left = (kept, refl);
   outputs = came_back b m k bytes is.text kept after asked is.taken back;
@@ -68,6 +68,6 @@ left_on k kept b m after (Some (Some bytes)) asked back is = record {
 
 pub page_left : (k : ℕ) (kept : Bool) (before mid after : Option Stock) (out : Option (Option (List ℕ))) → IsAsked before out k mid → GivesBack mid out kept after
     → ((first : Option (List ℕ)) → Appends first (bytes_held before None) [] → StopsShort first (bytes_held mid out)) → LeavesPage k before after
-page_left k kept None mid after out asked back short = record { text = []; not_whole = nothing_is_not_whole; left = []; is_left = refl; outputs = tt }
+page_left k kept None mid after out asked back short = record { text = []; none = nothing_holds_none; left = []; is_left = refl; outputs = tt }
 page_left k kept (Some b) None after out asked back short = absurd asked
 page_left k kept (Some b) (Some m) after out asked back short = left_on k kept b m after out asked back (short (Some []) refl)

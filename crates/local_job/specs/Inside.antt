@@ -21,7 +21,7 @@ use Rattle.device_api.specs.InForce.{number_named}
 use Rattle.scan_job.specs.declared.report.Report.{Report}
 use Rattle.local_job.specs.Putting.{value_of_setting}
 use Rattle.netpbm.specs.Picture.{Picture}
-use Rattle.netpbm.specs.Pnm.{IsWhole}
+use Rattle.netpbm.specs.NoFile.{HoldsNoFile}
 use Rattle.page_picture.specs.Shows.{Frame, ShowsFrames}
 use Rattle.frame_join.specs.FrameHistory.{JoinHistory, IsJoined, after_pull, is_full, is_joined}
 use Rattle.frame_join.specs.AloneFrame.{most_bytes}
@@ -114,8 +114,8 @@ with_done done (Err stop) = Err stop
 
 -- ---- the bytes of a file on their way from a join to the output
 
--- **drained (`JoinIsDrainedTo`), stops short (`StopsShort`)**: the output took all that was given so far, and once the
--- picture is whole that denotes it; the output took a text that is no whole file.
+-- **drained (`JoinIsDrainedTo`), stops short (`StopsShort`)**: the output took all that was given so far, which denotes
+-- the picture once that is whole; the output took bytes of which no front is a whole file.
 pub record JoinIsDrainedTo (past : JoinHistory) (first : Option (List ℕ)) (join : JoinState)
     (contents : Option (List ℕ)) : Type 0 where
   pub bytes : List ℕ
@@ -148,10 +148,10 @@ pub record JoinIsInside (past : JoinHistory) (frame : Frame) (first : Option (Li
   pub taken : Appends first contents past.given
 
 -- **read to (`FrameUnderWay`, `IsReadTo`), ends the frame (`JoinsFrame`), joined (`HasJoined`), scanned
--- (`IsScanned`)**: so many bytes of a frame came, the front of the pass's where the source is steady; the frame had all
--- its bytes and the output took what was given; so many passes were joined, each with the pass's bytes where the source
--- is steady, and one more is to come; the output took the whole file of a picture, which is the scene's meaning on the
--- page where the source is steady.
+-- (`IsScanned`)**: so many bytes of a frame came; the frame had all its bytes, and the output took what was given; so
+-- many passes were joined, and one more is to come; the output took the whole file of a picture. Where the source is
+-- steady, the bytes are a front of the pass's, each pass has its own bytes, and the picture is the scene's meaning on
+-- the page.
 --
 -- a frame under way: what was told to the join, the frame, and what the output held first
 pub record FrameUnderWay : Type 0 where
@@ -295,10 +295,10 @@ pub record FilesPage (s : DeviceState) (k : ℕ) (kept : Bool) (before after : O
   pub file : IsFileOfFirstPage s text
   pub outputs : TakesBack before (returned_output k text kept ∷ []) after
 
--- it was not, and no whole file is left of it
+-- it was not, and no front of what is left of it is a whole file
 pub record LeavesPage (k : ℕ) (before after : Option Stock) : Type 0 where
   pub text : List ℕ
-  pub not_whole : IsWhole text → ⊥
+  pub none : HoldsNoFile text
   pub left : List ReturnedOutput
   pub is_left : AreLeft k text left
   pub outputs : TakesBack before left after

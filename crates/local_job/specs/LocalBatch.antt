@@ -32,8 +32,8 @@ pub record IsBatchPut (s : DeviceState) (job : Job) (forced : Setup × List Plac
   pub taken : HasJobFault job None
   pub put : in_force s.setup.scene.kind s.setup.order (settings_put job.task job.settings.items) ≡ Some forced
 
--- **done (`IsBatchDone`)**: settings in force and reported, the task's devices and options told, and pages scanned: as
--- many as were asked for, or fewer, at least one, where none is left; the shelf kept the output of each.
+-- **done (`IsBatchDone`)**: settings are in force and reported, and the task's devices and options were told. As many
+-- pages were scanned as were asked for, or fewer, at least one, if none is left. The shelf kept the output of each.
 pub record IsBatchDone (job : Job) (was now : DeviceAndShelf) (reports : Reports) : Type 0 where
   pub setup : Setup
   pub placed : List Placement
@@ -53,8 +53,8 @@ pub record ScansNothing (old : DeviceState) (before after : Option Stock) (new :
   pub rest : is_at_rest new.phase ≡ true
 
 -- **ended (`IsBatchEndedBy`, `StopsAt`, `EndsBehind`, `RefusesLast`)**: the size or the count; the setting that is not
--- put; out of memory before the first page; or, behind the pages that were finished, what ends a scan, where at most
--- one output more was asked for, which took no whole file; or a shelf that refuses the last page's output.
+-- put; out of memory before the first page; what ends a scan, behind the finished pages, where at most one output more
+-- was asked for, which took no whole file; or a shelf that refuses the last page's output.
 pub record IsBatchEndedBy (job : Job) (was now : DeviceAndShelf) (stop : Stop) : Type 0 where
   pub size : (HasJobFault job None → ⊥) → stop ≡ bad_setting
   pub setting : HasJobFault job None → (why : Stop)

@@ -2,6 +2,7 @@
 use Rattle.std.specs.Prelude.{ℕ, zero, suc, ◌+◌, ◌<◌, ◌≤◌, ◌≡◌, ◌≢◌, ◌⊎◌, Option, List, [], ◌∷◌, ◌++◌, true, false}
 use Rattle.std.specs.Prelude.{length, IsSomeAnd}
 use Rattle.netpbm.specs.Pnm.{IsWhole}
+use Rattle.netpbm.specs.NoFile.{HoldsNoFile}
 use Rattle.page_picture.specs.Meaning.{meaning_of}
 use Rattle.sane_fixed.specs.declared.status.Status.TheVariants.{Inval, NoDocs}
 use Rattle.scan_frames.specs.Frames.{has_picture}
@@ -49,8 +50,8 @@ pub record DeviceAndShelf : Type 0 where
 abbrev pub with_shelf : DeviceState → Option Stock → DeviceAndShelf
 with_shelf device stock = record { device = device; stock = stock }
 
--- **pages scanned (`AreScanned`)**: one file for each page: whole, and of the meaning of the options on the scanner's
--- first page where its source is steady; the next is that of the scanner that the page before left.
+-- **pages scanned (`AreScanned`)**: one whole file for each page. If the source of the scanner's first page is steady,
+-- the file is the meaning of the options on that page. The next file is that of the scanner that the page before left.
 --
 -- So many pages were scanned, or fewer, at least one, where no page was left. Each has its file, and they went out
 -- under the numbers from 1 on; the shelf kept every one.
@@ -61,8 +62,8 @@ pub record AreScanned (count : ℕ) (was now : DeviceAndShelf) : Type 0 where
   pub outputs : TakesBack was.stock (outputs_from 1 files) now.stock
   pub left : now.device ≡ after_pages (length files) was.device
 
--- What ended the scan of a page behind so many others: there is no page, which is no error behind another; the options
--- mean no picture on it; or what ends a scan of one.
+-- What ended the scan of a page behind so many others: there is no page, which is no error behind another one; the
+-- options mean no picture on it; or what ends a scan of one.
 pub record EndsPage (s : DeviceState) (behind : ℕ) (new : DeviceState) (stop : Stop) : Type 0 where
   pub no_page : s.pages ≡ [] → (behind ≡ 0) × ((stop ≡ no_memory) ⊎ (stop ≡ stop_by_status NoDocs))
   pub no_picture : s.pages ≢ [] → has_picture s.setup (page_of s) ≡ false
@@ -79,17 +80,17 @@ pub record RefusesLast (files : List (List ℕ)) (was now : DeviceAndShelf) (sto
   pub refused : stop ≡ failed_output
   pub after : now.device ≡ after_pages (length files) was.device
 
--- it kept them all, and the next page was not scanned, of which at most one output is left, with no whole file
+-- it kept them all, and the next page was not scanned: at most one output of it is left, with no whole file in front
 pub record EndsBehind (files : List (List ℕ)) (was now : DeviceAndShelf) (stop : Stop) : Type 0 where
   pub text : List ℕ
-  pub not_whole : IsWhole text → ⊥
+  pub none : HoldsNoFile text
   pub left : List ReturnedOutput
   pub is_left : AreLeft (length files + 1) text left
   pub outputs : TakesBack was.stock (outputs_from 1 files ++ left) now.stock
   pub cause : EndsPage (after_pages (length files) was.device) (length files) now.device stop
 
--- Some pages were scanned, and each has its file. What ended them is a refusal of the shelf to take back the last one's
--- output, or what ended the scan of the page behind them, which is one of those that were asked for.
+-- Some pages were scanned, and each has its file. Then the shelf refused to take back the last one's output, or the
+-- scan of the next page ended, which is one of those that were asked for.
 pub record StopsAt (count : ℕ) (was now : DeviceAndShelf) (stop : Stop) : Type 0 where
   pub files : List (List ℕ)
   pub pages : ArePageFiles was.device files

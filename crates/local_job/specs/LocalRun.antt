@@ -87,9 +87,9 @@ with_file device output = record { device = device; output = output }
 
 -- **done (`IsDone`), ended by (`IsEndedBy`), leaves no file (`LeavesNoFile`)**: the settings that the task puts are in
 -- force and reported, the task told and wrote what it should, and the scanner is left as after a reset, at rest and not
--- cancelled, with the options of the settings; what ends a job: its size, a task that wants more than one file, the
--- setting that fails, a picture that is none, no page, out of memory, or the cause that ends a scan; the output took no
--- whole file.
+-- cancelled, with the options of the settings. A job ends by its size, a task that wants more than one file, the
+-- setting that fails, a picture that is none, no page, out of memory, or the cause that ends a scan. Then the output
+-- took no whole file.
 pub record IsDone (job : Job) (was now : DeviceAndOutput) (reports : Reports) : Type 0 where
   pub setup : Setup
   pub placed : List Placement
@@ -102,8 +102,8 @@ pub record IsDone (job : Job) (was now : DeviceAndOutput) (reports : Reports) : 
   pub left : now.device ≡ left_by job.task (with_setup (after_reset was.device) setup)
 
 -- What ends a job that is not done: its size, or more than one file; the setting that is not put; a feeder without a
--- page; settings that mean no picture on the page; what ends a scan of one; and out of memory. The page is that of the
--- scanner after its reset.
+-- page; settings that mean no picture on the page; what ends a scan of a picture; out of memory. The page is that of
+-- the scanner after its reset.
 pub record IsEndedBy (old : DeviceState) (job : Job) (new : DeviceState) (stop : Stop) : Type 0 where
   pub size : (IsTakenJob job → ⊥) → stop ≡ bad_setting
   pub setting : IsTakenJob job → (why : Stop)
@@ -119,12 +119,12 @@ pub record IsEndedBy (old : DeviceState) (job : Job) (new : DeviceState) (stop :
       → has_picture forced.0 (page_of (after_reset old)) ≡ true
       → ScanHasCause stop (with_setup (after_reset old) forced.0) new
 
--- the output took no whole file
+-- the output took bytes of which no front is a whole file
 abbrev pub LeavesNoFile : Option (List ℕ) → Option (List ℕ) → Type 0
 LeavesNoFile before after = (first : Option (List ℕ)) → Appends first before [] → StopsShort first after
 
--- Of a device only its options, its phase and its count of failures changed, and a feeder let go of the page that was
--- scanned; the reset before let go of one under way.
+-- Of a device only its options, its phase and its count of failures changed. A feeder let go of the page that was
+-- scanned, and the reset before let go of a page under way.
 pub record ChangesDevice (old new : DeviceState) : Type 0 where
   pub info : new.info ≡ old.info
   pub pages : AreSamePages (after_reset old).pages new.pages

@@ -36,7 +36,7 @@ IsCause _ status old new = ⊥
 
 -- **cause (`ScanHasCause`, `IsCause`)**: what ends a scan whose settings mean a picture, by its why: out of memory
 -- (NO_MEM); an output that did not take what it was given (IO_ERROR); a frame that is short because `read-return-value`
--- says EOF (IO_ERROR); what the scanner answered, which is what `read-return-value` names, or IO_ERROR where a failure
--- of the page's source was counted in the job; no other.
+-- says EOF (IO_ERROR); the scanner's answer, which is what `read-return-value` names, or IO_ERROR if a failure of the
+-- page's source was counted in the job. There is no other.
 abbrev pub ScanHasCause : Stop → DeviceState → DeviceState → Type 0
 ScanHasCause stop old new = IsCause stop.why stop.status old new

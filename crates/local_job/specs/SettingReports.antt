@@ -13,8 +13,8 @@ use Rattle.scan_job.specs.declared.stop.Stop.{Stop}
 use Rattle.local_job.specs.Putting.{value_of_setting}
 use Rattle.local_job.specs.LocalStops.{bad_setting, stop_by_status}
 
--- The report of a setting: its kind is the option's, asked is what its text reads as, given is the admitted value
--- nearest to it, the info is the set's own, and INEXACT stands in it just where they differ.
+-- The report of a setting: its kind is the option's, asked is what its text reads as, given is the nearest admitted
+-- value, and the info is the set's own. INEXACT stands in it just where the two differ.
 pub record IsReported (s : Setup) (setting : List ℕ × List ℕ) (p : Placement) (report : Report) : Type 0 where
   pub puts : PutsNearest s setting p
   pub name : report.name ≡ setting.0
@@ -24,10 +24,10 @@ pub record IsReported (s : Setup) (setting : List ℕ × List ℕ) (p : Placemen
   pub set : option_set s puts.n p.asked ≡ Ok (p.given, report.info)
   pub info : TellsOfSet s puts.n p.asked p.given report.info
 
--- **settings in force, reported (`SettingsAreReported`, `IsReported`), fails at (`FailsAt`)**: the report of each
--- setting: its kind is the option's, asked is what its text reads as, given the admitted value nearest to it, INEXACT
--- just where they differ, RELOAD_OPTIONS just where the descriptors changed; the first setting that is not put, and
--- why: no option has its name, its text asks nothing of that option, or the set refuses.
+-- **settings in force, reported (`SettingsAreReported`, `IsReported`), fails at (`FailsAt`)**: each setting has a
+-- report. Its kind is the option's, asked is what its text reads as, given is the nearest admitted value. INEXACT
+-- stands just where they differ, RELOAD_OPTIONS just where the descriptors changed. Settings fail at the first that is
+-- not put, with its reason: no option has its name, its text asks nothing of that option, or the set refuses.
 --
 -- each of the settings, from the options that those before it left
 abbrev pub SettingsAreReported : Setup → List (List ℕ × List ℕ) → List Placement → List Report → Type 0
@@ -36,7 +36,7 @@ SettingsAreReported s (setting ∷ settings) (p ∷ ps) (report ∷ reports) = I
     × SettingsAreReported p.setup settings ps reports
 SettingsAreReported s _ _ _ = ⊥
 
--- Why a setting is not put: no option has its name; its text asks nothing of that option; or the set refuses.
+-- Why a setting is not put: no option has its name, its text asks nothing of that option, or the set refuses.
 abbrev pub SettingIsRefusedAs : Setup → List ℕ × List ℕ → Stop → Type 0
 SettingIsRefusedAs s setting stop =
     ((number_named setting.0 (descriptors_of s) ≡ None) × (stop ≡ bad_setting))

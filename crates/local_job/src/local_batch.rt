@@ -85,8 +85,8 @@ pub fn run_local_batch_with<S: Shelf, T: Drop, F: FnOnce(&Reports) -> Result<T, 
     tell: F,
 ) -> Result<(Reports, T), Stop>
     requires { F.IsAlwaysCallable tell }
-    /// Where `run_local_batch_with` is Done, its pages are those of the tray in their order, each scanned with the
-    /// settings in force, each file whole and of the meaning on its page (where the page's source is steady).
+    /// When `run_local_batch_with` is Done, its pages are those of the tray in their order, each scanned with the settings in
+    /// force. Each file is whole. Where its page's source is steady, it is of the meaning on that page.
     ///
     /// The shelf kept them all, in order and numbered from 1; as many as were asked for, or fewer, at least one,
     /// where no page was left.
@@ -95,8 +95,8 @@ pub fn run_local_batch_with<S: Shelf, T: Drop, F: FnOnce(&Reports) -> Result<T, 
         IsBatchDone job.now (with_shelf (state device.old) (S.stock shelf.old))
         (with_shelf (state device.new) (S.stock shelf.new)) done.0) }
     ensures told { IfOk result (λ done. FnOnceReturnsAt F.FnOnce tell done.0 (Ok done.1)) }
-    /// Any other ending leaves the files of the pages that were finished, and at most one output more, which took no
-    /// whole file, and has its cause as a scan's; or the shelf refused the last page's output, and no other.
+    /// Any other ending leaves the files of the finished pages, and at most one output more, which took no whole file. It has its
+    /// cause as a scan's, or the shelf refused the last page's output.
     /// Carried by: `stop`, `refusal` of `run_local_batch_with`: `RefusesLast`, `EndsBehind`
     ensures stop { IfErr result (λ stop.
         IsBatchEndedBy job.now (with_shelf (state device.old) (S.stock shelf.old))

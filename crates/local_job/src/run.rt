@@ -113,9 +113,9 @@ fn do_job<W: Write, T: Drop, F: FnOnce(&Reports) -> Result<T, NoMem> + Drop>(
     Ok((reports, told))
 }
 
-/// Does a job as `run_local` does it, and makes of its reports what is to be told of it, by `tell`: before the first byte
-/// of its file, so that what there is no memory to tell of leaves no file. Gives the reports and what was made of them, and
-/// what became of the calls on its output.
+/// Does a job as `run_local` does it, and makes of its reports what is to be told of it, by `tell`. That comes before the first
+/// byte of the file, so a job without memory for telling leaves no file. Gives the reports, what was made of them, and what
+/// became of the calls on its output.
 pub fn run_local_with<W: Write, T: Drop, F: FnOnce(&Reports) -> Result<T, NoMem> + Drop>(
     alloc: Global,
     device: &mut dyn Device,
@@ -131,8 +131,8 @@ pub fn run_local_with<W: Write, T: Drop, F: FnOnce(&Reports) -> Result<T, NoMem>
     /// A scan's output then took the whole file of a picture. It is exactly the meaning of the settings' scene on the
     /// scanner's page where the page's source is steady.
     ///
-    /// A list told the scanner and ignored the settings; a show told each option, with its value where it is active,
-    /// can be read and has one; these, and settings alone, wrote nothing.
+    /// A list told the scanner and ignored the settings. A show told each option, with its value if it is active, can be read and
+    /// has one. These, and settings alone, wrote nothing.
     ///
     /// The scanner is left at rest, not cancelled, with the options of the settings.
     /// Carried by: `done`, `rest` of `run_local_with`
@@ -140,11 +140,11 @@ pub fn run_local_with<W: Write, T: Drop, F: FnOnce(&Reports) -> Result<T, NoMem>
         (λ done. IsDone job.now (with_file (state device.old) (W.contents out.old))
         (with_file (state device.new) (W.contents out.new)) done.0) }
     ensures told { IfOk result (λ done. FnOnceReturnsAt F.FnOnce tell done.0 (Ok done.1)) }
-    /// Any other ending has a status that is neither GOOD nor EOF, and the output took no whole file.
+    /// Any other ending has a status other than GOOD and EOF, and no front of what the output took is a whole file.
     ensures no_file { OnErr result (LeavesNoFile (W.contents out.old) (W.contents out.new)) }
     ensures refusal { IfErr result (λ stop. IsRefusal stop) }
-    /// A job ends for its output only where it is noted that a write failed: with a tally in which nothing was noted
-    /// before, neither a page that cannot be read nor what `read-return-value` names is told so.
+    /// A job ends for its output only if a failed write is noted. So with a new tally, a page that cannot be read is not told so,
+    /// and no status that `read-return-value` names is.
     ensures output { IfErr result (λ stop. stop.why ≡ Sink → outputs.new.failed ≡ true) }
     /// A job too large ends with INVAL (setting).
     /// Carried by: `stop` of `run_local_with`: `size` of `IsEndedBy`
@@ -157,9 +157,8 @@ pub fn run_local_with<W: Write, T: Drop, F: FnOnce(&Reports) -> Result<T, NoMem>
     ///
     /// A scan on a feeder whose tray is empty ends with NO_DOCS (answer), or for lack of memory.
     ///
-    /// A scan of a picture ends otherwise for lack of memory, for its output, as short where `read-return-value` says
-    /// EOF, or with what `read-return-value` names, or IO_ERROR where a failure of the page's source was counted in
-    /// the job.
+    /// A scan of a picture ends otherwise for lack of memory, for its output, as short where `read-return-value` says EOF, or
+    /// with what `read-return-value` names. It ends with IO_ERROR if a failure of the page's source was counted in the job.
     ///
     /// A batch is no such job: it ends with INVAL (setting).
     /// Carried by: `stop` of `run_local_with`: `size` of `IsEndedBy`
@@ -180,8 +179,8 @@ pub fn run_local_with<W: Write, T: Drop, F: FnOnce(&Reports) -> Result<T, NoMem>
 /// Does a job on a scanner of this machine: resets it, puts each setting, does the task, and cancels it
 /// at the end. A scan's file goes to the output, which is not flushed. A batch, which has more than one file, is refused.
 ///
-/// No clause on a `Write` tells a write that failed from none, and this call keeps its tally to itself: that a job ends for
-/// its output only behind a failed write is promised by `run_local_with`, which it calls with a new tally.
+/// The clauses on a `Write` do not tell a failed write, and this call keeps its tally to itself. So `run_local_with`, which it
+/// calls with a new tally, promises that a job ends for its output only behind a failed write.
 pub fn run_local<W: Write>(
     alloc: Global,
     device: &mut dyn Device,

@@ -27,8 +27,8 @@ use Rattle.net_client.specs.Sending.{requests_text, optional_request_text}
 use Rattle.frame_join.specs.PictureText.{IsPictureFile}
 
 -- **client (`ClientState`, `ClientRepresents`)**: the job, its outcome, what it waits for and knows, the bytes to go
--- out, what came of the next reply, where it stands in a frame's records, and the join; it represents a history where
--- the join does and it fits.
+-- out, what came of the next reply, where it stands in a frame's records, and the join. It represents a history if the
+-- join does and the history fits.
 pub record ClientState : Type 0 where
   pub target : JobTarget
   pub outcome : Outcome
@@ -105,8 +105,8 @@ pub record TurnsPage (old new : ClientState) : Type 0 where
       ≡ Some new.out
   pub stands : Represents empty_history new.join
 
--- **a page's file taken (`TakesPage`)**: bytes that are not the file's last; or the last one, with which the file
--- denotes the picture of the page's frames, START is asked for, and a new join stands.
+-- **a page's file taken (`TakesPage`)**: bytes before the file's last; or the last one, so that the file denotes the
+-- picture of the page's frames, START is asked for, and a new join stands.
 pub data TakesPage (old : ClientState) (past : JoinHistory) (bytes : List ℕ) (new : ClientState) : Type 0 where
   Stays : (IsWhole (past.given ++ bytes) → ⊥) → new ≡ record old { join = new.join }
       → ClientRepresents (after_pull bytes past) new → TakesPage old past bytes new

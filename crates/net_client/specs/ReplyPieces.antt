@@ -88,9 +88,9 @@ pub record IsGarbled (was : ClientState) (new : ClientState) : Type 0 where
   pub no_start : IsNoStart message_limit (reply procedure) was.input.rest
   pub ends : new ≡ record (after_client_end statuses.IoError whys.Malformed was) { input = new.input }
 
--- **heeds (`Heeds`, `HearsReplies`)**: what a piece of the control connection makes of a client: replies spelled one
--- behind the other, each heard, with what is sent then; and more is wanted, or what comes is no reply, or memory ran
--- out.
+-- **heeds (`Heeds`, `HearsReplies`)**: what a piece of the control connection makes of a client. It spells replies, one
+-- behind the other. The client hears each, and sends what follows. Then more is wanted, or what comes is no reply, or
+-- memory ran out.
 --
 -- how hearing a piece ends: by replies alone, by what is none, or for lack of memory
 pub data Heeds (old : ClientState) (past : JoinHistory) (piece : List ℕ) (new : ClientState) : Type 0 where

@@ -9,8 +9,8 @@ use Rattle.net_client.specs.ClientStates.{ClientState, ClientRepresents, TakesPa
 use Rattle.frame_join.specs.PictureText.{IsPictureFile}
 
 -- **bytes of the file taken (`TakesFile`, `GivesPicture`)**: a client that waits for its page's file to be taken gave
--- bytes of that, any other serves on with them; of a whole picture, where nothing more comes and the job has not ended
--- otherwise, all that was given denotes it; before it is whole, what was given is no whole file.
+-- bytes of that; any other serves on with them. When nothing more comes of a whole picture, and the job has not ended
+-- otherwise, all that was given denotes it. Before the picture is whole, what was given is no whole file.
 pub record TakesFile (old : ClientState) (past : JoinHistory) (room : ℕ) (bytes : List ℕ)
     (new : ClientState) : Type 0 where
   pub carried : turns old.outcome old.progress ≡ false → ClientRepresents (after_pull bytes past) new

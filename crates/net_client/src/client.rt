@@ -174,7 +174,7 @@ impl Client {
 
     /// The next bytes for the control connection.
     pub fn take_out(&mut self, buf: &mut [u8]) -> usize
-        /// What it sends are the spellings of the requests that `hear` has for those replies.
+        /// It sends the spellings of the requests that `hear` has for those replies.
         /// Carried by: `Client::take_out`, `feed_control`
         ensures count { result ≡ min (length buf.old) (length self.old.out) }
         ensures given { take result buf.new ≡ take result self.old.out }
@@ -258,9 +258,8 @@ impl Client {
     /// waits. A job that is over ignores them.
     pub fn feed_control(&mut self, piece: &[u8])
         ensures over { is_running self.old.outcome ≡ false → self.new ≡ self.old }
-        /// The bytes of the control connection are spellings of the replies that were awaited, heard one after
-        /// another as `hear` says, then a rest of which more is wanted, or the job ended as malformed, or for lack of
-        /// memory.
+        /// The bytes of the control connection spell the awaited replies. They are heard one after another as `hear` says. Then
+        /// more is wanted of a rest, or the job ended as malformed, or for lack of memory.
         /// Carried by: `heeds` of `Client::feed_control`: `Heeds`
         ensures heeds { is_running self.old.outcome ≡ true → (past : JoinHistory)
             → ClientRepresents past self.old → Heeds self.old past piece.now self.new }

@@ -6,7 +6,7 @@ use Rattle.sane_fixed.specs.declared.status.Status.TheVariants as statuses
 use Rattle.netpbm.specs.Pnm.{IsWhole}
 use Rattle.frame_join.specs.declared.join_stage.JoinFault.{JoinFault}
 use Rattle.frame_join.specs.FrameHistory.{JoinHistory, IsJoined, answer_of_end}
-use Rattle.frame_join.proofs.StreamLaws.{nothing_is_not_whole}
+use Rattle.frame_join.proofs.StreamLaws.{nothing_holds_none, nothing_is_not_whole}
 use Rattle.scan_job.specs.FileOutputs.{TakesBack, GivesBack}
 use Rattle.scan_job.specs.Shelves.{Stock, ReturnedOutput}
 use Rattle.scan_job.specs.Stops.{failed_output}
@@ -127,7 +127,7 @@ close_refused views job was now mid under out reports d back =
       finished = inr (refl, (reports, d.told));
       files = d.files;
       text = [];
-      not_whole = nothing_is_not_whole;
+      none = nothing_holds_none;
       behind = [];
       gave = ap (λ (l : List ℕ). l ++ []) (all_gave d.ran.trace d.none ∙ d.gave);
       none_behind = λ other. refl;
@@ -161,7 +161,7 @@ close_ended views job was now mid under out stop is_taken d back = record {
   finished = inl refl;
   files = d.files;
   text = d.text;
-  not_whole = d.not_whole;
+  none = d.none;
   behind = d.behind;
   gave = d.gave;
   none_behind = d.none_behind;

@@ -5,13 +5,14 @@ use Rattle.std.proofs.lemmas.List.{append-nil}
 use Rattle.std.proofs.lemmas.List.Elements.{All-append, All-nil, All-same}
 use Rattle.sane_fixed.specs.declared.status.Status.{Status}
 use Rattle.sane_fixed.specs.declared.status.Status.TheVariants as statuses
-use Rattle.netpbm.specs.Pnm.{IsWhole}
+use Rattle.netpbm.specs.NoFile.{HoldsNoFile}
+use Rattle.frame_join.proofs.GivenKept.{NoneBefore}
 use Rattle.page_picture.specs.Shows.{Frame}
 use Rattle.frame_join.specs.declared.join_stage.JoinFault.{JoinFault}
 use Rattle.frame_join.specs.FrameHistory.{JoinHistory, IsJoined, is_joined, after_pull, answer_of_end, answer_by}
 use Rattle.frame_join.specs.JoinStates.{JoinState, Represents}
 use Rattle.frame_join.proofs.JoinedLaws.{rests_silent}
-use Rattle.frame_join.proofs.StreamLaws.{nothing_is_not_whole}
+use Rattle.frame_join.proofs.StreamLaws.{nothing_holds_none}
 use Rattle.scan_job.specs.JobSize.{HasCount}
 use Rattle.scan_job.specs.Outcomes.{over_as}
 use Rattle.scan_job.specs.declared.job.Job.{Job}
@@ -36,7 +37,7 @@ use Rattle.net_jobs.specs.Outputs.{files_text, page_outputs_from}
 use Rattle.scan_job.specs.FileOutputs.{refused_output}
 use Rattle.net_jobs.specs.Batches.{IsPageFile, MayScan, last_whole_page}
 use Rattle.net_jobs.proofs.FileNumbers.{IsFew, HasSome, counts}
-use Rattle.net_jobs.proofs.JobEnds.{NoneBefore, WholeShows, stops_over, HasRefusal, Leaves, all_written, ran_refuses, cause_of, followed, unopened, task_is, ran_by, ends_well}
+use Rattle.net_jobs.proofs.JobEnds.{WholeShows, stops_over, HasRefusal, Leaves, all_written, ran_refuses, cause_of, followed, unopened, task_is, ran_by, ends_well}
 use Rattle.net_jobs.proofs.Steps.{LastDelivers, same_steps, same_stop, stops_within}
 use Rattle.net_jobs.proofs.Shelving.{Shut, Stored, Lying, PageIsTurned, shut_parted, ended_part, one_file, page_turned, from_here}
 use Rattle.frame_join.specs.PictureText.{IsPictureFile}
@@ -193,15 +194,15 @@ came_ended views left_of job first coming0 before notes links coming stream c no
         gave = gave_all r.ran.trace.pages d.given.pages d.given.bytes d.moves r.ran.moves r.pages_is d.gave r.moves_is;
         none_behind = λ other. refl;
         sink = inl (subst (λ (q : List JoinHistory). HasTaken before (page_outputs_from 1 q) now (length q + 1) d.given.bytes) (sym r.pages_is) d.shelf.under_way.taken);
-        not_whole = subst (λ (t : List ℕ). IsWhole t → ⊥) s.given_is (λ w. law s.history c.join s.serves.stands (λ joined. ended_part c.target.task s.history fits joined w) w);
+        none = subst HoldsNoFile s.given_is (law s.history c.join s.serves.stands (ended_part c.target.task s.history fits));
       },
       subst (λ (m : List JobMove). NotesMatch m notes) (sym r.moves_is) d.notes_are,
     )
 
 -- there was no memory for what was to be told
 came_untold : {L R : Type 0} {whole : Bool} (views : LinkViews L) (left_of : R → Option (List ℕ)) (job : Job) (first : L) (coming0 : Option (List (List ℕ))) (before : SinkState) (notes : CallNotes) (links : L) (coming : Option (List (List ℕ))) (stream : Option R) (c : ClientState) (now : SinkState) (reports : Reports)
-    → c.outcome ≡ Done reports → (d : Shut views left_of job first coming0 before notes whole links coming stream c now) → (IsWhole d.given.bytes → ⊥) → CameTo views job (record { links = first; coming = coming0; output = before }) (record { links = links; coming = coming; output = now }) (Ended statuses.NoMem whys.Memory) notes
-came_untold views left_of job first coming0 before notes links coming stream c now reports done d not_whole =
+    → c.outcome ≡ Done reports → (d : Shut views left_of job first coming0 before notes whole links coming stream c now) → HoldsNoFile d.given.bytes → CameTo views job (record { links = first; coming = coming0; output = before }) (record { links = links; coming = coming; output = now }) (Ended statuses.NoMem whys.Memory) notes
+came_untold views left_of job first coming0 before notes links coming stream c now reports done d none =
     let s = d.stage in
     let r = ran_by views left_of job (record { links = first; coming = coming0; output = before }) (record { links = links; coming = coming; output = now }) stream c d.given d.moves d.left d.fresh d.last d.is_fresh d.leads d.told d.calls s s.stands in (
       record {
@@ -218,18 +219,18 @@ came_untold views left_of job first coming0 before notes links coming stream c n
         gave = gave_all r.ran.trace.pages d.given.pages d.given.bytes d.moves r.ran.moves r.pages_is d.gave r.moves_is;
         none_behind = λ other. refl;
         sink = inl (subst (λ (q : List JoinHistory). HasTaken before (page_outputs_from 1 q) now (length q + 1) d.given.bytes) (sym r.pages_is) d.shelf.under_way.taken);
-        not_whole = not_whole;
+        none = none;
       },
       subst (λ (m : List JobMove). NotesMatch m notes) (sym r.moves_is) d.notes_are,
     )
 
 stopped_by : {L R : Type 0} {whole : Bool} (views : LinkViews L) (left_of : R → Option (List ℕ)) (job : Job) (first : L) (coming0 : Option (List (List ℕ))) (before : SinkState) (notes : CallNotes) (links : L) (coming : Option (List (List ℕ))) (stream : Option R) (c : ClientState) (now : SinkState) (outcome : Outcome) (stop : Stop)
-    → NoneBefore → c.outcome ≡ outcome → StopsAs outcome stop → (d : Shut views left_of job first coming0 before notes whole links coming stream c now) → (IsWhole d.given.bytes → ⊥)
+    → NoneBefore → c.outcome ≡ outcome → StopsAs outcome stop → (d : Shut views left_of job first coming0 before notes whole links coming stream c now) → HoldsNoFile d.given.bytes
     → CameTo views job (record { links = first; coming = coming0; output = before }) (record { links = links; coming = coming; output = now }) (Ended stop.status stop.why) notes
-stopped_by views left_of job first coming0 before notes links coming stream c now Running stop law over ends d not_whole = absurd ends
-stopped_by views left_of job first coming0 before notes links coming stream c now (Done reports) stop law over ends d not_whole =
-    subst (λ (x : Stop). CameTo views job (record { links = first; coming = coming0; output = before }) (record { links = links; coming = coming; output = now }) (Ended x.status x.why) notes) (sym ends) (came_untold views left_of job first coming0 before notes links coming stream c now reports over d not_whole)
-stopped_by views left_of job first coming0 before notes links coming stream c now (Ended status why) stop law over ends d not_whole =
+stopped_by views left_of job first coming0 before notes links coming stream c now Running stop law over ends d none = absurd ends
+stopped_by views left_of job first coming0 before notes links coming stream c now (Done reports) stop law over ends d none =
+    subst (λ (x : Stop). CameTo views job (record { links = first; coming = coming0; output = before }) (record { links = links; coming = coming; output = now }) (Ended x.status x.why) notes) (sym ends) (came_untold views left_of job first coming0 before notes links coming stream c now reports over d none)
+stopped_by views left_of job first coming0 before notes links coming stream c now (Ended status why) stop law over ends d none =
     subst (λ (x : Stop). CameTo views job (record { links = first; coming = coming0; output = before }) (record { links = links; coming = coming; output = now }) (Ended x.status x.why) notes) (sym ends) (came_ended views left_of job first coming0 before notes links coming stream c now status why law over d)
 
 -- a job that is over of which nothing is told
@@ -238,7 +239,7 @@ pub came_stopped : {L R : Type 0} (views : LinkViews L) (left_of : R → Option 
     → CameTo views job (record { links = first; coming = coming0; output = before }) (record { links = links; coming = coming; output = now }) (Ended stop.status stop.why) notes
 came_stopped views left_of job first coming0 before was notes then_ links coming stream c now stop law ends leaves p =
     let d = shut_parted views left_of job first coming0 before was notes then_ links coming stream c now (stops_over c.outcome stop ends) leaves p.laid in
-    stopped_by views left_of job first coming0 before notes links coming stream c now c.outcome stop law refl ends d.0 (subst (λ (g : GivenFiles). IsWhole g.bytes → ⊥) (sym d.1) p.not_whole)
+    stopped_by views left_of job first coming0 before notes links coming stream c now c.outcome stop law refl ends d.0 (subst (λ (g : GivenFiles). HoldsNoFile g.bytes) (sym d.1) p.none)
 
 -- ---- the shelf or an output did not take what it was to
 
@@ -260,7 +261,7 @@ refused_next views left_of job first coming0 before notes links coming stream ne
         sunk = λ sink other. same_stop g.fresh r.ran.first g.moves r.ran.moves new r.ran.last r.first_is r.moves_is r.last_is stop;
         files = All-same IsPageFile r.ran.trace.pages (given.pages ++ page ∷ []) r.pages_is (All-append IsPageFile given.pages (page ∷ []) files (one_file page t.file));
         text = [];
-        not_whole = nothing_is_not_whole;
+        none = nothing_holds_none;
         behind = [];
         gave = gave_all r.ran.trace.pages (given.pages ++ page ∷ []) [] g.moves r.ran.moves r.pages_is g.gave r.moves_is;
         none_behind = λ other. refl;
@@ -287,7 +288,7 @@ sunk_by views left_of job first coming0 before notes links coming stream c new n
         sunk = λ sink other. same_stop g.fresh r.ran.first g.moves r.ran.moves c r.ran.last r.first_is r.moves_is r.last_is (stops_within job.task g.fresh g.moves c given [] c tt refl last);
         files = All-same IsPageFile r.ran.trace.pages given.pages r.pages_is files;
         text = s.history.given ++ short.behind;
-        not_whole = short.not_whole;
+        none = short.none;
         behind = short.behind;
         gave = ap (λ (q : List JoinHistory). files_text q ++ (s.history.given ++ short.behind)) r.pages_is ∙ ap (λ (l : List ℕ). files_text given.pages ++ (l ++ short.behind)) s.given_is
             ∙ sym (append_assoc (files_text given.pages) given.bytes short.behind) ∙ ap (λ (l : List ℕ). l ++ short.behind) g.gave ∙ ap (λ (m : List JobMove). given_by m ++ short.behind) (sym r.moves_is);

@@ -6,7 +6,6 @@ use Rattle.std.proofs.lemmas.List.{take-append-drop}
 use Rattle.sane_fixed.specs.declared.status.Status.{Status}
 use Rattle.sane_fixed.specs.declared.status.Status.TheVariants as statuses
 use Rattle.netpbm.specs.Picture.{Picture}
-use Rattle.netpbm.specs.Pnm.{IsWhole}
 use Rattle.frame_join.specs.declared.join_stage.JoinFault.TheVariants.{Short}
 use Rattle.frame_join.specs.FrameHistory.{JoinHistory, IsJoined, after_pull}
 use Rattle.page_picture.specs.Shows.{ShowsFrames}
@@ -298,10 +297,6 @@ ran_refuses job moves trace read_ wrote rest left outcome did (inr by) = cut_ref
 -- a picture that is whole is shown by its frames
 abbrev pub WholeShows : Type 0
 WholeShows = (past : JoinHistory) (join : JoinState) → Represents past join → IsJoined past → (p : Picture) × ShowsFrames past.ended p
-
--- before the picture is whole, what was given is no whole file
-abbrev pub NoneBefore : Type 0
-NoneBefore = (past : JoinHistory) (join : JoinState) → Represents past join → (IsJoined past → ⊥) → IsWhole past.given → ⊥
 
 -- what is written to its end is so where no write failed
 pub all_written : (moves more : List JobMove) (left rest : List ℕ) → more ≡ moves → rest ≡ left → (has_write_failed moves ≡ false → left ≡ []) → has_write_failed more ≡ false → rest ≡ []

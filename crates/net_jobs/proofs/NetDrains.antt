@@ -5,7 +5,7 @@ use Rattle.std.proofs.lemmas.List.{append-nil}
 use Rattle.page_picture.specs.Shows.{Frame}
 use Rattle.frame_join.specs.declared.join_stage.JoinFault.{JoinFault}
 use Rattle.frame_join.specs.FrameHistory.{JoinHistory, after_pull, answer_by}
-use Rattle.frame_join.proofs.StreamLaws.{nothing_is_not_whole}
+use Rattle.frame_join.proofs.StreamLaws.{nothing_holds_none}
 use Rattle.frame_join.specs.JoinStates.{JoinState}
 use Rattle.net_client.specs.ClientStates.{ClientState}
 use Rattle.scan_job.specs.FileOutputs.{StopsShort}
@@ -35,4 +35,4 @@ unmoved false was now e stopped same = same refl
 
 -- an output that took nothing took no whole file
 pub stays_short : (held : Option (List ℕ)) → StopsShort held held
-stays_short held = record { text = []; taken = Appends-nil held; not_whole = nothing_is_not_whole }
+stays_short held = record { text = []; taken = Appends-nil held; none = nothing_holds_none }

@@ -1,9 +1,10 @@
 -- The files of a job go out piece by piece, one page after another.
 use Rattle.std.proofs.Common.{◌≡◌, ◌≢◌, ◌∙◌, ◌⊎◌, ℕ, ◌+◌, ◌<◌, ◌≤◌, ◌^◌, Bool, true, false, List, [], ◌∷◌, ◌++◌, None, length, take, drop, refl, sym, ap, subst, inl, inr, arith, length-append, append_assoc}
 use Rattle.std.specs.Prelude.{◌&&◌}
-use Rattle.std.proofs.lemmas.List.{append-nil, take-append-drop, length-drop}
+use Rattle.std.proofs.lemmas.List.{append-nil, nil_from_length, take-append-drop, length-drop}
 use Rattle.netpbm.specs.Picture.{Picture}
 use Rattle.netpbm.specs.Pnm.{IsWhole}
+use Rattle.netpbm.specs.NoFile.{HoldsNoFile}
 use Rattle.page_picture.specs.Shows.{ShowsFrames}
 use Rattle.frame_join.specs.FrameHistory.{JoinHistory, IsJoined, after_pull}
 use Rattle.frame_join.specs.JoinStates.{JoinState, Represents}
@@ -184,7 +185,7 @@ turned past old was now k i n file before outputs first stock then_ kept bytes p
 
 -- what is left to give of a file is more than nothing, so no front of it is whole
 abbrev pub NoFrontIsWhole : Type 0
-NoFrontIsWhole = (q : JoinHistory) (join : JoinState) (front more : List ℕ) → Represents q join → q.fault ≡ None → q.given ≡ front ++ more → more ≢ [] → IsWhole front → ⊥
+NoFrontIsWhole = (q : JoinHistory) (join : JoinState) (front more : List ℕ) → Represents q join → q.fault ≡ None → q.given ≡ front ++ more → more ≢ [] → HoldsNoFile front
 
 abbrev pub NoWholePrefix : Type 0
 NoWholePrefix = (front more : List ℕ) → IsWhole front → IsWhole (front ++ more) → more ≡ []
@@ -195,19 +196,27 @@ cut_at given piece m = ap (λ (l : List ℕ). given ++ l) (sym (take-append-drop
 some_dropped : (piece : List ℕ) (m : ℕ) → m < length piece → drop m piece ≢ []
 some_dropped piece m less e = omega (arith, ap (λ (l : List ℕ). length l) e, length-drop m piece, less)
 
+-- behind nothing stands nothing
+behind_nothing : (front more : List ℕ) → front ++ more ≡ [] → more ≡ []
+behind_nothing front more e = nil_from_length more (omega (arith, length-append front more, ap (λ (l : List ℕ). length l) e))
+
 short_by : (now : ClientState) (q : JoinHistory) (piece : List ℕ) (m : ℕ) → NoFrontIsWhole
-    → q.fault ≡ None → m < length piece → ClientRepresents (after_pull piece q) now → IsWhole (q.given ++ take m piece) → ⊥
+    → q.fault ≡ None → m < length piece → ClientRepresents (after_pull piece q) now → HoldsNoFile (q.given ++ take m piece)
 short_by now q piece m law calm less serves = law (after_pull piece q) now.join (q.given ++ take m piece) (drop m piece) serves.stands calm (cut_at q.given piece m) (some_dropped piece m less)
 
 short_page : (was now : ClientState) (q : JoinHistory) (piece : List ℕ) (m : ℕ) → NoFrontIsWhole → NoWholePrefix
-    → q.fault ≡ None → m < length piece → TakesPage was q piece now → IsWhole (q.given ++ take m piece) → ⊥
-short_page was now q piece m law prefix calm less (Stays not_whole rest serves) w = short_by now q piece m law calm less serves w
-short_page was now q piece m law prefix calm less (Turns whole denotes client serves) w =
-    some_dropped piece m less (prefix (q.given ++ take m piece) (drop m piece) w (subst (λ (l : List ℕ). IsWhole l) (cut_at q.given piece m) whole))
+    → q.fault ≡ None → m < length piece → TakesPage was q piece now → HoldsNoFile (q.given ++ take m piece)
+short_page was now q piece m law prefix calm less (Stays not_whole rest serves) = short_by now q piece m law calm less serves
+short_page was now q piece m law prefix calm less (Turns whole denotes client serves) = λ n w.
+    let front = q.given ++ take m piece in
+    let cut : q.given ++ piece ≡ take n front ++ (drop n front ++ drop m piece) =
+    cut_at q.given piece m ∙ (ap (λ (l : List ℕ). l ++ drop m piece) (sym (take-append-drop n front)) ∙ append_assoc (take n front) (drop n front) (drop m piece)) in
+    let none : drop n front ++ drop m piece ≡ [] = prefix (take n front) (drop n front ++ drop m piece) w (subst (λ (l : List ℕ). IsWhole l) cut whole) in
+    some_dropped piece m less (behind_nothing (drop n front) (drop m piece) none)
 
 short_at : (turning : Bool) (was now : ClientState) (q : JoinHistory) (piece : List ℕ) (n m : ℕ) → turns was.outcome was.progress ≡ turning
     → NoFrontIsWhole → NoWholePrefix
-    → q.fault ≡ None → m < length piece → Pulls was piece n now → ClientRepresents q was → IsWhole (q.given ++ take m piece) → ⊥
+    → q.fault ≡ None → m < length piece → Pulls was piece n now → ClientRepresents q was → HoldsNoFile (q.given ++ take m piece)
 short_at true was now q piece n m e law prefix calm less p serves = short_page was now q piece m law prefix calm less (p.page e q serves)
 short_at false was now q piece n m e law prefix calm less p serves = short_by now q piece m law calm less (p.carried q serves e)
 
@@ -226,7 +235,7 @@ stopped past old was now k i n file before outputs stock then_ bytes piece some 
     record {
       behind = bytes ++ take short.0 piece;
       taken = subst (λ (l : List ℕ). HasTaken before outputs then_ k l) text (subst (λ (j : ℕ). HasTaken before outputs then_ j ((past.given ++ bytes) ++ take short.0 piece)) number_is short.2);
-      not_whole = subst (λ (l : List ℕ). IsWhole l → ⊥) text (short_at (turns was.outcome was.progress) was now q piece n short.0 refl law prefix calm short.1 p u.serves);
+      none = subst HoldsNoFile text (short_at (turns was.outcome was.progress) was now q piece n short.0 refl law prefix calm short.1 p u.serves);
     }
 
 pub never : (past : JoinHistory) (old now : ClientState) (k i : ℕ) (before : SinkState) (outputs : List ReturnedOutput) (stock : SinkState) (bytes : List ℕ) → scans old.target.task ≡ true → 2 ^ 40 ≤ i

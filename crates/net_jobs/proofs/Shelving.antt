@@ -5,6 +5,8 @@ use Rattle.std.proofs.lemmas.List.{append-nil, take-append-drop}
 use Rattle.std.proofs.lemmas.List.Elements.{All-append, All-nil, All-from_recursion}
 use Rattle.netpbm.specs.Picture.{Picture}
 use Rattle.netpbm.specs.Pnm.{IsWhole}
+use Rattle.netpbm.specs.NoFile.{HoldsNoFile}
+use Rattle.frame_join.proofs.GivenKept.{NoneBefore}
 use Rattle.page_picture.specs.Shows.{ShowsFrames}
 use Rattle.frame_join.specs.FrameHistory.{JoinHistory, IsJoined, empty_history, after_pull}
 use Rattle.frame_join.specs.JoinStates.{JoinState, Represents}
@@ -37,7 +39,7 @@ use Rattle.net_jobs.proofs.KeepingInvariant.{following, asked_now, stage_on}
 use Rattle.net_jobs.proofs.DataLoop.{behind_some}
 use Rattle.net_jobs.proofs.RunInvariants.{none_open, stage_wrote, going_begun, gave_on}
 use Rattle.net_jobs.proofs.FileNumbers.{Counts, counts, is_turning_at}
-use Rattle.net_jobs.proofs.JobEnds.{NoneBefore, WholeShows, falls_short, Leaves, PartedBefore, PartsWhole, PartsShort, stage_gave_by, task_is, running_ends, turning_batch}
+use Rattle.net_jobs.proofs.JobEnds.{WholeShows, falls_short, Leaves, PartedBefore, PartsWhole, PartsShort, stage_gave_by, task_is, running_ends, turning_batch}
 use Rattle.net_jobs.proofs.Pages.{has_turned, turning_fits}
 use Rattle.net_jobs.proofs.Steps.{AllGiven, AreStepsSoFar, LastDelivers, StepsBy, StepsSoFar, ended_not_done, running_not_done, steps_at, steps_given, steps_quiet, steps_still, steps_turned}
 use Rattle.net_jobs.proofs.Shelves.{begins_with_none, none_under_way, outputs_more}
@@ -426,10 +428,10 @@ laid_then views left_of job first coming0 before was notes control coming stream
 
 -- ---- a job whose last bytes are not given
 
--- the shelf has what was given, and that of the file under way is no whole file
+-- the shelf has what was given, and no front of that of the file under way is a whole file
 pub record Lying {C R : Type 0} (views : LinkViews C) (left_of : R → Option (List ℕ)) (job : Job) (first : C) (coming0 : Option (List (List ℕ))) (before : SinkState) (notes : CallNotes) (control : C) (coming : Option (List (List ℕ))) (stream : Option R) (c : ClientState) (now : SinkState) : Type 0 where
   pub laid : Laid views left_of job first coming0 before notes false control coming stream c now
-  pub not_whole : IsWhole laid.given.bytes → ⊥
+  pub none : HoldsNoFile laid.given.bytes
 
 pub ended_part : (task : Task) (past : JoinHistory) → FitsEnded task past → IsJoined past → IsWhole past.given → ⊥
 ended_part tasks.List past f joined w = f joined
@@ -439,15 +441,15 @@ ended_part tasks.Scan past f joined w = f joined
 ended_part (tasks.Batch count) past f joined w = f joined w
 
 running_short : {R : Type 0} (left_of : R → Option (List ℕ)) (job : Job) (moves : List JobMove) (read_ wrote left : List ℕ) (coming0 coming : Option (List (List ℕ))) (given : GivenFiles) (stream : Option R) (c : ClientState) → NoneBefore → is_running c.outcome ≡ true
-    → RunInvariant left_of job moves read_ wrote left coming0 coming given stream c → IsWhole given.bytes → ⊥
+    → RunInvariant left_of job moves read_ wrote left coming0 coming given stream c → HoldsNoFile given.bytes
 running_short left_of job moves read_ wrote left coming0 coming given stream c law runs s =
-    subst (λ (l : List ℕ). IsWhole l → ⊥) s.given_is (λ w. law s.history c.join s.serves.stands (λ joined. ended_part c.target.task s.history (running_ends c.outcome c.target.task c.progress s.history runs s.serves.fits) joined w) w)
+    subst HoldsNoFile s.given_is (law s.history c.join s.serves.stands (ended_part c.target.task s.history (running_ends c.outcome c.target.task c.progress s.history runs s.serves.fits)))
 
 pub lying_first : {C R : Type 0} (views : LinkViews C) (left_of : R → Option (List ℕ)) (job : Job) (control : C) (coming : Option (List (List ℕ))) (before : SinkState) (c : ClientState) → NoneBefore → IsNewClient job c → HoldsNone before
     → Lying views left_of job control coming before no_notes control coming None c before
 lying_first views left_of job control coming before c law f none =
     let d = laid_first views left_of job control coming before c f none in
-    record { laid = d; not_whole = running_short left_of job d.going.moves (heard_by d.going.moves) (bytes_written_by d.going.moves) d.going.left coming coming d.given None c law (ap (λ (v : ClientState). is_running v.outcome) f.value) d.going.stage }
+    record { laid = d; none = running_short left_of job d.going.moves (heard_by d.going.moves) (bytes_written_by d.going.moves) d.going.left coming coming d.given None c law (ap (λ (v : ClientState). is_running v.outcome) f.value) d.going.stage }
 
 pub lying_fresh : {C R : Type 0} (views : LinkViews C) (left_of : R → Option (List ℕ)) (job : Job) (notes : CallNotes) (control : C) (coming : Option (List (List ℕ))) (before : SinkState) (c : ClientState) → notes ≡ no_notes → NoneBefore → IsNewClient job c → HoldsNone before
     → Lying views left_of job control coming before notes control coming None c before
@@ -459,7 +461,7 @@ pub lying_gave : {C R : Type 0} (views : LinkViews C) (left_of : R → Option (L
     → Laid views left_of job first coming0 before notes true control coming stream c now → Lying views left_of job first coming0 before notes control coming stream c now
 lying_gave views left_of job first coming0 before notes control coming stream c now law runs d = record {
   laid = record { given = d.given; going = d.going; steps = AllGiven d.steps (running_not_done c.outcome runs); shelf = record { under_way = d.shelf.under_way; files = d.shelf.files; none = d.shelf.none; shown = λ w. absurd (let clash : false ≡ true = w in cc) } };
-  not_whole = running_short left_of job d.going.moves (heard_by d.going.moves) (bytes_written_by d.going.moves) d.going.left coming0 coming d.given stream c law runs d.going.stage;
+  none = running_short left_of job d.going.moves (heard_by d.going.moves) (bytes_written_by d.going.moves) d.going.left coming0 coming d.given stream c law runs d.going.stage;
 }
 
 -- one in which nothing was given
@@ -468,5 +470,5 @@ pub lying_went : {C R : Type 0} (views : LinkViews C) (left_of : R → Option (L
     → Lying views left_of job first coming0 before then_ next come behind new now
 lying_went views left_of job first coming0 before notes then_ control next coming come stream behind c new now p g s = record {
   laid = record { given = p.laid.given; going = g; steps = s; shelf = record { under_way = p.laid.shelf.under_way; files = p.laid.shelf.files; none = p.laid.shelf.none; shown = λ w. absurd (let clash : false ≡ true = w in cc) } };
-  not_whole = p.not_whole;
+  none = p.none;
 }

@@ -131,7 +131,7 @@ single_ended views job was now stop single d =
       none_behind = d.none_behind;
       steps = λ told. (let s = d.steps told in (s.0, s.1.under_way));
       sunk = d.sunk;
-      not_whole = d.not_whole;
+      none = d.none;
     }
 
 -- by the case of what it gave

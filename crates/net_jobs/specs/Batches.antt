@@ -17,7 +17,7 @@ use Rattle.scan_job.specs.declared.report.Reports.{Reports}
 use Rattle.scan_job.specs.JobSize.{HasJobFault}
 use Rattle.scan_job.specs.Stops.{failed_output}
 use Rattle.scan_job.specs.declared.stop.Stop.{Stop}
-use Rattle.netpbm.specs.Pnm.{IsWhole}
+use Rattle.netpbm.specs.NoFile.{HoldsNoFile}
 use Rattle.scan_job.specs.Shelves.{Stock, ReturnedOutput}
 use Rattle.net_jobs.specs.JobTraces.{JobTrace, EndWell}
 use Rattle.net_jobs.specs.JobJournal.{given_by, has_write_failed}
@@ -42,7 +42,7 @@ last_whole_page (Ok false) page = []
 last_whole_page (Err fault) page = []
 
 -- The pages of a job that is done: those behind which another was asked for, and the last one. A batch that found no
--- further page has no such last one, nor has a job that scans none.
+-- further page has no such last one; a job that scans none has none either.
 abbrev pub pages_of : JobTrace → List JoinHistory
 pages_of trace = trace.pages ++ last_whole_page (answer_of_end trace.protocol.history) trace.protocol.history
 
@@ -57,11 +57,10 @@ MayScan task n = n ≡ 0
 -- `RefusesLastPage`). The pages of a job that is done are those that were turned and the last one, if its picture is
 -- whole.
 --
--- The job is done, as the client's rules have it for these replies and frames. All was written, with CLOSE and EXIT,
--- unless a write failed; each data connection began with its frame's records, which ended with EOF; and the shelf kept
--- one output for each page, in their order, numbered from 1, each with the whole file of the picture that the page's
--- frames show, and was given back no other. Each piece that came was followed by the bytes of the files that it
--- brought.
+-- The job is done, as the client's rules have it for these replies and frames. Unless a write failed, all was written,
+-- with CLOSE and EXIT. Each data connection began with its frame's records, which ended with EOF. The shelf kept one
+-- output for each page, in their order, numbered from 1, each with the whole file of the picture that the page's frames
+-- show. It was given back no other. Each piece that came was followed by the bytes of the files that it brought.
 pub record BatchDone {L : Type 0} (views : LinkViews L) (job : Job) (was now : SeenStreams L (Option Stock))
     (reports : Reports) : Type 0 where
   pub ran : RanWithTrace views job was now
@@ -91,8 +90,8 @@ pub record RefusesLastPage (pages : List JoinHistory) (before after : Option Sto
   pub outputs
       : TakesBack before (page_outputs_from 1 shelved ++ refused_output (length shelved + 1) last.given ∷ []) after
 
--- The pages whose files came to their end: those behind which another was asked for; and the last one of a job that was
--- done but for the shelf.
+-- The pages with finished files: those behind which another was asked for, and the last one of a job that was done but
+-- for the shelf.
 abbrev pub AreFinished : JobTrace → List JoinHistory → Type 0
 AreFinished trace pages = (pages ≡ trace.pages)
     ⊎ ((pages ≡ pages_of trace) × ((reports : Reports) × (trace.protocol.outcome ≡ Done reports)))
@@ -114,7 +113,7 @@ pub record BatchEnded {L : Type 0} (views : LinkViews L) (job : Job) (was now : 
   pub finished : AreFinished ran.trace pages
   pub files : All IsPageFile pages
   pub text : List ℕ
-  pub not_whole : IsWhole text → ⊥
+  pub none : HoldsNoFile text
   pub behind : List ℕ
   pub gave : files_text pages ++ text ≡ given_by ran.moves ++ behind
   pub none_behind : stop.why ≢ whys.Sink → behind ≡ []
@@ -125,7 +124,7 @@ pub record BatchEnded {L : Type 0} (views : LinkViews L) (job : Job) (was now : 
   pub shelf : ((pages ≡ ran.trace.pages) × KeepsAllPages pages text was.output now.output)
       ⊎ ((stop ≡ failed_output) × (text ≡ []) × RefusesLastPage pages was.output now.output)
 
--- a job that is refused, for a fault or since there is no memory for its buffers, touches no stream and no shelf
+-- a job that is refused, for a fault or for lack of memory for its buffers, touches no stream and no shelf
 pub record RefusesBatch {C D S : Type 0} (job : Job) (outcome : Outcome) (was now : JobStreams C D S) : Type 0 where
   pub why : ((fault : JobFault) × HasJobFault job (Some fault) × (outcome ≡ refused_as fault))
       ⊎ (outcome ≡ Ended statuses.NoMem whys.Memory)

@@ -15,6 +15,7 @@ use Rattle.scan_job.specs.declared.stop.Stop.{Stop}
 use Rattle.scan_job.specs.Stops.{no_memory, failed_output}
 use Rattle.netpbm.specs.Picture.{Picture}
 use Rattle.netpbm.specs.Pnm.{IsWhole}
+use Rattle.netpbm.specs.NoFile.{HoldsNoFile}
 use Rattle.page_picture.specs.Shows.{ShowsFrames}
 use Rattle.frame_join.specs.FrameHistory.{JoinHistory, IsJoined, after_pull, empty_history}
 use Rattle.scan_job.specs.Shelves.{Stock, ReturnedOutput}
@@ -100,7 +101,7 @@ HasReadOf (Some all) remaining whole bytes = Consumes (Some whole) remaining byt
 
 -- **Notes** (`CallNotes`, `NotesMatch`): what the tally of a job's calls noted of them: why nothing more is read, and
 -- whether a write failed. **All moves** of a turn (`MovesAll`) lead from one client, links, data connection and notes
--- to the next; a journal's notes match where it tells of losses and failed writes what the tally does.
+-- to the next. A journal's notes match if it tells of the same losses and failed writes as the tally.
 pub record CallNotes : Type 0 where
   pub loss : Option Loss
   pub write_failed : Bool
@@ -278,8 +279,8 @@ StopsAs (Ended status why) stop = stop ≡ record { status = status; why = why }
 
 -- ---- where a job's files go, and their bytes on the way there
 
--- what is known of where they go: of one output what it holds; or of a shelf what was put on it, and of the output
--- under way, if there is one, what it holds
+-- what is known of the files' outputs: what one output holds; or what was put on a shelf, and what the output under way
+-- holds, if there is one
 pub data SinkState : Type 0 where
   OneOutput : Option (List ℕ) → SinkState
   OnShelf : Option Stock → Option (Option (List ℕ)) → SinkState
@@ -297,8 +298,8 @@ HasShelved (Some old) outputs None out k bytes = ⊥
 HasShelved (Some old) outputs (Some now) out k bytes = (now.taken ≡ old.taken ++ outputs)
     × HoldsOutput out now.number k bytes
 
--- **Has taken, under way (`HasTaken`, `OutputIsUnderWay`)**: these outputs were given back since, and the one under
--- way took these bytes, and was asked for at the first; one output that is never given back took them.
+-- **Has taken, under way (`HasTaken`, `OutputIsUnderWay`)**: these outputs were given back since, and the one under way
+-- took these bytes and was asked for at the first of them. An output that is never given back took them.
 abbrev pub HasTaken : SinkState → List ReturnedOutput → SinkState → ℕ → List ℕ → Type 0
 HasTaken (OneOutput was) outputs (OneOutput now) k bytes = outputs ≡ [] → Appends was now bytes
 HasTaken (OnShelf was under) outputs (OnShelf now out) k bytes = HasShelved was outputs now out k bytes
@@ -320,9 +321,9 @@ pub record OutputIsUnderWay (before : SinkState) (outputs : List ReturnedOutput)
   pub taken : HasTaken before outputs now k bytes
   pub asked : bytes ≡ [] → HoldsNone now
 
--- **Takes more, takes a front, ends a file** (`TakesMore`, `TakesFront`, `EndsFile`): whatever the output under way
--- took before, it took these bytes more, or only a proper front of them; or it was given back with what it took, and
--- kept or refused, and none is under way.
+-- **Takes more, takes a front, ends a file** (`TakesMore`, `TakesFront`, `EndsFile`): the output under way took these
+-- bytes behind what it took before; it took only a proper front of them; it was given back with what it took, and kept
+-- or refused, so that none is under way.
 abbrev pub TakesMore : SinkState → SinkState → ℕ → List ℕ → Type 0
 TakesMore was now k bytes = (before : SinkState) (outputs : List ReturnedOutput) (had : List ℕ)
     → HasTaken before outputs was k had → HasTaken before outputs now k (had ++ bytes)
@@ -348,9 +349,9 @@ closed_as done is_taken = done
 -- ---- the files and pages of a job
 
 -- **Filing, filed, filed short** (`IsFiling`, `HasFiled`, `HasFiledShort`): a client that scans stands for what was
--- told to it and given, and the output of the file under way, by its number, took what was given of that; then all that
--- the client gave was taken, and it goes on with its file or turned to the next page; or an output fell short, or the
--- shelf refused the one that was given back as the client turned.
+-- told to it and given. The output of the file under way, by its number, took what was given of that. Then all that the
+-- client gave was taken, and it goes on with its file or turned to the next page. Or an output fell short, or the shelf
+-- refused the output that was given back as the client turned.
 pub record IsFiling (past : JoinHistory) (client : ClientState) (k : ℕ) (before : SinkState)
     (outputs : List ReturnedOutput) (now : SinkState) : Type 0 where
   pub scanning : scans client.target.task ≡ true
@@ -381,13 +382,12 @@ pub record TurnsOn (past : JoinHistory) (old : ClientState) (k : ℕ) (before : 
   pub taken : HasTakenBack before (outputs ++ returned_output k (past.given ++ bytes) kept ∷ []) after
   pub none : HoldsNone after
 
--- an output could not be had, or did not take all bytes behind those that were given before: what it took is no whole
--- file
+-- an output could not be had, or did not take all bytes behind those given before: no front of what it took is whole
 pub record FallsShort (given : List ℕ) (k : ℕ) (before : SinkState) (outputs : List ReturnedOutput)
     (after : SinkState) : Type 0 where
   pub behind : List ℕ
   pub taken : HasTaken before outputs after k (given ++ behind)
-  pub not_whole : IsWhole (given ++ behind) → ⊥
+  pub none : HoldsNoFile (given ++ behind)
 
 -- all that was given was taken: the client goes on with its file, or it turned to the next page
 abbrev pub HasFiled : JoinHistory → ClientState → ℕ → SinkState → List ReturnedOutput → List ℕ → ClientState
@@ -402,8 +402,8 @@ abbrev pub HasFiledShort : JoinHistory → ClientState → ℕ → SinkState →
 HasFiledShort past old k before outputs bytes new after = FallsShort past.given k before outputs after
     ⊎ TurnsOn past old k before outputs bytes false new after
 
--- **Fills, fills short, fails (`Fills`, `FillsShort`, `FailsFor`)**: a client gave bytes of its files, and whatever
--- file was under way, all of them were taken, or not all were; or then it is noted that an output failed.
+-- **Fills, fills short, fails (`Fills`, `FillsShort`, `FailsFor`)**: a client gave bytes of its files. Whatever file
+-- was under way, all of them were taken, or not all were. Or a failed output is noted then.
 abbrev pub Fills : ClientState → SinkState → ClientState → SinkState → Type 0
 Fills old was new now = (gives : List JobMove) × GivesAll old gives new
     × ((before : SinkState) (outputs : List ReturnedOutput) (k : ℕ) (past : JoinHistory)
@@ -459,7 +459,7 @@ pub record CameEnded {L : Type 0} (views : LinkViews L) (job : Job) (was now : S
   pub last_told : IsToldAs ran.last.outcome (Ended stop.status stop.why)
   pub files : All IsPageFile ran.trace.pages
   pub text : List ℕ
-  pub not_whole : IsWhole text → ⊥
+  pub none : HoldsNoFile text
   pub behind : List ℕ
   pub gave : files_text ran.trace.pages ++ text ≡ given_by ran.moves ++ behind
   pub none_behind : stop.why ≢ whys.Sink → behind ≡ []

@@ -17,9 +17,9 @@ use Rattle.net_client.specs.Taking.{TakesFile}
 use Rattle.net_jobs.specs.declared.calls.Loss.{Loss}
 
 -- **Move** (`JobMove`, `MoveLeads`): what a loop does, with what it makes of the client by the client's own contracts.
--- All that is to go out is written, or only a front of it, as a write failed; a piece of the control connection is
--- heard, or what came too soon is looked at again; a data connection at a port is asked for, and made or not; a piece
--- of it is taken; bytes of the job's files go out; a connection is lost, for a reason (`Loss`, `src/calls.rt`).
+-- All that is to go out is written, or only a front of it, as a write failed. A piece of the control connection is
+-- heard, or what came too soon is looked at again. A data connection at a port is asked for, and made or not. A piece
+-- of it is taken. Bytes of the job's files go out. A connection is lost, for a reason (`Loss`, `src/calls.rt`).
 pub data JobMove : Type 0 where
   -- all that was to go out to the daemon is written to the control connection
   Writes : (bytes : List ℕ) → JobMove
@@ -155,8 +155,8 @@ dialled_by [] = []
 dialled_by (Dials port made ∷ moves) = port ∷ dialled_by moves
 dialled_by (move ∷ moves) = dialled_by moves
 
--- **told at most once (`PortsAreTold`)**: what makes the data connections is told of a frame's port right behind the
--- request for its parameters, and of none again before a data connection was asked for.
+-- **told at most once (`PortsAreTold`)**: the dialer is told of a frame's port right behind the request for its
+-- parameters. It is told of no port again before a data connection was asked for.
 --
 -- the newest move writes bytes that were to go out
 abbrev pub WritesRequest : List JobMove → Type 0

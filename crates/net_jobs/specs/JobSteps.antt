@@ -9,13 +9,14 @@ use Rattle.net_jobs.specs.Outputs.{texts_of}
 use Rattle.net_jobs.specs.JobJournal.JobMove.{Fails, Hears, Resumes, Takes, Gives}
 
 -- **step (`JobStep`, `StepLeads`, `StepsLead`, `MovesAreSteps`)**: a move of a job, the bytes of its file that go out
--- behind it, and whether the file is a page's that ends so; what a step, or steps one after another, make of a client,
--- with nothing behind a write that failed. Behind a piece of 1 to 4,096 bytes (`IsPiece`), or where what came before
--- its request was written is looked at again, the file goes out until the client gives no bytes (`FileRunsOut`,
--- `FileGoesOn`), or, of a batch, to the last bytes of a page, with which the client turns to its next one (`PageEnds`),
--- and behind no other move; a job that has ended gives none. The files that went out: those of the pages that were
--- turned (`files_by_steps`) and the one under way (`given_by_steps`), and of which pages they are (`StepsGive`); moves
--- that **stop within** the last that came, since an output failed (`MovesStopWithin`); the moves of steps (`moves_of`).
+-- behind it, and whether the file is a page's that ends so. It says what a step, or steps one after another, make of a
+-- client, with nothing behind a write that failed. The file goes out behind a piece of 1 to 4,096 bytes (`IsPiece`),
+-- and when what came before its request was written is looked at again. It goes out until the client gives no bytes
+-- (`FileRunsOut`, `FileGoesOn`), or, of a batch, to the last bytes of a page, with which the client turns to its next
+-- one (`PageEnds`). It goes out behind no other move, and a job that has ended gives none. Then the files that went
+-- out: those of the pages that were turned (`files_by_steps`) and the one under way (`given_by_steps`), and of which
+-- pages they are (`StepsGive`); moves that **stop within** the last that came, since an output failed
+-- (`MovesStopWithin`); the moves of steps (`moves_of`).
 pub record JobStep : Type 0 where
   pub move : JobMove
   pub gives : List JobMove
@@ -51,7 +52,7 @@ pub record PageEnds (old : ClientState) (gives : List JobMove) (new : ClientStat
 abbrev pub GivesNone : ClientState → List JobMove → ClientState → Type 0
 GivesNone old gives new = (gives ≡ []) × (new ≡ old)
 
--- a job that scans nothing has no file, and one that has ended gives nothing more of it
+-- a job that scans nothing has no file, and one that has ended gives no more of it
 abbrev pub GivesOut : Bool → Bool → ClientState → List JobMove → ClientState → Type 0
 GivesOut true true old gives new = PageEnds old gives new
 GivesOut true false old gives new = FileGoesOn old gives new ⊎ ((is_ended old.outcome ≡ true) × GivesNone old gives new)

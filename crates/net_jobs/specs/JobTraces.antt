@@ -23,10 +23,9 @@ use Rattle.net_client.specs.Sending.{optional_request_text}
 
 -- **Trace**: what a job lived through: the text of its replies, the data of each frame that ended, what it sent for
 -- them, and how far it is. An **event** is a reply, a data connection made, bytes of a frame, a frame's end with its
--- status, bytes of the file given, or the last bytes of a page's file, with which a batch turns to the next page; one
+-- status, bytes of the file given, or the last bytes of a page's file, with which a batch turns to the next page. One
 -- event goes on to the next trace as the client's rules say (`EventLeads`), and a run is events one after another
--- (`EventsLead`). They
--- **end well** where each frame ended with EOF.
+-- (`EventsLead`). They **end well** if each frame ended with EOF.
 pub data TraceEvent : Type 0 where
   Replied : Reply → TraceEvent
   Opened : ℕ → TraceEvent
@@ -56,9 +55,8 @@ protocol_after_frame target t status =
 abbrev pub sent_after : JobTarget → ProtocolState → ℕ → Option (List ℕ)
 sent_after target t status = sends target t.notes.word (frame_end_at target t status).next
 
--- One event: a reply is spelled for what a job that runs waits for, and is answered as the client's rules say; the data
--- of a frame, which are received, are records of its payload that end with that status; a page is turned where its file
--- is whole.
+-- One event. A reply is spelled for what a running job waits for, and is answered as the client's rules say. The data
+-- of a frame are records of its payload that end with that status. A page is turned when its file is whole.
 abbrev pub EventLeads : JobTarget → JobTrace → TraceEvent → JobTrace → Type 0
 EventLeads target was (Replied r) now =
     (front : List ℕ) × (said : List ℕ) × (is_running was.protocol.outcome ≡ true)
@@ -156,8 +154,8 @@ pub record ControlBytes : Type 0 where
   pub rest : List ℕ
   pub left : List ℕ
 
--- **Did** (`BytesMatchTrace`, `ControlBytes`): of what was read a front spells the replies of the trace, and the rest
--- waits; what was written, with what is left to go out, is the greeting and what the trace sent.
+-- **Did** (`BytesMatchTrace`, `ControlBytes`): a front of what was read spells the replies of the trace, and the rest
+-- waits. What was written, with what is left to go out, is the greeting and what the trace sent.
 pub record BytesMatchTrace (job : Job) (trace : JobTrace) (bytes : ControlBytes) : Type 0 where
   pub events : List TraceEvent
   pub hello : List ℕ

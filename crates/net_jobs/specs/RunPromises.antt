@@ -4,7 +4,7 @@ use Rattle.std.specs.Prelude.{Result, IfOk}
 use Rattle.std.specs.Io.KnownBytes.{Appends}
 use Rattle.sane_fixed.specs.declared.status.Status.TheVariants as statuses
 use Rattle.netpbm.specs.Picture.{Picture}
-use Rattle.netpbm.specs.Pnm.{IsWhole}
+use Rattle.netpbm.specs.NoFile.{HoldsNoFile}
 use Rattle.page_picture.specs.Shows.{Frame, ShowsFrames}
 use Rattle.frame_join.specs.AloneFrame.{most_bytes}
 use Rattle.wire_format.specs.Limit.{IsNoStart}
@@ -70,16 +70,15 @@ stream_views links coming output = record { links = links; coming = coming; outp
 
 -- ---- what a job did
 
--- **Asked for** (`AreAskedFor`): the ports that were asked for are those that START replies named, in their order, but
--- for the last where the job ended before its frame's connection was asked for.
+-- **Asked for** (`AreAskedFor`): the ports that were asked for are those of the START replies, in their order. The last
+-- one lacks if the job ended before its frame's connection was asked for.
 abbrev pub AreAskedFor : List ℕ → List ℕ → Type 0
 AreAskedFor asked named = (named ≡ asked) ⊎ ((port : ℕ) × (named ≡ port ∷ asked))
 
 -- What a job did over its streams: its moves, from the new client on, by the client's own contracts; the replies that
--- it read by them, and what it wrote for them; the ports that were told beforehand, each right behind the request for
--- the parameters of its frame, and at most once; the ports of its data connections, which are those of its START
--- replies; and these connections, each of which began with a frame's records but for one that was let go within its
--- frame.
+-- it read by them, and what it wrote for them; the ports that were told beforehand, each at most once, right behind the
+-- request for its frame's parameters; the ports of its data connections, which are those of its START replies; and
+-- these connections. Each began with a frame's records, but for one that was let go within its frame.
 pub record RanWithTrace {L O : Type 0} (views : LinkViews L) (job : Job) (was now : SeenStreams L O) : Type 0 where
   pub moves : List JobMove
   pub first : ClientState
@@ -102,10 +101,10 @@ pub record RanWithTrace {L O : Type 0} (views : LinkViews L) (job : Job) (was no
 
 -- **Ran, done, ended, refused**: what `run_job` promises, as [PROMISES.md](PROMISES.md#net_jobs) has it.
 --
--- The job is done, as the client's rules have it for these replies and frames. All was written, with CLOSE and EXIT,
--- unless a write failed; each data connection began with its frame's records, which ended with EOF; and the output took
--- the file of the picture that the frames show, or nothing, where the job is no scan. Each piece that came was followed
--- by the bytes of the file that it brought.
+-- The job is done, as the client's rules have it for these replies and frames. Unless a write failed, all was written,
+-- with CLOSE and EXIT. Each data connection began with its frame's records, which ended with EOF. The output took the
+-- file of the picture that the frames show, or, of a job that is no scan, nothing. Each piece that came was followed by
+-- the bytes of the file that it brought.
 pub record RanDone {L : Type 0} (views : LinkViews L) (job : Job) (was now : SeenStreams L (Option (List ℕ)))
     (reports : Reports) : Type 0 where
   pub single : is_batch job.task ≡ false
@@ -124,8 +123,8 @@ pub record RanDone {L : Type 0} (views : LinkViews L) (job : Job) (was now : See
       → (p : Picture) × ShowsFrames ran.trace.protocol.history.ended p × IsPictureFile text p
   pub none : job.task ≢ tasks.Scan → text ≡ []
 
--- What ends a job that is in that trace, apart from its replies and the ends of its frames: a connection that was lost,
--- want of memory, bytes that begin no reply to what is waited for, or more bytes of a frame than it was to have.
+-- What ends a job in that trace, apart from its replies and the ends of its frames: a connection that was lost, want of
+-- memory, bytes that begin no awaited reply, or more bytes of a frame than it was to have.
 pub data EndsBy (moves : List JobMove) (protocol : ProtocolState) (rest : List ℕ) (outcome : Outcome) : Type 0 where
   ByLoss : HasLoss moves → outcome ≡ Ended statuses.IoError whys.Lost → EndsBy moves protocol rest outcome
   ByMemory : outcome ≡ Ended statuses.NoMem whys.Memory → EndsBy moves protocol rest outcome
@@ -169,7 +168,7 @@ pub record RanEnded {L : Type 0} (views : LinkViews L) (job : Job) (was now : Se
       → (s : MovesAreSteps ran.first ran.moves ran.last) × (text ≡ given_by_steps s.steps)
   pub sunk : stop.why ≡ whys.Sink → (ran.last.outcome ≡ Ended stop.status stop.why → ⊥)
       → MovesStopWithin ran.first ran.moves ran.last
-  pub not_whole : IsWhole text → ⊥
+  pub none : HoldsNoFile text
 
 abbrev pub refused_as : JobFault → Outcome
 refused_as NoMem = Ended statuses.NoMem whys.Memory
@@ -190,9 +189,8 @@ pub record RefusesJob {C D W : Type 0} (job : Job) (outcome : Outcome) (was now 
   pub same : now ≡ was
 
 -- **Runs, stops (`RunsJob`, `StopsJob`; `IfReports`, `IfStops`)**: what passed over the streams of a job, as far as it
--- is seen: it ran until it was done, with these reports; or it stopped so, refused before it touched a stream, or
--- behind what passed over them. Of what a call gave this holds: of the reports, where it gave them; or of how the job
--- ended, where it ended otherwise.
+-- is seen. It ran until it was done, with these reports. Or it stopped so: refused before it touched a stream, or
+-- behind what passed over them. This holds of the reports that a call gave, or of how the job ended otherwise.
 abbrev pub RunsJob : {C D W : Type 0} → StreamViews C D W (Option (List ℕ)) → Job → JobStreams C D W
     → JobStreams C D W → Reports → Type 0
 RunsJob views job was now reports =

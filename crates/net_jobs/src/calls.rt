@@ -1,8 +1,8 @@
 //! The calls on the connections of a job, and what they came to.
 //!
-//! No clause of `Read` and `Write` tells that a call failed. So the methods below, of which each makes one call and notes its
-//! result, are the only ones that call a connection of a job, or ask for one; what the loop tells its client of a loss is
-//! bound to these notes by its contracts.
+//! The clauses of `Read` and `Write` do not tell that a call failed. So only the methods below call a connection of a job, or ask
+//! for one. Each makes one call and notes its result. The contracts of the loop bind a loss that it tells its client to these
+//! notes.
 ghost use Rattle.std.specs.Prelude.{◌≡◌, ◌<◌, ◌+◌, ◌^◌, true, false, length, None, Some, IfOk, OnErr};
 ghost use Rattle.std.specs.Io.{ReadsAtMost, WritesAtMost};
 ghost use Rattle.std.specs.Io.KnownBytes.{ReadConsumes, WriteAppends};

@@ -53,8 +53,8 @@ where
     /// `run_batch_with` keeps the same of the control and data connections, whatever the shelf.
     /// Carried by: `done`, `ended` of `run_batch_with`
     ///
-    /// Where it is Done, the shelf kept one output for each page, in their order and numbered from 1, each with the
-    /// whole file of the picture that the page's frames show, and was given back no other.
+    /// When it is Done, the shelf kept one output for each page, in their order and numbered from 1, each with the whole file of
+    /// the picture that the page's frames show. It was given back no other.
     /// Carried by: `done` of `run_batch_with`: `outputs` of `BatchDone`
     ///
     /// They are at most as many as the batch may scan, one of a scan, and none of any other job.
@@ -86,9 +86,9 @@ where
     closed(done, is_taken)
 }
 
-/// Does a job over a control connection, the data connections that are dialed, and the outputs of its files. An output is
-/// asked for at a file's first byte, and given back after its last or as the job ends; where one is refused the job ends as
-/// `output`, unless it has ended otherwise. The connections are read as `run_job` reads them.
+/// Does a job over a control connection, the data connections that are dialed, and the outputs of its files. It asks for an
+/// output at a file's first byte, and gives it back after the last, or as the job ends. A refused output ends the job as
+/// `output`, unless it has ended otherwise. It reads the connections as `run_job` does.
 ///
 /// As of `run_job`, that a batch ends for its output only where one failed is promised by `run_batch_with`, which it calls
 /// with a new tally.

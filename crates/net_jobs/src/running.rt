@@ -268,8 +268,8 @@ fn connect<D: Dial>(
     }
 }
 
-/// Where requests were just written, and the parameters of a frame are awaited, tells what makes the data connections of
-/// that frame's port: the connection may be made behind the request for the parameters, and before their reply.
+/// If requests were just written and the parameters of a frame are awaited, tells the dialer of that frame's port. The connection
+/// may be made behind the request for the parameters, before their reply.
 fn prepare<D: Dial>(client: &Client, dial: &mut D, has_asked: bool)
     ensures told { IsTold (if has_asked then port_told client.now.progress else None)
         (D.prepared dial.old) (D.prepared dial.new) }
@@ -327,7 +327,7 @@ fn exchange<C: Read + Write, D: Dial>(
     true
 }
 
-/// Whether what came before it was asked for is to be looked at again: not in two turns in a row, since a daemon that spoke too
+/// Whether to look again at what came before it was asked for. It does so in no two turns in a row, since a daemon that spoke too
 /// early may have said less than a reply.
 fn looks_again(client: &Client, has_looked: &mut bool) -> bool
     ensures early { result ≡ true → HasEarlyReply client.now }
@@ -627,8 +627,8 @@ where
     done
 }
 
-/// Does a job as `run_job` does it, and makes of its reports what is to be told of it, by `tell`: before the last bytes of its
-/// file go out, so that what there is no memory to tell of leaves no whole file. Gives the reports and what was made of them,
+/// Does a job as `run_job` does it, and makes of its reports what is to be told of it, by `tell`. That comes before the last
+/// bytes of its file go out, so a job without memory for telling leaves no whole file. Gives the reports, what was made of them,
 /// and what became of the calls on its output.
 pub fn run_job_with<C, D, W, T, F>(
     alloc: Global,
@@ -651,26 +651,25 @@ where
     /// the pieces heard, the ports were asked for, and the output took what was given.
     /// Carried by: `done`, `ended` of `run_job_with`
     ///
-    /// Its moves are steps: a piece that comes has 1 to 4,096 bytes, behind each the file goes out until the client
-    /// gives none, and nothing is done behind a write that failed. So it is where the job is Done, and where it is
-    /// told as the client ended.
+    /// Its moves are steps. A piece that comes has 1 to 4,096 bytes, behind each the file goes out until the client gives none,
+    /// and nothing is done behind a write that failed. That holds of a job that is Done, and of one that is told as the client
+    /// ended.
     /// Carried by: `done`, `ended` of `run_job_with`: `steps`
     ///
     /// Those of `run_batch_with` are such steps too, and behind the last bytes of a page's file the client turns to
     /// its next page. The files that went out by them are those of the pages that were turned and of the one under way.
     /// Carried by: `done`, `ended` of `run_batch_with`: `steps`; `StepsGive`
     ///
-    /// What it wrote to the control connection is a front of the greeting and of what the client's rules send for the
-    /// replies that it read, in their order; and all of it, with CLOSE and EXIT, where no write failed, unless the
-    /// output ended the job.
+    /// It wrote to the control connection a front of the greeting and of what the client's rules send for the replies that it
+    /// read, in their order. It wrote all of it, with CLOSE and EXIT, unless a write failed or the output ended the job.
     /// Carried by: `done`, `ended` of `run_job_with`
     ///
     /// The ports that it asked for are those that its START replies named, in their order, but for the last where the
     /// job ended before.
     /// Carried by: `done`, `ended` of `run_job_with`
     ///
-    /// What makes the data connections is told beforehand of no port but that which START's reply named, right behind
-    /// the request for the frame's parameters and before they are told; and of a frame's at most once.
+    /// The dialer is told beforehand of the port that START's reply named, and of no other. It is told right behind the request
+    /// for the frame's parameters, before these are told, and at most once for a frame.
     /// Carried by: `done`, `ended` of `run_job_with`: `PreparesPort` of its moves, and `PortsAreTold`
     ///
     /// Each data connection began with the records of a frame that ended, but for at most one that was let go within
@@ -689,23 +688,22 @@ where
     /// given, and nothing more was done. A batch whose last output is refused as it is given back did steps alone.
     /// Carried by: `ended` of `run_job_with`, `run_batch_with`: `sunk`; `MovesStopWithin`
     ///
-    /// A job that ends otherwise does so by `client_replies` for these replies and frames, or for one of five causes:
-    /// a lost connection, out of memory, bytes that begin no reply, more bytes of a frame than were told, or an
-    /// output that did not take its file; so a full disk is never told as a short frame.
+    /// A job that ends otherwise does so by `client_replies` for these replies and frames, or for one of five causes: a lost
+    /// connection, out of memory, bytes that begin no reply, more bytes of a frame than were told, or an output that did not take
+    /// its file. So a full disk is never told as a short frame.
     ///
-    /// It is lost only by a move that tells why: a write or a read that failed, a stream at its end, a dial that
-    /// failed, or 2^40 reads or turns that are used up.
+    /// A job is lost only by a move that tells why: a write or a read failed, a stream came to its end, a dial failed, or 2^40
+    /// reads or turns are used up.
     ///
     /// The output of a job that ends otherwise took no whole file.
     ///
     /// One that is refused touches no stream.
     ///
-    /// What went out is what the client gave, the files of the pages and what was given of the one under way, and
-    /// only where an output failed bytes more behind that.
+    /// The bytes that went out are those that the client gave: the files of the pages, and what was given of the one under way.
+    /// More bytes went out behind that only if an output failed.
     /// Carried by: `ended` of `run_job_with`, `run_batch_with`: `gave`, `none_behind`
     ///
-    /// What is told is the client's last outcome, but where there was no memory for what is told of a job that was
-    /// done, or an output failed.
+    /// The client's last outcome is told, unless there was no memory to tell of a job that was done, or an output failed.
     /// Carried by: `ended` of `run_job_with`, `run_batch_with`: `last_told`
     ensures ended { IfErr result (StopsJob
         (stream_views (views_of C.remaining C.contents D.ports D.prepared) D.coming W.contents) job
@@ -736,8 +734,8 @@ where
 /// connection that fails, ends or takes nothing of a write is lost, and so is one after 2^40 reads, among which an
 /// interrupted call counts that is made again. A batch, which has more than one file, is refused.
 ///
-/// No clause on a `Write` tells a write that failed from none, and this call keeps its tally to itself: that a job ends for
-/// its output only behind a failed write is promised by `run_job_with`, which it calls with a new tally.
+/// The clauses on a `Write` do not tell a failed write, and this call keeps its tally to itself. So `run_job_with`, which it
+/// calls with a new tally, promises that a job ends for its output only behind a failed write.
 pub fn run_job<C: Read + Write, D: Dial, W: Write>(
     alloc: Global,
     job: Job,

@@ -134,9 +134,9 @@ pub record Begins (text : List ℕ) (h : Header) (raster : List ℕ) : Type 0 wh
   pub is_header : IsHeader head h
 
 -- **denotes (`Denotes`)**: the whole text is a header and a raster of exactly the bytes that it tells of, with nothing
--- after it, that shows the picture: `P4` rows of bits filled to whole bytes, the leftmost the most significant, filling
--- ignored; else one byte a sample below a greatest value of 256, two from there on, the more significant first; no
--- sample above the greatest value.
+-- after it, and shows the picture. A raster of `P4` has rows of bits filled to whole bytes, the leftmost the most
+-- significant; the filling is ignored. Any other has one byte a sample below a greatest value of 256, two from there
+-- on, the more significant first. No sample is above the greatest value.
 pub record Denotes (text : List ℕ) (p : Picture) : Type 0 where
   pub header : Header
   pub raster : List ℕ

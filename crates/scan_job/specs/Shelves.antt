@@ -24,8 +24,8 @@ IsNewOutput None contents = ⊤
 IsNewOutput (Some stock) contents = contents ≡ Some []
 
 -- **what a shelf took (`stock`, `OpensOutput`, `Shelves`, `IsEmpty`)**: the outputs that were given back, in their
--- order, each with the number of its file, the bytes that it took, where they are known, and whether the shelf kept it
--- or refused it, and the number that was asked for last; a new output holds no byte.
+-- order, and the number that was asked for last. Each output has the number of its file, the bytes that it took, if
+-- they are known, and whether the shelf kept or refused it. A new output holds no byte.
 abbrev pub OpensOutput : Option Stock → ℕ → Option Stock → Type 0
 OpensOutput None k new = ⊤
 OpensOutput (Some old) k new = new ≡ Some (record old { number = k })

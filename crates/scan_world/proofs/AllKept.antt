@@ -6,7 +6,7 @@ use Rattle.std.proofs.lemmas.Option.{get_or_from_slice_get, slice_get_within}
 use Rattle.event_world.specs.declared.event.Event.{Event}
 use Rattle.event_world.specs.JobMoves.{IsNextMove}
 use Rattle.std.proofs.Common.{◌≡◌, ◌∙◌, ◌⊎◌, ◌≢◌, ℕ, zero, suc, List, [], ◌∷◌, Bool, true, false, Option, Some, None, inl, inr, refl, sym, ap, subst, arith}
-use Rattle.netpbm.specs.Pnm.{IsWhole}
+use Rattle.netpbm.specs.NoFile.{HoldsNoFile}
 use Rattle.scan_job.specs.declared.job.Job.{Job}
 use Rattle.scan_job.specs.declared.job.Task.TheVariants as tasks
 use Rattle.scan_job.specs.JobSize.{HasCount}
@@ -37,8 +37,8 @@ use Rattle.page_picture.specs.Shows.{Frame}
 use Rattle.frame_join.specs.declared.join_stage.JoinFault.{JoinFault}
 use Rattle.frame_join.specs.FrameHistory.{IsJoined, JoinHistory, answer_by, is_joined}
 use Rattle.frame_join.specs.JoinStates.{JoinState, Represents as JoinStands}
-use Rattle.frame_join.proofs.EndSteps.{whole_not}
-use Rattle.frame_join.proofs.StreamLaws.{nothing_is_not_whole}
+use Rattle.frame_join.proofs.EndSteps.{holds_no_file}
+use Rattle.frame_join.proofs.StreamLaws.{nothing_holds_none}
 use Rattle.scan_job.specs.declared.job.Task.{Task}
 use Rattle.client_replies.specs.declared.progress.JobTarget.{JobTarget}
 use Rattle.event_world.specs.FileDraining.{HasFiles, KeepsFile}
@@ -221,27 +221,27 @@ joined_is (Some fault) under ended e = absurd (let clash : Err fault ≡ Ok true
 joined_is None (Some f) ended e = absurd (let same : false ≡ true = (let both : Ok false ≡ Ok true = e in cc) in cc)
 joined_is None None ended e = let both : Ok (is_joined ended) ≡ Ok true = e in cc
 
-given_not : (past : JoinHistory) (v : JoinState) (pages : List JoinHistory) (endpoint : Endpoint) (file : List ℕ) → JoinStands past v → (IsJoined past → ⊥) → HasFiles past.given pages endpoint → endpoint.file ≡ Some file → IsWhole file → ⊥
-given_not past v pages endpoint file stands un files is whole =
+given_not : (past : JoinHistory) (v : JoinState) (pages : List JoinHistory) (endpoint : Endpoint) (file : List ℕ) → JoinStands past v → (IsJoined past → ⊥) → HasFiles past.given pages endpoint → endpoint.file ≡ Some file → HoldsNoFile file
+given_not past v pages endpoint file stands un files is =
     let same : file ≡ past.given = subst (λ (x : Option (List ℕ)). KeepsFile endpoint.out_of_memory past.given x) is files.file in
-    whole_not past v stands un (subst IsWhole same whole)
+    subst HoldsNoFile (sym same) (holds_no_file past v stands (λ joined. absurd (un joined)))
 
-laid_not : (past : JoinHistory) (v : JoinState) (pages : List JoinHistory) (endpoint : Endpoint) (file : List ℕ) (b : Bool) → is_joined past.ended ≡ b → JoinStands past v → KeepsFiles b past pages endpoint → endpoint.file ≡ Some file → IsWhole file → ⊥
-laid_not past v pages endpoint file true e stands files is whole =
+laid_not : (past : JoinHistory) (v : JoinState) (pages : List JoinHistory) (endpoint : Endpoint) (file : List ℕ) (b : Bool) → is_joined past.ended ≡ b → JoinStands past v → KeepsFiles b past pages endpoint → endpoint.file ≡ Some file → HoldsNoFile file
+laid_not past v pages endpoint file true e stands files is =
     let same : file ≡ [] = subst (λ (x : Option (List ℕ)). KeepsFile endpoint.out_of_memory [] x) is files.file in
-    nothing_is_not_whole (subst IsWhole same whole)
-laid_not past v pages endpoint file false e stands files is whole =
-    given_not past v pages endpoint file stands (λ joined. let clash : false ≡ true = sym e ∙ joined_is past.fault past.under past.ended joined in absurd (cc)) files is whole
+    subst HoldsNoFile (sym same) nothing_holds_none
+laid_not past v pages endpoint file false e stands files is =
+    given_not past v pages endpoint file stands (λ joined. let clash : false ≡ true = sym e ∙ joined_is past.fault past.under past.ended joined in absurd (cc)) files is
 
-by_task : (task : Task) (past : JoinHistory) (v : JoinState) (pages : List JoinHistory) (endpoint : Endpoint) (reports : Reports) (file : List ℕ) → task ≢ tasks.Scan → JoinStands past v → FitsDone task past → KeepsFiles (is_laid task (Done reports) past) past pages endpoint → endpoint.file ≡ Some file → IsWhole file → ⊥
-by_task tasks.List past v pages endpoint reports file unlike stands fits files is whole = given_not past v pages endpoint file stands fits files is whole
-by_task tasks.Show past v pages endpoint reports file unlike stands fits files is whole = given_not past v pages endpoint file stands fits files is whole
-by_task tasks.SetOnly past v pages endpoint reports file unlike stands fits files is whole = given_not past v pages endpoint file stands fits files is whole
-by_task tasks.Scan past v pages endpoint reports file unlike stands fits files is whole = unlike refl
-by_task (tasks.Batch count) past v pages endpoint reports file unlike stands fits files is whole = laid_not past v pages endpoint file (is_joined past.ended) refl stands files is whole
+by_task : (task : Task) (past : JoinHistory) (v : JoinState) (pages : List JoinHistory) (endpoint : Endpoint) (reports : Reports) (file : List ℕ) → task ≢ tasks.Scan → JoinStands past v → FitsDone task past → KeepsFiles (is_laid task (Done reports) past) past pages endpoint → endpoint.file ≡ Some file → HoldsNoFile file
+by_task tasks.List past v pages endpoint reports file unlike stands fits files is = given_not past v pages endpoint file stands fits files is
+by_task tasks.Show past v pages endpoint reports file unlike stands fits files is = given_not past v pages endpoint file stands fits files is
+by_task tasks.SetOnly past v pages endpoint reports file unlike stands fits files is = given_not past v pages endpoint file stands fits files is
+by_task tasks.Scan past v pages endpoint reports file unlike stands fits files is = absurd (unlike refl)
+by_task (tasks.Batch count) past v pages endpoint reports file unlike stands fits files is = laid_not past v pages endpoint file (is_joined past.ended) refl stands files is
 
-no_scan : Below → (h : History) (w : WorldCore) (i : ℕ) (job : Job) (endpoint : Endpoint) (reports : Reports) (file : List ℕ) → IsJob h w i job endpoint → endpoint.client.outcome ≡ Done reports → job.task ≢ tasks.Scan → endpoint.file ≡ Some file → IsWhole file → ⊥
-no_scan below h w i job endpoint reports file j done scan is whole =
+no_scan : Below → (h : History) (w : WorldCore) (i : ℕ) (job : Job) (endpoint : Endpoint) (reports : Reports) (file : List ℕ) → IsJob h w i job endpoint → endpoint.client.outcome ≡ Done reports → job.task ≢ tasks.Scan → endpoint.file ≡ Some file → HoldsNoFile file
+no_scan below h w i job endpoint reports file j done scan is =
     let k = kept_by below.kept h w job j.led in
     let u = k.run.ghost_then in
     let mine = job_there h w job j.led k i j.job_at in
@@ -250,7 +250,7 @@ no_scan below h w i job endpoint reports file j done scan is whole =
     let fits : HistoryFits (u.jobs i).task (Done reports) endpoint.client.progress past =
     subst (λ (o : Outcome). HistoryFits (u.jobs i).task o endpoint.client.progress past) done (subst (λ (e : JobTarget). HistoryFits e.task endpoint.client.outcome endpoint.client.progress past) exchanges.target exchanges.serves.fits) in
     let files : KeepsFiles (is_laid (u.jobs i).task (Done reports) past) past (u.pages i) endpoint = subst (λ (o : Outcome). KeepsFiles (is_laid (u.jobs i).task o past) past (u.pages i) endpoint) done exchanges.files in
-    by_task (u.jobs i).task past endpoint.client.join (u.pages i) endpoint reports file (λ e. scan (sym (ap (λ (x : Job). x.task) mine) ∙ e)) exchanges.serves.stands fits files is whole
+    by_task (u.jobs i).task past endpoint.client.join (u.pages i) endpoint reports file (λ e. scan (sym (ap (λ (x : Job). x.task) mine) ∙ e)) exchanges.serves.stands fits files is
 
 -- ---- call by call
 
@@ -299,7 +299,7 @@ file_kept below h w i job p j =
     let k = kept_by below.kept h w job j.led in
     record {
       scanned = λ reports bytes steady scan done f. scan_kept below h w i job p reports bytes j steady scan done f;
-      whole = λ bytes f is. whole_as p.client.outcome job.task (λ undone. k.promises.short i p bytes j.endpoint_at undone f is) (λ reports done other. no_scan below h w i job p reports bytes j done other f is);
+      whole = λ bytes n f is. whole_as p.client.outcome job.task (λ undone. k.promises.short i p bytes j.endpoint_at undone f n is) (λ reports done other. no_scan below h w i job p reports bytes j done other f n is);
       missing = λ f. k.promises.starved i p j.endpoint_at f;
       empty = λ no. empty_file h w i p j.led j.endpoint_at (ap scans (task_there below h w i job p j) ∙ no);
     }

@@ -219,7 +219,7 @@ paged h w i job starved finished k bytes steady never kept =
     never s.started.asked.n s.started.asked.at s.started.finished s.started.device s.settled s.picture s.started.has (ap (λ (p : PageView). meaning_of p s.settled.setup.scene) s.started.first ∙ s.meant) s.denotes
 
 pub whole : WholeIsNoLie
-whole h w i job starved outcome bytes undone is kept = let r = kept.whole bytes refl is in undone r.0 r.2
+whole h w i job starved outcome bytes n undone is kept = let r = kept.whole bytes n refl is in undone r.0 r.2
 
 pub missing : MissingIsNoLie
 missing h w i job outcome kept = let clash : false ≡ true = kept.missing refl in cc

@@ -105,8 +105,8 @@ ForEach w i Promise = (h : History) (job : Job) → IsJobAt h w i job → Promis
 abbrev pub KeepsOutcome : WorldCore → ℕ → Outcome → Type 0
 KeepsOutcome w i outcome = ForEach w i (λ h job. OutcomeIsKept h w i job (starved_at w i) outcome)
 
--- **ended in (`EndedIn`, `KeepsEnding`)**: a job ended in one of the events of a history: the world in front of it had
--- it running, the world behind it had it ended so, by a cause among the events up to it.
+-- **ended in (`EndedIn`, `KeepsEnding`)**: a job ended in one of the events of a history. It ran in the world in front
+-- of the event and had ended so in the world behind it, by a cause among the events up to it.
 --
 -- it ended in one of the events
 pub record EndedIn (h : History) (w : WorldCore) (i : ℕ) (job : Job) (status : Status) (why : Why) : Type 0 where
@@ -142,9 +142,9 @@ KeepsPageCount w i given =
 abbrev pub HadUnsaidReply : History → WorldCore → ℕ → Job → Type 0
 HadUnsaidReply h w i job = (n : ℕ) × (at : Moment h w (ToDaemon i n)) × CutIn at.before i job
 
--- **good move (`IsGoodMove`, `HadUnsaidReply`)**: a job has a next move just where it runs, and it is the loss of the
--- control connection only where the job is told as out of memory, or where in a delivery of its request its session, as
--- it stood, answered with a reply that cannot be said on the wire.
+-- **good move (`IsGoodMove`, `HadUnsaidReply`)**: a job has a next move just while it runs. That is the loss of the
+-- control connection only if the job is told as out of memory, or if its session, as it stood in a delivery of its
+-- request, answered with a reply that cannot be said on the wire.
 --
 -- `next_move`: it is the loss of the control connection only where the job is told as out of memory, or had such a
 -- reply
@@ -168,8 +168,8 @@ NoneStarved w = (i : ℕ) → starved_at w i ≡ false
 -- ---- what events leave of a job
 
 -- **left of a job (`JobStays`, `OverStays`, `AreOthers`, `OthersStay`, `StarvedStays`, `MovesFall`, `MoveLowers`)**:
--- what events leave of a job: one that is over shows what it showed; one that none of them came to is as it was; that
--- memory ran out stays told; no moves come back, and an event that can happen lowers those of its job.
+-- what events leave of a job. A job that is over shows what it showed. A job that none of them came to is as it was.
+-- That memory ran out stays told. No moves come back, and an event that can happen lowers those of its job.
 --
 -- a job shows what it showed
 pub record JobStays (w v : WorldCore) (i : ℕ) : Type 0 where
@@ -205,7 +205,7 @@ MoveLowers e w v =
     → left_at v i < left_at w i
 
 -- **nothing, memory (`IdleStays`, `StarvesBy`, `TakesMemory`)**: an event that cannot happen to its job changes
--- nothing; memory runs out for a job only in an event of its own that can happen, and that takes memory: a session is
+-- nothing. Memory runs out for a job only in an event of its own that can happen and that takes memory: a session is
 -- opened, requests are answered, replies are heard, a record is sent, or its bytes come to a file.
 --
 -- an event that cannot happen to its job changes nothing
@@ -226,9 +226,8 @@ StarvesBy e w v =
     (i : ℕ) → starved_at w i ≡ false → starved_at v i ≡ true
     → (own : JobEvent) × (e ≡ job_event_of i own) × CanAt w i own × TakesMemory own
 
--- **pages and devices (`LoadLays`, `UnplugTakes`)**: a page that is laid in is taken where the daemon takes it, as its
--- device is listed, at rest and has room; a device is taken out where that is listed and nobody has it; and else
--- nothing changes.
+-- **pages and devices (`LoadLays`, `UnplugTakes`)**: a page that is laid in is taken if the daemon takes it: its device
+-- is listed, at rest and has room. A device is taken out if it is listed and nobody has it. Nothing else changes.
 abbrev pub LoadLays : Event → WorldCore → WorldCore → Type 0
 LoadLays e w v =
     (name : List ℕ) (source : Source) → e ≡ Load name source
@@ -256,9 +255,9 @@ pub record IsWorldStep (e : Event) (w v : WorldCore) : Type 0 where
   pub unplugs : UnplugTakes e w v
 
 -- **ends (`Reaches`, `CancelEnds`, `LossEnds`, `ImageLossEnds`)**: an event, wherever it stands among some: those in
--- front of it lead to a world, and it and those behind it on from there; where a job runs in that world, a cancel ends
--- it as cancelled, the loss of its control connection, once that came, and of its data connection, where that stands,
--- as lost.
+-- front of it lead to a world, and it and those behind it lead on from there. If a job runs in that world, a cancel
+-- ends it as cancelled. The loss of its control connection, once that came, ends it as lost, and so does the loss of
+-- its data connection, if that stands.
 --
 -- Of the event, wherever it stands among these: those in front of it lead to a world of which this holds, and it
 -- and the others from there
@@ -289,10 +288,10 @@ ImageLossEnds events w v =
 -- ---- what they leave of devices
 
 -- **holders and pages (`OneHolder`, `SessionsStay`, `ScansStay`, `PageStays`, `StartsOnFirst`, `HoldsOn`, `HasLeft`,
--- `ListStays`)**: jobs whose sessions have a device of one name are one; what comes to others, and devices taken out,
--- leave a session as it stands, and pages laid in what it has within a scan; within a scan the first page of a device
--- that a session has stays; a start takes the first of those that it has; a session has its device until it is over;
--- what is listed changes where a device is taken out.
+-- `ListStays`)**: jobs whose sessions have a device of one name are one. What comes to others, and devices taken out,
+-- leave a session as it stands, and pages laid in what it has within a scan. Within a scan the first page of a device
+-- that a session has stays. A start takes the first of those that it has. A session has its device until it is over.
+-- What is listed changes only when a device is taken out.
 --
 -- two clients never hold one device
 abbrev pub OneHolder : WorldCore → Type 0
@@ -349,8 +348,8 @@ pub record IsHeldStep (e : Event) (w v : WorldCore) : Type 0 where
 
 -- ---- moves until no job runs
 
--- **ran out (`RunsOut`, `AreNextMoves`, `NoneRuns`)**: next moves came, each that of a job in the world
--- to which those in front of it led, at most as many as all jobs had left; and then no job runs.
+-- **ran out (`RunsOut`, `AreNextMoves`, `NoneRuns`)**: next moves came, each that of a job in the world to which those
+-- in front of it led. They are at most as many as all jobs had left. Then no job runs.
 --
 -- each of these events is the next move of a job, in the world that those in front of it led to
 abbrev pub AreNextMoves : List Event → WorldCore → WorldCore → Type 0

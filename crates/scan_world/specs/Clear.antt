@@ -31,7 +31,7 @@ use Rattle.scan_world.specs.Page.{CameFor, Settled}
 use Rattle.scan_world.specs.Settings.{PutsInForce}
 use Rattle.scan_world.specs.Trays.{first_tray}
 
--- it does not give the job up, does not take a connection of it, and does not take its device out
+-- it does not cancel the job, take a connection of it, or take its device out
 abbrev pub LeavesAlone : ℕ → Job → Event → Type 0
 LeavesAlone i job (Cancel j) = j ≢ i
 LeavesAlone i job (LoseControl j) = j ≢ i
@@ -60,12 +60,12 @@ pub record IsSupplied (h : History) (i : ℕ) (job : Job) (device : DeviceState)
   pub only : (j : ℕ) → Among j → j ≡ i
   pub unladen : (source : Source) → HasEvent h (Load job.device source) → ⊥
 
--- **clear (`IsClear`, `IsSupplied`, `LeavesAlone`, `IsAllowedAlways`)**: nothing stands in the way of a job: its device
--- is there, and named by these jobs alone, as by itself; its settings can be in force and name no status; where it
--- scans, they mean a picture on each page that came for it, of sources that cannot fail, and a feeder had a page at
--- first, is named by it alone, and no event brought one for it; no line of the users names its backend, or its password
--- is right for each challenge; no event gave it up, took a connection of it, or took its device out; and no stranger
--- did anything.
+-- **clear (`IsClear`, `IsSupplied`, `LeavesAlone`, `IsAllowedAlways`)**: nothing stands in the way of a job. Its device
+-- is there, and only these jobs (`Among`), such as itself alone, name it. Its settings can be in force and name no
+-- status. If it scans, they mean a picture on each page that came for it, whose sources cannot fail. A feeder had a
+-- page at first, only this job names it, and no event brought one for it. If a line of the users names its backend, its
+-- password is right for each challenge. No event gave it up, took a connection of it, or took its device out. No
+-- stranger did anything.
 pub record IsClear (h : History) (i : ℕ) (job : Job) (Among : ℕ → Type 0) : Type 0 where
   pub device : DeviceState
   pub is_there : Contains h.devices device
@@ -81,8 +81,8 @@ pub record IsClear (h : History) (i : ℕ) (job : Job) (Among : ℕ → Type 0) 
   pub left : (event : Event) → HasEvent h event → LeavesAlone i job event
   pub undisturbed : HasNoActs h
 
--- **plain (`PlainIsClear`)**: of a new world, a job is clear that is alone on a flatbed, whose settings can be in force
--- there and mean a picture on its page, where its source cannot fail and its password is right.
+-- **plain (`PlainIsClear`)**: in a new world, a job is clear that is alone on a flatbed. Its settings can be in force
+-- there and mean a picture on the page, whose source cannot fail, and its password is right.
 abbrev pub PlainIsClear : Type 0
 PlainIsClear =
     (name : List ℕ) (source : SourceState) (users : List Entry) (seed : List ℕ) (job : Job) (setup : Setup)
@@ -90,8 +90,8 @@ PlainIsClear =
     → meaning_of source.page setup.scene ≢ None → IsAllowedAlways users job
     → IsClear (begun (new_scanner Flatbed name source Little ∷ []) users seed (job ∷ [])) 0 job (λ j. j ≡ 0)
 
--- **loaded (`FeederIsClear`)**: of a new world, a job is clear that is alone on a feeder with some pages, one at least,
--- whose settings can be in force there and mean a picture on each, where no source can fail and its password is right.
+-- **loaded (`FeederIsClear`)**: in a new world, a job is clear that is alone on a feeder with one page or more. Its
+-- settings can be in force there and mean a picture on each page, no source can fail, and its password is right.
 abbrev pub FeederIsClear : Type 0
 FeederIsClear =
     (name : List ℕ) (sources : List SourceState) (users : List Entry) (seed : List ℕ) (job : Job) (setup : Setup)
@@ -101,16 +101,16 @@ FeederIsClear =
     → IsAllowedAlways users job
     → IsClear (begun (new_device Feeder name sources Little ∷ []) users seed (job ∷ [])) 0 job (λ j. j ≡ 0)
 
--- its next move was the loss of its control connection: in front of that it was told as out of memory, or in a delivery
--- of its request its session had answered with a reply that cannot be said
+-- its next move was the loss of its control connection. In front of that it was told as out of memory, or its session
+-- had answered a delivered request with a reply that cannot be said
 abbrev pub BrokeOff : History → WorldCore → ℕ → Job → Type 0
 BrokeOff h w i job =
     (at : Moment h w (LoseControl i))
     × ((starved_at at.before i ≡ true) ⊎ HadUnsaidReply (history_up_to h at.front) at.before i job)
 
--- **comes to (`ComesTo`, `BrokeOff`, `ComesClear`, `ClearsUp`, `ClearsBy`)**: a job that is done, or is told as out of
--- memory, or whose next move was the loss of its connection, for want of memory or at a reply that cannot be said; that
--- `run_all` brings each clear job there, and so do next moves that are run, where it is over behind them.
+-- **comes to (`ComesTo`, `BrokeOff`, `ComesClear`, `ClearsUp`, `ClearsBy`)**: a job is done, or told as out of memory,
+-- or its next move was the loss of its connection, for want of memory or at a reply that cannot be said. `run_all`
+-- brings each clear job there. So do next moves that are run, for each job that is over behind them.
 abbrev pub ComesTo : History → WorldCore → ℕ → Job → Outcome → Type 0
 ComesTo h w i job outcome =
     ((reports : Reports) × (outcome ≡ Done reports))
@@ -128,8 +128,8 @@ ClearsUp old new =
     (h : History) → LedTo h old → (i : ℕ) (job : Job) → slice_get h.jobs i ≡ Some job → IsClear h i job (λ j. j ≡ i)
     → ComesClear h old new i job
 
--- **two (`BothCome`, `SharesClear`, `IsEither`)**: of two jobs that name one device, and are clear but for each other,
--- each comes to what a clear job comes to, or is answered that the device is busy; and one at most is.
+-- **two (`BothCome`, `SharesClear`, `IsEither`)**: two jobs name one device, and are clear but for each other. Each
+-- comes to what a clear job comes to, or is answered that the device is busy, and one at most is.
 abbrev pub IsEither : ℕ → ℕ → ℕ → Type 0
 IsEither i j k = (k ≡ i) ⊎ (k ≡ j)
 
@@ -164,10 +164,10 @@ AllAreListed =
     → ((name : List ℕ) → HasEvent h (Unplug name) → ⊥)
     → listed_infos w.daemon.registry ≡ map (λ (d : DeviceState). d.info) h.devices
 
--- **no lie (`StoppedIsNoLie`, `RefusedIsNoLie`, `TurnedAwayIsNoLie`, `BothBusyIsNoLie`, `NeitherIsNoLie`)**: no clear
--- job ends, neither by next moves that are run nor behind `run_all`, that is not told as out of memory and whose
--- session did not break off; of two that are clear but for each other not both are told busy, and none is told anything
--- else.
+-- **no lie (`StoppedIsNoLie`, `RefusedIsNoLie`, `TurnedAwayIsNoLie`, `BothBusyIsNoLie`, `NeitherIsNoLie`)**: a clear
+-- job that is not told as out of memory, and whose session did not break off, does not end otherwise, by next moves
+-- that are run or by `run_all`. Of two that are clear but for each other, at most one is told busy, and neither is told
+-- anything else.
 abbrev pub StoppedIsNoLie : Type 0
 StoppedIsNoLie =
     (h : History) (w : WorldCore) (i : ℕ) (job : Job) (status : Status) (why : Why) → starved_at w i ≡ false

@@ -50,9 +50,9 @@ pub record HasPassed (h : History) (before : WorldCore) (i : ℕ) (job : Job) (a
   pub read : challenge_of sent.resource ≡ Some challenge
   pub is : is_allowed h.users job.user job.password (backend_of job.device) challenge ≡ allowed
 
--- **opened (`WasOpened`, `HasPassed`)**: as a job asked for its device, that was listed and no session had
--- it, no job's and no stranger's; no line of the users names its backend, or its user and password are allowed for the
--- challenge that its session had sent; and behind that its session, where it stands, has the device.
+-- **opened (`WasOpened`, `HasPassed`)**: as a job asked for its device, that was listed and no session had it, a job's
+-- or a stranger's. Its user and password are allowed for the challenge that its session had sent, or no line of the
+-- users names its backend. Behind that its session, if it stands, has the device.
 pub record WasOpened (h : History) (w : WorldCore) (i : ℕ) (job : Job) : Type 0 where
   pub asked : Asked h w i IsAtOpen
   pub listed : find_name job.device asked.at.before.daemon.registry ≢ None
@@ -68,7 +68,7 @@ HadNoPage h w i job count =
     (scans job.task ≡ true) × (asked : Asked h w i IsAtStart) × AtJob asked.at.before i (λ p. p.finished ≡ count)
     × ((d : DeviceState) × Has asked.at.before i job.device d × (is_at_rest d.phase ≡ true) × (d.pages ≡ []))
 
--- that had the options which its settings put in force, and they mean no picture on its first page, which came for it
+-- it had the options that its settings put in force, and they mean no picture on its first page, which came for it
 pub record HadNoPicture (h : History) (w : WorldCore) (i : ℕ) (job : Job) : Type 0 where
   pub scanning : scans job.task ≡ true
   pub asked : Asked h w i IsAtStart
@@ -81,8 +81,8 @@ pub record HadNoPicture (h : History) (w : WorldCore) (i : ℕ) (job : Job) : Ty
   pub first : held.page ≡ page_of device
   pub none : meaning_of held.page settled.setup.scene ≡ None
 
--- the session of job i had a device, whose source can fail and did, and counted it, where a pass was read with bytes of
--- it still to be given: behind the event that is stopped, and had, or back in its place
+-- the session of job i had a device whose source can fail, did, and counted it, as a pass was read with bytes of it
+-- still to be given. Behind the event the device is stopped, and the session had it, or it is back in its place
 pub record DeviceFailed (before behind : WorldCore) (i : ℕ) (name : List ℕ) : Type 0 where
   pub device : DeviceState
   pub has : Has before i name device
@@ -106,9 +106,8 @@ HadFailed h w i job =
     ⊎ ((turn : Happened h w i (DataTurn i)) × DeviceFailed turn.0.before turn.0.behind i job.device
     × SendsFailure turn.0.before turn.0.behind i))
 
--- what the daemon's answer with this status comes from, where `read-return-value` does not say it: as the job asked for
--- its device, that was not listed; another job's session had it, or a stranger's; or its user and password are not
--- allowed
+-- what an answer with this status comes from, if `read-return-value` does not say it: as the job asked for its device,
+-- that was not listed; another session had it, a job's or a stranger's; or its user and password are not allowed
 abbrev pub AnswerIsExplained : History → WorldCore → ℕ → Job → Status → Type 0
 AnswerIsExplained h w i job Inval = (IsUnforced h job × WasOpened h w i job) ⊎ (HadNoPicture h w i job
     ⊎ ((asked : Asked h w i IsAtOpen) × (find_name job.device asked.at.before.daemon.registry ≡ None)))
@@ -120,13 +119,13 @@ AnswerIsExplained h w i job NoDocs = HadNoPage h w i job 0
 AnswerIsExplained h w i job IoError = HadFailed h w i job
 AnswerIsExplained h w i job status = ⊥
 
--- **caused (`IsEndingExplained`, `AnswerIsExplained`, `HadNoPage`, `HadNoPicture`, `HadFailed`,
--- `DeviceFailed`, `SendsFailure`, `NamesStatus`, `IsUnforced`)**: the table of endings: a status and a why, with what
--- explains it: an event of the job, which came to it as it ran, and what stood in the world in front of it. Another
--- session had the device, a job's or a stranger's; it was not listed; the user's password is not allowed for the
--- challenge that was sent; the device had no page, or settings mean no picture on its first; its source failed; a
--- connection was lost; a piece came to a client without memory; `read-return-value` says a status in a turn of a frame.
--- Behind its opening: the settings can be in force on no device of the name.
+-- **caused (`IsEndingExplained`, `AnswerIsExplained`, `HadNoPage`, `HadNoPicture`, `HadFailed`, `DeviceFailed`,
+-- `SendsFailure`, `NamesStatus`, `IsUnforced`)**: the table of endings: a status and a why, with what explains it. That
+-- is an event of the job, which came to it as it ran, and what stood in the world in front of it. Another session had
+-- the device, a job's or a stranger's. It was not listed. The user's password is not allowed for the challenge that was
+-- sent. The device had no page, or settings mean no picture on its first. Its source failed. A connection was lost. A
+-- piece came to a client without memory. `read-return-value` says a status in a turn of a frame. Behind its opening:
+-- the settings can be in force on no device of the name.
 --
 -- THE TABLE: what explains that job i ended with a status and a why. No other two of them occur.
 abbrev pub IsEndingExplained : History → WorldCore → ℕ → Job → Bool → Status → Why → Type 0

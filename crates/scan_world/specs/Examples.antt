@@ -22,7 +22,7 @@ use Rattle.frame_join.specs.PictureText.{picture_text}
 
 -- **examples (`IsScanOf`, `until_busy`, `HasExplanation`)**: a file of exactly the picture that a job's settings mean
 -- on one page, put on a flatbed at its defaults; the events by which one client has a device and another one asks for
--- it; and that its ending is explained, in a world to which a history of these two led.
+-- it; that this one's ending is explained, in a world to which a history of these two led.
 pub record IsScanOf (page : PageView) (job : Job) (bytes : List ℕ) : Type 0 where
   pub setup : Setup
   pub placed : List Placement

@@ -17,9 +17,9 @@ use Rattle.strangers.specs.Together.{JointEvent, RunsAmong, events_among}
 use Rattle.strangers.specs.Together.JointEvent.{OfJobs, OfStranger}
 
 -- **history (`History`, `begun`, `and_then`, `of_jobs`, `LedTo`)**: the devices, users, seed and jobs that a world was
--- made of, and all that came since, in its order: events of jobs and devices, and acts of strangers; nothing happened
--- yet; and then these events; a new world of them, and then what came, led to this one, and each device and page was
--- within its limits.
+-- made of, and all that came since, in its order: events of jobs and devices, and acts of strangers. `begun`: nothing
+-- happened yet. `and_then`: then these events. `LedTo`: a new world of them, and what came then, led to this world, and
+-- each device and page was within its limits.
 pub record History : Type 0 where
   pub devices : List DeviceState
   pub users : List Entry
@@ -68,17 +68,16 @@ abbrev pub EachStep : (Event → WorldCore → WorldCore → Type 0) → List Ev
 EachStep Did [] w v = v ≡ w
 EachStep Did (e ∷ es) w v = (u : WorldCore) × Leads source_state e w u × Did e w u × EachStep Did es u v
 
--- **moment (`Moment`, `history_up_to`)**: an event of a history that led to a world, with the world in front of it, to
--- which what came before it led, and the one behind it, from which what came after it led on; and the history of what
+-- **moment (`Moment`, `history_up_to`)**: an event of a history that led to a world. What came before it led to the
+-- world in front of it. From the world behind it, what came after it led on. `history_up_to` is the history of what
 -- came first alone.
 --
 -- the same, of these alone
 abbrev pub history_up_to : History → List JointEvent → History
 history_up_to h events = record h { events = events }
 
--- An event of a history that led to the world w: what came in front of it led to the world before it, it led from
--- there to the one behind
--- it, and what came later from there to w.
+-- An event of a history that led to the world w. What came in front of it led to the world before it. It led from there
+-- to the one behind it, and what came later led from there to w.
 pub record Moment (h : History) (w : WorldCore) (e : Event) : Type 0 where
   pub front : List JointEvent
   pub back : List JointEvent

@@ -1,6 +1,6 @@
 -- WHAT THE PROMISE REFUSES: of each part of it the smallest lies. So no part of it holds of whatever happens.
 use Rattle.std.specs.Prelude.{ℕ, ◌≡◌, ◌≢◌, ◌⊎◌, ◌<◌, ◌≤◌, ◌-◌, Bool, true, false, Some, None, Ok, Err, List, [], ◌∷◌}
-use Rattle.std.specs.Prelude.{Contains, length, slice_get}
+use Rattle.std.specs.Prelude.{Contains, length, slice_get, take}
 use Rattle.netpbm.specs.Picture.{Picture}
 use Rattle.netpbm.specs.Pnm.{Denotes, IsWhole}
 use Rattle.scan_laws.specs.SetInfo.{has_bit}
@@ -48,13 +48,12 @@ use Rattle.scan_world.specs.Trays.{CountsPages, IsOfTray, OwnTray, first_tray}
 -- `RoundedIsNoLie`, `FileIsNoLie`, `UnchangedStandAside`, `RefusedStandAside`, `PageIsNoLie`, `FewIsNoLie`,
 -- `TrayPageIsNoLie`, `WholeIsNoLie`, `MissingIsNoLie`, `StuckIsNoLie`, `MovedIsNoLie`, `LossIsNoLie`, `IdleIsNoLie`,
 -- `GoneOnIsNoLie`, `GivenUpIsNoLie`, `StarvedIsNoLie`, `LaidIsNoLie`, `TornOutIsNoLie`, `StillRunsIsNoLie`,
--- `SharedIsNoLie`, `SwappedIsNoLie`, `GivenAwayIsNoLie`, `UnseededIsNoLie`, `Always`, `NamesNothing`,
--- `DenotesNone`)**: the smallest lies,
--- each with the part of the promise that refuses it: an ending of each kind without what explains it; a list of other
--- devices; settings on no device, or not told; a file of another page, or whole too soon, or none; a move too few, too
--- many, or a loss where nothing is wrong; a run that does nothing, a cancel that ends nothing, a `run_all` that gives a
--- job up; a device of two holders, and another page in mid-scan. `Always` says what was so in front of each delivery of
--- a job's requests, and `NamesNothing` that its options name no status.
+-- `SharedIsNoLie`, `SwappedIsNoLie`, `GivenAwayIsNoLie`, `UnseededIsNoLie`, `Always`, `NamesNothing`, `DenotesNone`)**:
+-- the smallest lies, each with the part of the promise that refuses it: an ending of each kind without what explains
+-- it; a list of other devices; settings on no device, or not told; a file of another page, or whole too soon, or none;
+-- a move too few, too many, or a loss where nothing is wrong; a run that does nothing, a cancel that ends nothing, a
+-- `run_all` that gives a job up; a device of two holders, and another page in mid-scan. `Always` says what was so in
+-- front of each delivery of a job's requests. `NamesNothing` says that its options name no status.
 --
 -- this is so in front of each delivery of the job's requests
 abbrev pub Always : History → WorldCore → ℕ → (WorldCore → Type 0) → Type 0
@@ -271,11 +270,11 @@ PageIsNoLie =
     → Always h w i (λ before. AtJob before i (λ p. p.finished ≡ k - 1) → DenotesNone h i job bytes before)
     → PageIsKept h w i job starved finished k (Some bytes) → ⊥
 
--- a whole file of a job that is not done
+-- a whole file in front of what a job that is not done has
 abbrev pub WholeIsNoLie : Type 0
 WholeIsNoLie =
     (h : History) (w : WorldCore) (i : ℕ) (job : Job) (starved : Bool) (outcome : Outcome) (bytes : List ℕ)
-    → ((reports : Reports) → outcome ≡ Done reports → ⊥) → IsWhole bytes
+    (n : ℕ) → ((reports : Reports) → outcome ≡ Done reports → ⊥) → IsWhole (take n bytes)
     → FileIsKept h w i job starved outcome (Some bytes) → ⊥
 
 -- no file, though the job is not told as out of memory
@@ -360,7 +359,7 @@ SwappedIsNoLie =
     → is_at_rest a.phase ≡ false → is_at_rest b.phase ≡ false → page_of b ≢ page_of a
     → EachStep IsHeldStep (e ∷ []) w v → ⊥
 
--- a device that a session has no more, though its connection was not lost, and no request was delivered to it
+-- a session has a device no more, though its connection was not lost and no request was delivered to it
 abbrev pub GivenAwayIsNoLie : Type 0
 GivenAwayIsNoLie =
     (w v : WorldCore) (i : ℕ) (name : List ℕ) (d : DeviceState) (e : Event) → Has w i name d

@@ -18,12 +18,12 @@ use Rattle.scan_world.specs.Sessions.{Asked, AtJob, Happened, Has, IsAtStart}
 use Rattle.scan_world.specs.Settings.{AreSettingsPut}
 use Rattle.frame_join.specs.PictureText.{picture_text}
 
--- **scan (`CameInTime`, `IsSteady`, `Settled`, `StartedOn`, `IsScan`)**: a page that was in a device of a name as the
--- world was made, or came for one as the job ran and changed the world, so none that the daemon refused, as one for a
--- full tray; that each of them is steady; the device that a job names, with the options that its settings put in force
--- there, each given the nearest admitted value; that a job asked for a start while so many of its pages were finished,
--- on this page, which the device that its session had at rest had first; a file that denotes exactly what the settings
--- mean on such a page, that of such a start.
+-- **scan (`CameInTime`, `IsSteady`, `Settled`, `StartedOn`, `IsScan`)**: a page came in time if it was in a device of a
+-- name as the world was made, or came for one as the job ran and changed the world. A page that the daemon refused, as
+-- one for a full tray, changed nothing. `IsSteady`: each of them is steady. `Settled`: the device that a job names,
+-- with the options that its settings put in force there, each given the nearest admitted value. `StartedOn`: a job
+-- asked for a start while so many of its pages were finished, on this page, which its session's device, at rest, had
+-- first. `IsScan`: a file denotes exactly what the settings mean on such a page, that of such a start.
 pub data CameInTime (h : History) (w : WorldCore) (i : ℕ) (name : List ℕ) (held : HeldPage) : Type 0 where
   FromFirst : (device : DeviceState) → Contains h.devices device → device.info.name ≡ name → Contains device.pages held
       → CameInTime h w i name held
@@ -54,9 +54,8 @@ pub record StartedOn (h : History) (w : WorldCore) (i : ℕ) (job : Job) (count 
   pub rests : is_at_rest device.phase ≡ true
   pub first : page_of device ≡ page
 
--- a file that denotes exactly the picture that the job's settings mean on a page that came for its device, and of
--- which it asked for a start
--- behind so many pages
+-- a file that denotes exactly the picture that the job's settings mean on a page. The page came for its device, and the
+-- job asked for a start of it behind so many pages
 pub record IsScan (h : History) (w : WorldCore) (i : ℕ) (job : Job) (count : ℕ) (file : List ℕ) : Type 0 where
   pub settled : Settled h job
   pub held : HeldPage
@@ -69,7 +68,7 @@ pub record IsScan (h : History) (w : WorldCore) (i : ℕ) (job : Job) (count : �
   pub own : file ≡ picture_text picture
 
 -- **came for a device (`CameFor`)**: a page that was in a device of a name as the world was made, or that an event
--- brought for one, taken or not, whenever that was.
+-- brought for one at any time, taken or not.
 pub data CameFor (h : History) (name : List ℕ) (held : HeldPage) : Type 0 where
   AtFirst : (device : DeviceState) → Contains h.devices device → device.info.name ≡ name → Contains device.pages held
       → CameFor h name held

@@ -1,5 +1,6 @@
 -- THE PROMISE, of one job: what each call of a world answers of it is right.
-use Rattle.std.specs.Prelude.{ℕ, ◌≡◌, ◌≢◌, ◌⊎◌, ◌<◌, ◌≤◌, ◌-◌, Bool, true, false, [], Option, Some, None, IsSome, List}
+use Rattle.std.specs.Prelude.{ℕ, ◌≡◌, ◌≢◌, ◌⊎◌, ◌<◌, ◌≤◌, ◌-◌, Bool, true, false, [], Option, Some, None, List}
+use Rattle.std.specs.Prelude.{IsSome, take}
 use Rattle.sane_fixed.specs.declared.status.Status.{Status}
 use Rattle.sane_fixed.specs.declared.status.Status.TheVariants.{Good, Eof}
 use Rattle.netpbm.specs.Pnm.{IsWhole}
@@ -44,13 +45,13 @@ pub record OutcomeIsKept (h : History) (w : WorldCore) (i : ℕ) (job : Job) (st
 -- `file`
 pub record FileIsKept (h : History) (w : WorldCore) (i : ℕ) (job : Job) (starved : Bool)
     (outcome : Outcome) (file : Option (List ℕ)) : Type 0 where
-  -- of a scan that is done, where the pages that came for its device in time are steady: exactly the picture that its
+  -- of a scan that is done, if the pages that came for its device in time are steady: exactly the picture that its
   -- settings mean on that of its start
   pub scanned : (reports : Reports) (bytes : List ℕ) → IsSteady h w i job.device → job.task ≡ tasks.Scan
       → outcome ≡ Done reports → file ≡ Some bytes → IsScan h w i job 0 bytes
-  -- it is whole only of such a scan: of a job that runs, that ended otherwise, or that is no scan it is not
-  pub whole : (bytes : List ℕ) → file ≡ Some bytes → IsWhole bytes → (reports : Reports) × (job.task ≡ tasks.Scan)
-      × (outcome ≡ Done reports)
+  -- a front of it is whole only of such a scan: of a job that runs, that ended otherwise, or that is no scan none is
+  pub whole : (bytes : List ℕ) (n : ℕ) → file ≡ Some bytes → IsWhole (take n bytes) → (reports : Reports)
+      × (job.task ≡ tasks.Scan) × (outcome ≡ Done reports)
   -- it is missing only where there was no memory for it
   pub missing : file ≡ None → starved ≡ true
   -- and that of a job which does not scan stays empty

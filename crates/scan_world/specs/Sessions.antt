@@ -19,8 +19,9 @@ use Rattle.world_refines.specs.WorldRefinement.{IsNobodys}
 use Rattle.strangers.specs.Busy.{LeasesNamed}
 use Rattle.scan_world.specs.Histories.{History, Moment}
 
--- **has (`SessionAt`, `Has`, `StrangerHas`)**: the session of a job in a world, that its connection leads to; that it
--- has a device of a name: a word of it stands for a lease of that; and that a session which is no job's has one.
+-- **has (`SessionAt`, `Has`, `StrangerHas`)**: the session of a job in a world is the one that its connection leads to.
+-- It has a device of a name if a word of it stands for a lease of that. A stranger has a device if a session has it
+-- that is no job's.
 --
 -- endpoint i is linked to the session
 pub record SessionAt (w : WorldCore) (i : ℕ) (s : Session DeviceState) : Type 0 where
@@ -73,8 +74,8 @@ IsAtStart progress = ⊥
 -- ---- what came to the job
 
 -- **came to a job (`CameAsItRan`, `Happened`, `Asked`, `AtJob`, `IsAtList`, `IsAtOpen`, `IsAtStart`)**: an event of a
--- job that came as it ran and changed the world; and of these the delivery of the last bytes of a request, while its
--- client waited for the answer to that: of a list, of the device's opening, with its authorization, or of a start.
+-- job that came as it ran and changed the world. `Asked` is such a delivery of the last bytes of a request, while its
+-- client waited for the answer: to a list, to the device's opening, with its authorization, or to a start.
 --
 -- job i ran in front of the event, which changed the world
 abbrev pub CameAsItRan : ℕ → WorldCore → WorldCore → Type 0

@@ -14,8 +14,8 @@ use Rattle.device_api.specs.Values.{defaults, with_value}
 use Rattle.sane_fixed.specs.Cap.{has_cap}
 
 -- **put (`IsSettingPut`, `AreSettingsPut`)**: a setting was put in: the option of its name, which is active and has
--- SOFT_SELECT, was given the admitted value nearest to what the setting's text reads as; each of some settings, from
--- the options that those before it left.
+-- SOFT_SELECT, got the admitted value nearest to what the setting's text reads as. `AreSettingsPut`: so was each of
+-- some settings, from the options that those before it left.
 pub record IsSettingPut (s : Setup) (setting : List ℕ × List ℕ) (p : Placement) : Type 0 where
   pub option : ScanOption
   pub has : Contains (options_of s.scene.kind) option
@@ -35,8 +35,8 @@ AreSettingsPut s [] [] t = t ≡ s
 AreSettingsPut s (setting ∷ settings) (p ∷ ps) t = IsSettingPut s setting p × AreSettingsPut p.setup settings ps t
 AreSettingsPut s settings ps t = ⊥
 
--- **in force from the defaults (`PutsInForce`)**: the settings put these options in force on a device of the kind that
--- is at its defaults, and none of them names a status that a read is to answer.
+-- **in force from the defaults (`PutsInForce`)**: the settings put these options in force on a device of the kind at
+-- its defaults. None of them names a status that a read is to answer.
 pub record PutsInForce (kind : DeviceKind) (settings : List (List ℕ × List ℕ)) (setup : Setup) : Type 0 where
   pub placed : List Placement
   pub put : AreSettingsPut (defaults kind Little) settings placed setup

@@ -29,7 +29,7 @@ use Rattle.scan_world.specs.Promise.{JobIsDone}
 use Rattle.scan_world.specs.Sessions.{Asked, Has, IsAtOpen, SessionAt, StrangerHas}
 
 -- **shared (`with_stranger`, `AStrangerCame`, `AStrangerMayCome`)**: whatever led to a world that has a job, a stranger
--- may come to it, where a place for a session is free; that is such a history too, and the session is no job's.
+-- may come to it while a place for a session is free. That is such a history too, and the session is no job's.
 abbrev pub with_stranger : History → WorldCore → ℕ → List JointEvent
 with_stranger h w port = h.events ++ OfStranger (record { session = w.daemon.opened; act = Opens port }) ∷ []
 
@@ -42,8 +42,8 @@ abbrev pub AStrangerMayCome : Type 0
 AStrangerMayCome = (h : History) (w : WorldCore) (i port : ℕ) (job : Job) → IsJobAt h w i job
     → is_closed w.daemon ≡ false → AStrangerCame h w port
 
--- **apart (`HoldersStandApart`, `ActsLeaveSessions`)**: no job and no stranger have devices of one name; and whatever a
--- stranger does, the session of each job stands as it stood, with all that it has, so its device, its settings and the
+-- **apart (`HoldersStandApart`, `ActsLeaveSessions`)**: no job and no stranger have devices of one name. Whatever a
+-- stranger does, the session of each job stands as it stood, with all that it has: its device, its settings and the
 -- pages there.
 abbrev pub HoldersStandApart : Type 0
 HoldersStandApart = (h : History) (w : WorldCore) (i : ℕ) (job : Job) → IsJobAt h w i job
@@ -58,8 +58,8 @@ ActsLeaveSessions = (h : History) (w v : WorldCore) (i : ℕ) (job : Job) → Is
 -- ---- where no stranger does anything
 
 -- **alone (`EventsAreNoActs`, `LedAlone`, `RanAlone`, `NoneSharesAlone`, `BusyIsByJobs`)**: events bring no act of a
--- stranger, and a history without one is a run of its events alone; no session in its worlds that is no job's has a
--- device, so a busy device is another job's.
+-- stranger. A history without one is a run of its events alone. In its worlds only sessions of jobs have devices, so a
+-- busy device is another job's.
 pub record EventsAreNoActs : Type 0 where
   pub first : (devices : List DeviceState) (users : List Entry) (seed : List ℕ) (jobs : List Job)
       → HasNoActs (begun devices users seed jobs)
@@ -88,9 +88,9 @@ BusyIsByJobs = (h : History) (w : WorldCore) (i : ℕ) (job : Job) → IsJobAt h
 
 -- ---- the smallest lies
 
--- **no lie (`TheirPageIsNoLie`, `TakenIsNoLie`)**: no file is a scan of a page that lay in no device at first and that
--- no event brought, as one of a stranger's; and no job but a list is done whose device a stranger had whenever it
--- asked.
+-- **no lie (`TheirPageIsNoLie`, `TakenIsNoLie`)**: a file is no scan of a page that lay in no device at first and that
+-- no event brought, such as a stranger's. A job whose device a stranger had whenever it asked is done only if it is a
+-- list.
 abbrev pub TheirPageIsNoLie : Type 0
 TheirPageIsNoLie =
     (h : History) (w : WorldCore) (i count : ℕ) (job : Job) (file : List ℕ)

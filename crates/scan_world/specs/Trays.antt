@@ -14,10 +14,10 @@ use Rattle.scan_world.specs.Histories.{HasEvent, HasNoActs, History}
 use Rattle.scan_world.specs.Page.{IsScan, IsSteady}
 use Rattle.scan_world.specs.Sessions.{Asked, AtJob, Has, IsAtStart}
 
--- **tray (`pages_in`, `first_tray`, `OwnTray`, `TraysAreTaken`)**: the pages that lie in a device, and that lay in it
--- as the world was made, in which each device was reset; a feeder that no other job names and for which no event
--- brought a page, where no stranger did anything; that as its job asks for a start while so many of its pages are
--- finished, the device at rest has those of its first tray but as many.
+-- **tray (`pages_in`, `first_tray`, `OwnTray`, `TraysAreTaken`)**: the pages that lie in a device, and those that lay
+-- in it as the world was made, in which each device was reset. `OwnTray`: only this job names the feeder, no event
+-- brought a page for it, and no stranger did anything. `TraysAreTaken`: as its job asks for a start while so many of
+-- its pages are finished, the device, at rest, has the pages of its first tray without that many.
 abbrev pub pages_in : DeviceState → List PageView
 pages_in d = map (λ (held : HeldPage). held.page) d.pages
 
@@ -43,8 +43,8 @@ TraysAreTaken =
     → (d : DeviceState) → Has asked.at.before i job.device d → is_at_rest d.phase ≡ true
     → (pages_in d ≡ drop n (first_tray tray.device)) × (n ≤ length (first_tray tray.device))
 
--- **of a tray (`IsOfTray`, `KeepsTray`, `CountsPages`)**: the file of page k is the scan of the k-th page of the tray;
--- a batch that is done has as many pages as it wanted, and on a feeder of its own no more than there were in the tray.
+-- **of a tray (`IsOfTray`, `KeepsTray`, `CountsPages`)**: the file of page k is the scan of the k-th page of the tray.
+-- A batch that is done has as many pages as it wanted, and on a feeder of its own at most as many as were in the tray.
 abbrev pub IsOfTray : (h : History) → WorldCore → (i : ℕ) (job : Job) → OwnTray h i job → ℕ → List ℕ → Type 0
 IsOfTray h w i job tray k file =
     (scan : IsScan h w i job (k - 1) file) × (slice_get (first_tray tray.device) (k - 1) ≡ Some scan.held.page)

@@ -62,8 +62,8 @@ pub fn all_is_right()
     what_stands_below();
 }
 
-/// A job that is over keeps what it shows, one that no event came to is as it was, moves never come back, an event of a job that can
-/// happen lowers its moves, and a cancel ends a job that runs.
+/// A job that is over keeps what it shows. A job that no event came to is as it was. Moves never come back. An event of a job
+/// that can happen lowers its moves, and a cancel ends a job that runs.
 #[tactic(none)]
 pub fn jobs_end_once()
     ensures over { (events : List Event) (w v : WorldCore)
@@ -83,8 +83,8 @@ pub fn jobs_end_once()
 /// A job in whose way nothing stands.
 #[tactic(none)]
 pub fn a_plain_job_is_clear()
-    /// As a world is new, a job is clear that is alone on a flatbed, whose settings can be in force there and mean a picture
-    /// on its page, where the source cannot fail and its password is right, if a line of the users names its backend.
+    /// In a new world a job is clear that is alone on a flatbed. Its settings can be in force there and mean a picture on the
+    /// page, whose source cannot fail. Its password is right, if a line of the users names its backend.
     /// Carried by: `flatbed` of `a_plain_job_is_clear`
     ///
     /// So it is on a feeder with one page at least, where this is so of each of its pages.
@@ -99,8 +99,9 @@ pub fn a_plain_job_is_clear()
 /// What becomes of a tray.
 #[tactic(none)]
 pub fn trays_are_taken()
-    /// As a job asks for a start while so many of its pages are finished, a feeder which it alone names, and into which no
-    /// event laid a page, has, where no stranger did anything, at rest the pages of its first tray but as many; and there were as many in it.
+    /// A job asks for a start while so many of its pages are finished. A feeder that only this job names, into which no event
+    /// laid a page, where no stranger did anything, then has, at rest, the pages of its first tray without that many; and there
+    /// were as many in it.
     ensures { TraysAreTaken }
 {
     what_stands_below();
@@ -118,8 +119,8 @@ pub fn all_are_listed()
 /// Strangers among the jobs of a world.
 #[tactic(none)]
 pub fn strangers_act_among_jobs()
-    /// What led to a world may be events of jobs and acts of strangers, in any order, and all is promised as before: to
-    /// any world that has a job a stranger may come, where a place for a session is free, and that is such a history.
+    /// Events of jobs and acts of strangers, in any order, may lead to a world, and all is promised as before. A stranger may
+    /// come to any world that has a job, while a place for a session is free, and that is such a history.
     /// Carried by: `come` of `strangers_act_among_jobs`; `LedTo`
     ensures come { AStrangerMayCome }
     /// No job and no stranger have devices of one name; and whatever a stranger does, each job's session stands as it
@@ -127,8 +128,8 @@ pub fn strangers_act_among_jobs()
     /// Carried by: `apart`, `leave` of `strangers_act_among_jobs`
     ensures apart { HoldersStandApart }
     ensures leave { ActsLeaveSessions }
-    /// Without an act of a stranger all is as among jobs alone: what led there is a run of its events, no session that
-    /// is no job's has a device, and DEVICE_BUSY is explained by another job's session alone.
+    /// Without an act of a stranger all is as among jobs alone. What led there is a run of its events, only sessions of jobs have
+    /// devices, and DEVICE_BUSY is explained by another job's session alone.
     /// Carried by: `led`, `alone`, `busy` of `strangers_act_among_jobs`
     ensures led { LedAlone }
     ensures alone { NoneSharesAlone }

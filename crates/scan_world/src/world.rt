@@ -127,7 +127,7 @@ impl World {
         ensures others { let w = seen_world ⟦<Box<dyn Device> as Device>⟧.state self.old.inner in
             let v = seen_world ⟦<Box<dyn Device> as Device>⟧.state self.new.inner in
             OthersStay events.items w v }
-        /// That memory ran out for a job, once it is told, stays told, whatever comes.
+        /// Once a job is told as out of memory, it stays told so, whatever comes.
         /// Carried by: `starved` of `World::run`, `World::run_all` and `jobs_end_once`
         ensures starved { let w = seen_world ⟦<Box<dyn Device> as Device>⟧.state self.old.inner in
             let v = seen_world ⟦<Box<dyn Device> as Device>⟧.state self.new.inner in
@@ -150,9 +150,9 @@ impl World {
         ensures steps { let w = seen_world ⟦<Box<dyn Device> as Device>⟧.state self.old.inner in
             let v = seen_world ⟦<Box<dyn Device> as Device>⟧.state self.new.inner in
             EachStep IsWorldStep events.items w v }
-        /// A job that runs ends by a cancel as cancelled, wherever that stands among the events; by the loss of its
-        /// control connection as lost, where the event that connects it came before; and so by the loss of its data
-        /// connection, where that stands.
+        /// A job that runs ends by a cancel as cancelled, wherever that stands among the events. It ends as lost by the loss of
+        /// its control connection, if the event that connects it came before, and by the loss of its data connection, if that
+        /// stands.
         /// Carried by: `cancel`, `loss`, `image_loss` of `World::run`; `cancel` of `jobs_end_once`
         ensures cancel { let w = seen_world ⟦<Box<dyn Device> as Device>⟧.state self.old.inner in
             let v = seen_world ⟦<Box<dyn Device> as Device>⟧.state self.new.inner in
@@ -186,8 +186,8 @@ impl World {
         /// at rest, has the same first page both times.
         /// Carried by: `pages` of `World::run`: `page_stays` of `IsHeldStep`
         ///
-        /// A start takes the first page: where requests of a job were delivered, a device that its session had and has,
-        /// and has within a scan now, has the first page that it had.
+        /// A start takes the first page. When requests of a job were delivered, a device that its session had and has, and has
+        /// within a scan now, has the first page that it had.
         /// Carried by: `pages` of `World::run`: `first_page` of `IsHeldStep`
         ///
         /// A session has its device until its control connection is lost, or requests are delivered to it behind its
@@ -197,8 +197,8 @@ impl World {
             let w = seen self.old.inner in
             let v = seen self.new.inner in
             (h : History) → LedTo h w → EachStep IsHeldStep events.items w v }
-        /// Where its events are next moves, one after another, a job in whose way nothing stood in front of them, and which
-        /// is over behind them, is done, or is told as out of memory, or lost its connection as its next move.
+        /// If its events are next moves, one after another, a job in whose way nothing stood in front of them, and which is over
+        /// behind them, is done, or is told as out of memory, or lost its connection as its next move.
         /// Carried by: `clear` of `World::run`: `ClearsBy`
         ensures clear { let w = seen_world ⟦<Box<dyn Device> as Device>⟧.state self.old.inner in
             let v = seen_world ⟦<Box<dyn Device> as Device>⟧.state self.new.inner in
@@ -211,19 +211,19 @@ impl World {
 
     /// Next moves of all jobs by turns.
     pub fn run_all(&mut self)
-        /// `run_all` adds next moves alone: each is that of a job in the world to which those before it led; they are
-        /// at most as many as `moves_left` counts of all jobs, and then no job runs.
+        /// `run_all` adds next moves alone. Each is that of a job in the world to which those before it led. They are at most as
+        /// many as `moves_left` counts of all jobs, and then no job runs.
         /// Carried by: `kept` of `World::run_all`: `RunsOut`, `AreNextMoves`
         ensures kept { let w = seen_world ⟦<Box<dyn Device> as Device>⟧.state self.old.inner in
             let v = seen_world ⟦<Box<dyn Device> as Device>⟧.state self.new.inner in
             (h : History) → LedTo h w → RunsOut h w v }
-        /// A job in whose way nothing stood in front of these moves is done behind them, or is told as out of memory, or
-        /// lost its connection as its next move, for want of memory or at a reply that cannot be said.
+        /// A job in whose way nothing stood in front of these moves is done behind them, or is told as out of memory, or lost its
+        /// connection as its next move, for want of memory or at a reply that cannot be said.
         /// Carried by: `clear` of `World::run_all`: `ClearsUp`
         ///
-        /// Nothing stands in its way where its device is there, and no other job names it; its settings can be in force and
-        /// name no status; its password is allowed; no event cancels it, loses its connections, or takes its device out;
-        /// a device that it scans is so that a scan ends well; and no stranger did anything.
+        /// Nothing stands in a job's way under these conditions. Its device is there, and no other job names it. Its settings can
+        /// be in force and name no status. Its password is allowed. No event cancels it, loses its connections, or takes its
+        /// device out. A device that it scans is so that a scan ends well. No stranger did anything.
         /// Carried by: `clear` of `World::run_all`: `IsClear`
         ///
         /// Such a device cannot fail, has a picture on each page, and as a feeder a page at first and none laid in.
@@ -231,8 +231,8 @@ impl World {
         ensures clear { let w = seen_world ⟦<Box<dyn Device> as Device>⟧.state self.old.inner in
             let v = seen_world ⟦<Box<dyn Device> as Device>⟧.state self.new.inner in
             ClearsUp w v }
-        /// Of two jobs that name one device, no feeder that one of them scans, where else nothing stood in the way of either,
-        /// each comes to the same, or was answered DEVICE_BUSY; and one at most was.
+        /// Two jobs name one device, no feeder that one of them scans, and nothing else stood in the way of either. Each comes to
+        /// the same, or was answered DEVICE_BUSY, and one at most was.
         /// Carried by: `shared` of `World::run_all`: `SharesClear`
         ensures shared { let w = seen_world ⟦<Box<dyn Device> as Device>⟧.state self.old.inner in
             let v = seen_world ⟦<Box<dyn Device> as Device>⟧.state self.new.inner in
@@ -256,17 +256,17 @@ impl World {
     pub fn outcome(&self, i: usize) -> Option<&Outcome>
         ensures is { let w = seen_world ⟦<Box<dyn Device> as Device>⟧.state self.now.inner in
             option_map (λ o. o.now) result ≡ outcome_at w i }
-        /// A job that is done, but for a list, was answered each setting with the nearest admitted value of a device
-        /// that is there and has its name, and with INEXACT just where it differs.
+        /// A job that is done, but for a list, got for each setting the nearest admitted value of a device that is there and has
+        /// its name, with INEXACT just where it differs.
         /// Carried by: `kept` of `World::outcome`: `answered` of `JobIsDone`
         ///
-        /// A show that is done tells each option of its device, and no other, with its descriptor and the value in force, where
-        /// that can be read, as the job's settings left them.
+        /// A show that is done tells exactly the options of its device, each with its descriptor and, if it can be read, the
+        /// value in force, as the job's settings left them.
         /// Carried by: `kept` of `World::outcome`: `shown` of `JobIsDone`
         ///
-        /// As a job that is done, but for a list, asked for its device, that was listed, no session had it, no job's and no
-        /// stranger's, and the job was permitted: no line of the users names its backend, or its user and password are
-        /// allowed for the challenge that its session had sent. Behind that its session has the device.
+        /// As a job that is done, but for a list, asked for its device, that was listed, no session had it, a job's or a
+        /// stranger's, and the job was permitted: its user and password are allowed for the challenge that its session had sent,
+        /// or no line of the users names its backend. Behind that its session has the device.
         /// Carried by: `kept` of `World::outcome`: `opened` of `JobIsDone`: `WasOpened`
         ///
         /// A list that is done tells the devices that were listed as the last bytes of its request were delivered: all,
@@ -277,14 +277,14 @@ impl World {
         /// status and its why, with what explains them.
         /// Carried by: `kept` of `World::outcome`: `ended` of `OutcomeIsKept`, `IsEndingExplained`
         ///
-        /// What explains an ending is an event of the job, and but for a cancel one that came as the job ran and changed
-        /// the world: those before it led to the world in front of it, and it and those behind it to the world asked.
-        /// Without one are told only settings no device can have, and memory.
+        /// An event of the job explains an ending. But for a cancel, it came as the job ran and changed the world: those before
+        /// it led to the world in front of it, and it and those behind it to the world asked. Only settings that no device can
+        /// have, and memory, are told without one.
         /// Carried by: `Happened`, `Asked`, `Moment` of `IsEndingExplained`
         ///
-        /// An answered status is the one that `read-return-value` says, as the job's settings put it in force, in a
-        /// turn of its frame, where the job scans; or else it is explained only as follows. As too short, which is
-        /// IO_ERROR, a job ended only where that says EOF.
+        /// An answered status is the one that `read-return-value` says, as the job's settings put it in force, in a turn of its
+        /// frame, if the job scans. Else it is explained only as follows. A job ended as too short, which is IO_ERROR, only if
+        /// that says EOF.
         /// Carried by: `NamesStatus` of `IsEndingExplained`
         ///
         /// Else DEVICE_BUSY was answered only where another job's session had the device as the job asked for it, or a
@@ -293,35 +293,34 @@ impl World {
         /// for the challenge that its session had sent.
         /// Carried by: `AnswerIsExplained`, `HasPassed` of `IsEndingExplained`
         ///
-        /// Else INVAL was answered only where the device was not listed as the job asked for it; where settings can be
-        /// in force on no device of the name, as also where a setting ended the job; or where a device, as a scan was
-        /// to start, had the settings' options, which mean no picture on its page.
+        /// Else INVAL was answered only if the device was not listed as the job asked for it; if settings can be in force on no
+        /// device of the name, as also when a setting ended the job; or if a device, as a scan was to start, had the settings'
+        /// options, which mean no picture on its page.
         /// Carried by: `AnswerIsExplained`, `IsUnforced`, `HadNoPicture` of `IsEndingExplained`
         ///
-        /// Else NO_DOCS was answered only to a job that scans, where the device that its session had had no page, as the
-        /// job asked for a start while none of its pages was finished.
+        /// Else NO_DOCS was answered only to a job that scans, if the device of its session had no page as the job asked for a
+        /// start while none of its pages was finished.
         /// Carried by: `HadNoPage` of `IsEndingExplained`
         ///
-        /// Else IO_ERROR was answered only to a job that scans, where a page that can fail came for its device, and the
-        /// source of the first page failed as it asked for a start, or in a turn of its frame: its session had the device,
-        /// and behind the event that is stopped, and the failure counted.
+        /// Else IO_ERROR was answered only to a job that scans, if a page that can fail came for its device, and the source of
+        /// the first page failed as it asked for a start, or in a turn of its frame. Its session had the device, which is stopped
+        /// behind the event, and the failure is counted.
         /// Carried by: `HadFailed`, `DeviceFailed` of `IsEndingExplained`
         ///
-        /// In a turn the end with IO_ERROR came behind the bytes of the frame; so the end of a page that a feeder gave
-        /// whole is none, though it lets go of that page with its count.
+        /// In a turn the end with IO_ERROR came behind the bytes of the frame. So the end of a page that a feeder gave whole is
+        /// no failure, though the feeder lets go of that page with its count.
         /// Carried by: `SendsFailure` of `HadFailed`
         ///
-        /// As lost a job ended only where a connection of it that stood was lost, or where it is told as out of memory;
-        /// as starved, which is NO_MEM, only where a piece came to its client; as cancelled only where it was
-        /// cancelled.
+        /// A job ended as lost only if a connection of it that stood was lost, or if it is told as out of memory; as starved,
+        /// which is NO_MEM, only if a piece came to its client; as cancelled only if it was cancelled.
         /// Carried by: `IsEndingExplained`
         ensures kept { let w = seen_world ⟦<Box<dyn Device> as Device>⟧.state self.now.inner in
             IfSome result (λ o. KeepsOutcome w i o.now) }
-        /// Of each job of the world an outcome is told.
+        /// Each job of the world has an outcome.
         ensures there { let w = seen_world ⟦<Box<dyn Device> as Device>⟧.state self.now.inner in
             ForEach w i (λ h job. IsSome result) }
-        /// A job that ended did so in one of the events: the world in front of it had it running, the world behind it
-        /// had it ended so, and what explains it is among the events up to that one.
+        /// A job that ended did so in one of the events. It ran in the world in front of the event, and had ended so in the world
+        /// behind it. What explains it is among the events up to that one.
         /// Carried by: `ended` of `World::outcome`: `EndedIn`
         ensures ended { let w = seen_world ⟦<Box<dyn Device> as Device>⟧.state self.now.inner in
             IfSome result (λ o. KeepsEnding w i o.now) }
@@ -334,17 +333,17 @@ impl World {
     pub fn file(&self, i: usize) -> Option<&[u8]>
         ensures is { let w = seen_world ⟦<Box<dyn Device> as Device>⟧.state self.now.inner in
             option_map (λ f. f.now) result ≡ file_answered w i }
-        /// The file of a scan that is done denotes exactly the picture that the job's settings mean on a page that came
-        /// for its device, where all that did until it was over, and changed the world, are steady; one that is not takes this
-        /// from the jobs of that device alone, and none that comes later takes it.
+        /// The file of a scan that is done denotes exactly the picture that the job's settings mean on a page that came for its
+        /// device. That holds if all pages are steady that came for it until it was over, and changed the world. A page that is
+        /// not steady takes this from the jobs of its device alone, and no later page takes it.
         /// Carried by: `kept` of `World::file`: `scanned` of `FileIsKept`
         ///
-        /// That page is the one which the device that its session had, at rest, had first as the job asked for a start,
-        /// while none of its pages was finished.
+        /// The job's session had the device, at rest, as the job asked for a start while none of its pages was finished. That
+        /// page is the one that the device then had first.
         /// Carried by: `kept` of `World::file`: `StartedOn` of `IsScan`
         ///
-        /// The file of a job that runs, that ended otherwise or that is no scan is not whole; that of a job which does
-        /// not scan is there, and empty.
+        /// No front of the file of a job that runs, that ended otherwise or that is no scan is whole. A job that does not scan has a
+        /// file, which is empty.
         /// Carried by: `kept` of `World::file`: `whole`, `empty` of `FileIsKept`
         ///
         /// A file is missing only where there was no memory for it, and then the job is told as out of memory.
@@ -361,15 +360,13 @@ impl World {
     pub fn file_at(&self, i: usize, k: u32) -> Option<&[u8]>
         ensures is { let w = seen_world ⟦<Box<dyn Device> as Device>⟧.state self.now.inner in
             option_map (λ f. f.now) result ≡ page_answered w i k }
-        /// The file of each finished page of a batch denotes that picture too, where they are steady, whatever became
-        /// of the job: of page k on the page that the device had first as the job asked for a start while k - 1 pages
-        /// were finished.
+        /// The file of each finished page of a batch denotes that picture too, if the pages are steady, whatever became of the
+        /// job: of page k on the page that the device had first as the job asked for a start while k - 1 pages were finished.
         /// Carried by: `kept` of `World::file_at`: `PageIsKept`, `StartedOn`
         ensures kept { let w = seen_world ⟦<Box<dyn Device> as Device>⟧.state self.now.inner in
             KeepsPage w i k (option_map (λ f. f.now) result) }
-        /// Where the job names a feeder that no other names, and into which no event laid a page, and no stranger did
-        /// anything, that is the k-th of
-        /// the pages that lay in its tray as the world was made, if they are steady.
+        /// If only this job names the feeder, no event laid a page into it, and no stranger did anything, that is the k-th of the
+        /// pages that lay in its tray as the world was made, if they are steady.
         /// Carried by: `tray` of `World::file_at`: `OwnTray`, `IsOfTray`
         ensures tray { let w = seen_world ⟦<Box<dyn Device> as Device>⟧.state self.now.inner in
             IfSome result (λ f. KeepsTray w i k f.now) }
@@ -382,13 +379,13 @@ impl World {
     pub fn finished(&self, i: usize) -> u32
         ensures is { let w = seen_world ⟦<Box<dyn Device> as Device>⟧.state self.now.inner in
             result ≡ finished_at w i }
-        /// A batch that is done has finished as many pages as it wanted, or fewer and at least one; then its device had no
+        /// A batch that is done has finished as many pages as it wanted, or fewer and at least one. With fewer, its device had no
         /// page more as it asked for a start behind just these.
         /// Carried by: `kept` of `World::finished`: `CountIsKept`
         ensures kept { let w = seen_world ⟦<Box<dyn Device> as Device>⟧.state self.now.inner in
             KeepsPageCount w i result }
-        /// A batch that is done has finished as many pages as it wanted, on a device that is no feeder; and as many, or
-        /// all that lay in its tray as the world was made, whichever are fewer, on such a feeder.
+        /// A batch that is done on a device that is no feeder has finished as many pages as it wanted. On such a feeder it has
+        /// finished as many, or all that lay in its tray as the world was made, whichever are fewer.
         /// Carried by: `tray` of `World::finished`: `CountsPages`
         ensures tray { let w = seen_world ⟦<Box<dyn Device> as Device>⟧.state self.now.inner in
             ForEach w i (λ h job. BatchIsCounted h w i job result) }
@@ -419,9 +416,9 @@ impl World {
         /// A job has a next move just where it runs.
         /// Carried by: `kept` of `World::next_move`: `MoveIsKept`
         ///
-        /// It is the loss of its control connection only where the job is told as out of memory, or where its session, as
-        /// it stood in front of a delivery of the request that its client waits for, answers that with a reply that
-        /// passes a limit of the wire or has no spelling.
+        /// It is the loss of its control connection only if the job is told as out of memory, or if its session, as it stood in
+        /// front of a delivery of the request that its client waits for, answers that with a reply that passes a limit of the
+        /// wire or has no spelling.
         /// Carried by: `kept` of `World::next_move`: `loss` of `IsGoodMove`
         ensures kept { let w = seen_world ⟦<Box<dyn Device> as Device>⟧.state self.now.inner in
             ForEach w i (λ h job. IsGoodMove h w i job result) }
@@ -432,7 +429,7 @@ impl World {
 
     /// At least as many moves as job i may still take: 0 just where it does not run, or there is no such job.
     pub fn moves_left(&self, i: usize) -> u64
-        /// What these calls answer is, exactly, what `event_world` says.
+        /// These calls answer exactly what `event_world` says.
         /// Carried by: `is` of `World::outcome`, `file`, `file_at`, `finished`, `starved`, `next_move`, `moves_left`
         ensures is { let w = seen_world ⟦<Box<dyn Device> as Device>⟧.state self.now.inner in
             result ≡ left_at w i }

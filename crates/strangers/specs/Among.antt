@@ -17,9 +17,9 @@ use Rattle.world_refines.specs.GhostStates.{Ghost}
 use Rattle.world_refines.specs.WorldRefinement.{IsNobodys, StrangerStands, WorldRefines, stranger_of}
 use Rattle.strangers.specs.LeavingJobs.{IsLeftBy, JobsStand, ghost_with}
 
--- **stands among (`StandsAmong`)**: all jobs stand, and all strangers: each session that no endpoint has is by the
--- model that of a client behind all jobs, any session, with up to four devices; and of such a number that has none
--- nothing is held.
+-- **stands among (`StandsAmong`)**: all jobs stand, and all strangers. Each session that no endpoint has is by the
+-- model that of a client behind all jobs: any session, with up to four devices. A client of such a number without a
+-- session holds nothing.
 pub record StandsAmong (t : Ghost) (w : WorldCore) : Type 0 where
   pub jobs : JobsStand t w
   pub limits : HasDaemonLimits w.daemon
@@ -30,7 +30,7 @@ pub record StandsAmong (t : Ghost) (w : WorldCore) : Type 0 where
   pub strangers : (n : ℕ) → StrangerStands t w n
 
 -- **acts of strangers (`StrangerActs`, `StrangersAct`)**: what the daemon does for a session that is nobody's, any of a
--- server's acts, while no endpoint changes; and such acts one after another, each of any stranger.
+-- server's acts, while no endpoint changes. `StrangersAct`: such acts one after another, each of any stranger.
 pub record StrangerActs (n : ℕ) (act : SessionAction) (w v : WorldCore) : Type 0 where
   pub nobodys : IsNobodys w n
   pub acts : ActsOn n w.daemon act v.daemon
@@ -74,8 +74,8 @@ StrangersDoAll =
 -- ---- and in any world of jobs and strangers, whatever led there, they may come
 
 -- **may have strangers (`MayHaveStrangers`)**: a world that refines, as each does to which events led, or acts of
--- strangers among them; whose daemon is within its limits; and of which nothing is said of jobs that there are not but
--- that they want no device.
+-- strangers among them. Its daemon is within its limits. Of numbers that no job has it says only that they want no
+-- device.
 pub record MayHaveStrangers (t : Ghost) (w : WorldCore) : Type 0 where
   pub refines : WorldRefines t w
   pub limits : HasDaemonLimits w.daemon

@@ -35,8 +35,8 @@ abbrev pub IsNotOf : WorldCore → ℕ → ℕ → Type 0
 IsNotOf w i n = (endpoint : Endpoint) (id : SessionId) → slice_get w.endpoints i ≡ Some endpoint
     → endpoint.link ≡ Some id → id.number ≢ n
 
--- **another had it (`HadInFront`, `LeasesNamed`)**: in front of some delivery to the daemon from job i, a session that
--- is not the job's, another job's or a stranger's, had a device of that name.
+-- **another had it (`HadInFront`, `LeasesNamed`)**: in front of some delivery from job i to the daemon, a session had a
+-- device of that name that is not the job's: another job's or a stranger's.
 pub record HadInFront (source : Source → SourceState) (xs : List JointEvent) (w v : WorldCore) (i : ℕ)
     (name : List ℕ) : Type 0 where
   pub front : List JointEvent

@@ -43,17 +43,16 @@ IsUseOf i (Unplugs d) = ⊥
 IsUseOf i (Uses j d shown left) = j ≡ i
 
 -- **the jobs stand (`JobsStand`)**: the model's invariant holds, each job asks for what it holds alone, and each
--- endpoint of the world refines its job; so it is of a world of jobs, and nothing is said of whoever else has a session
--- there.
+-- endpoint of the world refines its job. A world of jobs is so. Nothing is said of other sessions.
 pub record JobsStand (t : Ghost) (w : WorldCore) : Type 0 where
   pub sound : Invariant t.system
   pub asks : (j : ℕ) → AsksAsHeld t.system j
   pub endpoints : (j : ℕ) (endpoint : Endpoint) → slice_get w.endpoints j ≡ Some endpoint
       → EndpointRefinesAt t w.daemon j endpoint
 
--- **stranger (`IsStrangers`, `MayCome`, `IsGone`)**: a session of the daemon that no endpoint of the world has: by the
--- model that of a client behind all jobs, which has no job, and so wants a place where nothing is listed. One may come
--- where a place for a session is free; of one who is gone nothing is held.
+-- **stranger (`IsStrangers`, `MayCome`, `IsGone`)**: a session of the daemon that no endpoint of the world has. By the
+-- model it is that of a client behind all jobs, which has no job, and so wants a place where nothing is listed. One may
+-- come while a place for a session is free. One who is gone holds nothing.
 pub record IsStrangers (t : Ghost) (w : WorldCore) (i n : ℕ) (s : AbstractSession) : Type 0 where
   pub beyond : length w.endpoints ≤ i
   pub nowhere : (device_for t.system i).listed ≡ false
@@ -65,9 +64,9 @@ pub record IsStrangers (t : Ghost) (w : WorldCore) (i n : ℕ) (s : AbstractSess
 abbrev pub IsLeftBy : ℕ → ℕ → Make → AbstractDevice → AbstractDevice → Type 0
 IsLeftBy i d make old new = (new ≡ old) ⊎ ((shown : List Mark) × IsUsedBy i d make old shown new)
 
--- **leaves the jobs (`LeavesJobs`)**: behind a call for a stranger's session the devices are these; with them the jobs
--- stand, no slot of another session is touched, so no reply that waits there, each device that anybody else holds is as
--- it was, and so is what the sessions of all others stand for, and each is as it was or used by him.
+-- **leaves the jobs (`LeavesJobs`)**: behind a call for a stranger's session the devices are these, and with them the
+-- jobs stand. No slot of another session is touched, so no reply that waits there. Each device that anybody else holds
+-- is as it was, and so is what the sessions of all others stand for. Each device is as it was or used by him.
 pub record LeavesJobs (t : Ghost) (w : WorldCore) (i n : ℕ) (e : Core) (device : ℕ → AbstractDevice) : Type 0 where
   pub stands : JobsStand (ghost_with device t) (record w { daemon = e })
   pub slots : (m : ℕ) → m ≢ n → session_slot_of e.slots m ≡ session_slot_of w.daemon.slots m
@@ -75,9 +74,9 @@ pub record LeavesJobs (t : Ghost) (w : WorldCore) (i n : ℕ) (e : Core) (device
   pub others : LeavesOthers i w.daemon.registry e.registry t.system.device device
   pub uses : (k : ℕ) → IsLeftBy i k (t.system.make k) (t.system.device k) (device k)
 
--- **whatever a stranger does (`SaysAnything`, `GoesOn`, `HasArrived`, `ActLeaves`)**: he is fed any bytes, also where
--- memory runs out; his data connection is made or lost, a record or replies of his are taken, and he has a session
--- still; he comes; or whatever of that. Each leaves the jobs.
+-- **whatever a stranger does (`SaysAnything`, `GoesOn`, `HasArrived`, `ActLeaves`)**: he is fed any bytes, also when
+-- memory runs out; his data connection is made or lost, or a record or replies of his are taken, and he has a session
+-- still; he comes; or any of these. Each leaves the jobs.
 pub record SaysAnything (t : Ghost) (w : WorldCore) (i n : ℕ) (fed : Fed) (e : Core) : Type 0 where
   pub device : ℕ → AbstractDevice
   pub leaves : LeavesJobs t w i n e device

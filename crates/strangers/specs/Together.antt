@@ -2,7 +2,7 @@
 -- is kept.
 use Rattle.std.specs.Prelude.{ℕ, ◌≡◌, ◌≢◌, ◌<◌, ◌++◌, false, Some, List, [], ◌∷◌, All, map, slice_get}
 use Rattle.std.specs.List.{AllByRecursion}
-use Rattle.netpbm.specs.Pnm.{IsWhole}
+use Rattle.netpbm.specs.NoFile.{HoldsNoFile}
 use Rattle.page_picture.specs.Source.{SourceState}
 use Rattle.page_sources.specs.declared.kinds.Source.{Source}
 use Rattle.device_api.specs.ScannerLimits.{HasLimits}
@@ -34,7 +34,7 @@ use Rattle.strangers.specs.Among.{MayHaveStrangers, StrangerAct, StrangerActs}
 use Rattle.strangers.specs.LeavingJobs.{IsUseOf, ghost_behind}
 
 -- **a stranger's act among jobs (`WorldStays`, `IsUseOf`)**: it is steps of the model, each a use of a device by that
--- stranger; behind it the world stands for what they lead to: no other session's slot is touched, nor a device that
+-- stranger. Behind it the world stands for what they lead to. No other session's slot is touched, nor a device that
 -- another holds.
 pub record WorldStays (t : Ghost) (w v : WorldCore) (n : ℕ) : Type 0 where
   pub steps : List Transition
@@ -60,9 +60,9 @@ pub record StrangerIsLeft (w v : WorldCore) (n : ℕ) : Type 0 where
   pub nobodys : IsNobodys v n
   pub slot : session_slot_of v.daemon.slots n ≡ session_slot_of w.daemon.slots n
 
--- **an event among strangers (`JobsGoOn`, `JobGoesOn`, `StrangerIsLeft`)**: whatever comes to a job or to a device, it
--- is the steps of the model that it is in a world of jobs alone, behind them all stand, and each stranger's session is
--- as it was, but that a page that is laid in may come to a device that a stranger holds.
+-- **an event among strangers (`JobsGoOn`, `JobGoesOn`, `StrangerIsLeft`)**: an event of a job or a device is the same
+-- steps of the model as in a world of jobs alone, and all stand behind them. Each stranger's session is as it was,
+-- except that a page may be laid into a device that a stranger holds.
 pub record JobGoesOn (source : Source → SourceState) (e : Event) (t : Ghost) (w v : WorldCore) : Type 0 where
   pub steps : List Transition
   pub ghost_then : Ghost
@@ -81,8 +81,8 @@ JobsGoOn = (source : Source → SourceState) (e : Event) (t : Ghost) (w v : Worl
 -- ---- one after another
 
 -- **a history of jobs and strangers (`JointEvent`, `RunsAmong`, `ComesAmong`)**: events of jobs and devices, and acts
--- of strangers, one after another; each takes its steps of the model, those of an act are uses of devices by its
--- stranger; behind each of them the world stands for what it led to.
+-- of strangers, one after another. Each takes its steps of the model; those of an act are uses of devices by its
+-- stranger. Behind each the world stands for what it led to.
 pub data JointEvent : Type 0 where
   OfJobs : Event → JointEvent
   OfStranger : StrangerAct → JointEvent
@@ -134,9 +134,9 @@ AllGoOnTogether = (source : Source → SourceState) (xs : List JointEvent) (t : 
 -- ---- what is kept of every job
 
 -- **kept among strangers (`KeptAmongStrangers`, `AllIsKeptAmongStrangers`)**: from a new world on, behind any events
--- and any acts of any strangers, in any order, all that is promised of jobs in a world of jobs alone is kept: outcomes,
--- files, finished pages, moves. (The other job stands for those that there are not, and names no device. A job for
--- which no session is free, since strangers have them, is shut out as one out of memory is, and told so.)
+-- and any acts of any strangers, in any order, all is kept that is promised of jobs in a world of jobs alone: outcomes,
+-- files, finished pages, moves. (The other job stands for the numbers without a job, and names no device. A job that
+-- finds every session taken by strangers is shut out as one out of memory is, and told so.)
 pub record KeptAmongStrangers (source : Source → SourceState) (xs : List JointEvent) (t : Ghost) (w v : WorldCore)
     (run : RunsAmong source xs w v) : Type 0 where
   pub all : AllGoOn source xs t w v run
@@ -160,7 +160,7 @@ StrangersCompleteNoFile =
     (source : Source → SourceState) (xs : List JointEvent) (t : Ghost) (w v : WorldCore) (run : RunsAmong source xs w v)
     → KeptAmongStrangers source xs t w v run → (i : ℕ) (endpoint : Endpoint) (file : List ℕ)
     → slice_get v.endpoints i ≡ Some endpoint → is_done endpoint.client.outcome ≡ false → endpoint.file ≡ Some file
-    → IsWhole file → ⊥
+    → HoldsNoFile file
 
 -- ---- no two hold one device
 

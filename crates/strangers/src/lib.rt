@@ -51,23 +51,23 @@ pub fn strangers_may_come()
 
 #[tactic(none)]
 pub fn jobs_go_on_among_strangers()
-    /// Whatever event comes to a job or a device among strangers, it is the steps of the model that it is among jobs
-    /// alone; all stand behind it, and each stranger's session is as it was, with its devices and replies, but that a
-    /// page that is laid in may come to a device that he holds.
+    /// An event of a job or a device among strangers is the same steps of the model as among jobs alone. All stand behind it.
+    /// Each stranger's session is as it was, with its devices and replies, except that a page may be laid into a device that he
+    /// holds.
     ensures jobs { JobsGoOn }
-    /// Whatever act comes of a stranger, it is steps of the model, each a use of a device by him; the world stands for
-    /// what they lead to, and no session of another is touched, nor a device that another holds.
+    /// Any act of a stranger is steps of the model, each a use of a device by him. The world stands for what they lead to. No
+    /// session of another is touched, nor a device that another holds.
     ensures strangers { StrangersKeepWorlds }
-    /// So it is of events of jobs and acts of strangers, any number, in any order: their steps are one history of the
-    /// model, and its marks may come at each device: no two hold one, and a start takes the page that is next.
+    /// So it is of any number of events of jobs and acts of strangers, in any order. Their steps are one history of the model,
+    /// and its marks may come at each device: no two hold one, and a start takes the page that is next.
     ensures all { AllGoOnTogether }
 {}
 
 #[tactic(none)]
 pub fn all_is_kept_among_strangers()
-    /// From a new world on, behind any events and acts of strangers, each job keeps what it keeps among jobs alone: a
-    /// scan that is done its picture, where its device's sources are steady; one that is not done no whole file, and a
-    /// cause by the model; and one without moves is over.
+    /// From a new world on, behind any events and acts of strangers, each job keeps what it keeps among jobs alone. A scan that
+    /// is done keeps its picture, if its device's sources are steady. One that is not done has no whole file, and a cause by the
+    /// model. A job without moves is over.
     ensures { AllIsKeptAmongStrangers }
 {}
 
@@ -85,8 +85,8 @@ pub fn no_two_hold_one_device()
 
 #[tactic(none)]
 pub fn busy_devices_have_a_holder()
-    /// A job that found its device held found it so in front of one of its deliveries to the daemon: there a session that
-    /// is not the job's had a device of that name, another job's or a stranger's.
+    /// A job that found its device held found it so in front of one of its deliveries to the daemon. There a session had a device
+    /// of that name that is not the job's: another job's or a stranger's.
     /// Carried by: `busy_devices_have_a_holder`: `HadInFront`, `LeasesNamed`
     ensures held { BusyHasHolder }
     /// So a job that ended with DEVICE_BUSY found another with its device so, or a setting of its own names that status.

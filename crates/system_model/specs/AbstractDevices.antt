@@ -15,7 +15,7 @@ pub data ScanPhase : Type 0 where
 -- **device among its users (`AbstractDevice`, `ScanPhase`, `DeviceInvariant`)**: whether it is listed, who holds it,
 -- its options, the pages that starts at rest take (a feeder's start takes one out), and where a scan is: at rest; the
 -- frame that ended last and the frames to be started; the frame that is read, what is left of it, and those after it.
--- Fit: at rest where nobody holds it, within its limits, one page, or at most 16 in a feeder.
+-- It is fit if it is at rest while nobody holds it, within its limits, and has one page, or at most 16 in a feeder.
 pub record AbstractDevice : Type 0 where
   pub listed : Bool
   -- the client that holds it: there are never two

@@ -35,8 +35,8 @@ abstract_force (requested ∷ left) make options =
     setting_then (abstract_force left make) make options requested
     (resolve_setting (descriptors_in_force make options) requested)
 
--- **settings in force (`abstract_in_force`, `AreAnswered`)**: what one set after another leaves from the defaults; of
--- each setting the report: what its text reads as, the nearest admitted value, INEXACT just where they differ.
+-- **settings in force (`abstract_in_force`, `AreAnswered`)**: what one set after another leaves from the defaults. Each
+-- setting's report has what its text reads as, the nearest admitted value, and INEXACT just where they differ.
 --
 -- the settings of a job, from the default_options
 abbrev pub abstract_in_force : Make → List RequestedSetting → Option SettingsResult

@@ -19,9 +19,9 @@ use Rattle.system_model.specs.SystemStates.{SessionView, JobState}
 
 -- **action, transition (`Action`, `Transition`, `after_transition`), enabled transition (`IsEnabled`)**: what comes to
 -- one job: a connection, an answer, a reply heard, a record sent or read, a loss, a cancel, out of memory, a session
--- that breaks off, for lack of memory or, where a reply is due, at one past the limits of the wire (which explains no
--- ending); a page laid in, a device unplugged, or used by a client without a job. All chance is in a step's arguments,
--- so what stands after it is a function. When each may come.
+-- that breaks off. A session breaks off for lack of memory, or at a due reply that is past the limits of the wire
+-- (which explains no ending). Besides: a page laid in, a device unplugged, or used by a client without a job. All
+-- chance is in a step's arguments, so what stands after it is a function. `IsEnabled` says when each may come.
 pub data Action : Type 0 where
   -- the control connection is made
   Connects : Action

@@ -21,8 +21,8 @@ pub data Cause : Type 0 where
   SourceFailed : Cause
   NamesEof : Cause
   Names : (status : Status) → Cause
-  -- the settings are in force for no options; the device is not listed; the page and the options of a start at rest
-  -- mean no picture
+  -- no options have the settings in force; the device is not listed; the page and the options of a start at rest mean
+  -- no picture
   Unforced : Cause
   WasUnlisted : Cause
   HadNoPicture : Cause

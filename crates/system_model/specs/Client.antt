@@ -16,8 +16,8 @@ use Rattle.system_model.specs.AbstractMessages.{Authorize, Describe, Get, Set, P
 use Rattle.system_model.specs.Devices.{resolve_setting, readable_options}
 
 -- **client (`AbstractTask`, `AbstractJob`, `AbstractProgress`, `ClientView`), hearing (`hear_at`, `client_after_bytes`,
--- `end_frame`)**: what a client is to do, what it waits for, what it knows; what it makes of a reply, of bytes, of a
--- frame's end.
+-- `end_frame`)**: what a client is to do, what it waits for, and what it knows. Hearing: what it makes of a reply, of
+-- bytes, of a frame's end.
 pub data AbstractTask : Type 0 where
   List_ : AbstractTask
   Show : AbstractTask

@@ -5,9 +5,9 @@ use Rattle.system_model.specs.Devices.{Make}
 use Rattle.system_model.specs.AbstractDevices.{AbstractDevice, ScanPhase, Resting, Between, Reading, Begin}
 use Rattle.system_model.specs.AbstractDevices.{without_first}
 
--- **marks (`Mark`, `MayMark`, `MarksLead`)**: what a user can see happen to a device: handed out, a page
--- started, at rest again, given back, a page laid in, listed no more. A mark may come only where the device stands so:
--- handed out only where listed and held by nobody, a start takes the next page, no page is laid in within a scan.
+-- **marks (`Mark`, `MayMark`, `MarksLead`)**: what a user can see happen to a device: handed out, a page started, at
+-- rest again, given back, a page laid in, listed no more. Each mark may come only to a device that stands so: it is
+-- handed out only while listed and held by nobody, a start takes the next page, no page is laid in within a scan.
 pub data Mark : Type 0 where
   -- client i is handed device d; it starts this page of it; the device is at rest again; it is given back
   Took : (i d : ℕ) → Mark

@@ -152,9 +152,9 @@ NotesAreTrue =
     × ((ds : List ℕ) → (s.job i).session.shown ≡ None → ((after_transition s (By i x)).job i).session.shown ≡ Some ds
     → ds ≡ listed_devices s)
 
--- CLIENTS WITHOUT A JOB
--- **what a client without a job leaves (`UseLeaves`)**: of a device that it uses: it is listed as it was, held by
--- nobody or by that client, before and after, and its pages are those that it had, but for some that came first.
+-- CLIENTS WITHOUT A JOB **what a client without a job leaves (`UseLeaves`)**: of a device that it uses. That is listed
+-- as it was, and held by nobody or by that client, before and after. Its pages are those that it had, without some that
+-- came first.
 pub record UseLeaves (i : ℕ) (dev left : AbstractDevice) : Type 0 where
   pub listed : left.listed ≡ dev.listed
   pub before : (dev.holder ≡ None) ⊎ (dev.holder ≡ Some i)

@@ -4,7 +4,7 @@ use Rattle.system_model.specs.SystemStates.{JobState}
 use Rattle.system_model.specs.Actions
 use Rattle.system_model.specs.Actions.{Action}
 
--- **next move (`IsMove`, `turn_of`)**: an action that no user, no failure and no lack of memory does; a loss only where
+-- **next move (`IsMove`, `turn_of`)**: an action that no user, no failure and no lack of memory does; a loss only when
 -- the session is over. They are looked for in the order connect, to the daemon, to the client, connect for data, data
 -- to the client, data turn, loss.
 abbrev pub IsMove : JobState → Action → Type 0

@@ -14,8 +14,8 @@ use Rattle.system_model.specs.Actions.{Action, environment_of}
 use Rattle.system_model.specs.Marks.{Mark, Took, Started, Rested, Returned, Loaded, Removed, is_busy}
 use Rattle.system_model.specs.Transitions.{Transition, By, Loads, Unplugs, Uses}
 
--- **marks of a step (`marks`, `touched_device`)**: what a step shows of the device that it comes to: those of an
--- answer, a turn or a loss; a page laid in; listed no more; and of a client without a job those that its use shows.
+-- **marks of a step (`marks`, `touched_device`)**: what a step shows of the device that it comes to: the marks of an
+-- answer, a turn or a loss; a page laid in; listed no more; of a client without a job the marks of its use.
 --
 -- THE MARKS OF AN ANSWER
 abbrev pub rested_if : Bool → ℕ → ℕ → List Mark

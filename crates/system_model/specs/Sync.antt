@@ -240,7 +240,7 @@ pub record Images (i : ℕ) (k : Make) (b : SessionView) (m : ClientView) (dev :
   pub carries : DataUnderWay i k b dev continues.begin.options more heard rest
 
 -- **in step (`InSync`), invariant (`Invariant`)**: what is so while a job runs, for each thing that its client may wait
--- for; what is always so, of each job, of its finished pages, of each device.
+-- for. The invariant: what is always so, of each job, of its finished pages, of each device.
 --
 -- what a client that waits for this knows is so
 abbrev pub InSync : ℕ → Make → SessionView → ClientView → AbstractDevice → AbstractProgress → Type 0

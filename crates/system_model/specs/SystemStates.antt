@@ -8,9 +8,9 @@ use Rattle.system_model.specs.AbstractDevices.{AbstractDevice, Begin}
 use Rattle.system_model.specs.Daemon.{TransferState, Quiet}
 use Rattle.system_model.specs.Causes.{Cause}
 
--- **system state (`SessionView`, `JobState`, `SystemState`)**: of each place its device, of each client its job, what
+-- **system state (`SessionView`, `JobState`, `SystemState`)**: of each place its device. Of each client its job, what
 -- it knows, the requests not answered and replies not heard, its links, the challenge, the bytes of a frame on the way,
--- the starts and the causes met so far.
+-- and the starts and the causes met so far.
 --
 -- what stands of a job beside its control connection
 pub record SessionView : Type 0 where

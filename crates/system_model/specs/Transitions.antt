@@ -123,8 +123,8 @@ IsActionEnabled i k p dev Actions.RunsOutOfMemory = IsRunning p.client.stage
 IsActionEnabled i k p dev Actions.Stops = IsUnderWay p.client.stage
 
 -- **a client without a job (`HasNoJob`, `IsUsedBy`)**: it is not connected, and the device that it names is not listed.
--- It may hold devices all the same, and use them: each is one that it holds, or takes first, what it shows are that
--- client's marks, each of which may come where the device stands, and it is left fit.
+-- It may still hold devices, and use them. It holds each of them, or takes it first. They show that client's marks,
+-- each of which may come as the device stands, and the device is left fit.
 pub record HasNoJob (s : SystemState) (i : ℕ) : Type 0 where
   pub idle : (s.job i).client.stage ≡ Idle
   pub linked : (s.job i).linked ≡ false

@@ -93,8 +93,8 @@ pub fn marks_are_enabled()
 {}
 
 pub fn clients_without_jobs_leave_others()
-    /// A client without a job that uses a device leaves it listed as it was, held by nobody or by that client, with the
-    /// pages that it had but for some that came first.
+    /// A client without a job that uses a device leaves it listed as it was, held by nobody or by that client. The device keeps
+    /// the pages that it had, without some that came first.
     /// Carried by: `clients_without_jobs_leave_others`: `HasNoJob`, `IsUsedBy`, `UseLeaves`
     ensures { UsesLeave }
 {}

@@ -26,13 +26,13 @@ pub fn run_once<D: Device>(
     daemon: &mut Daemon<D>,
     job: Job,
 ) -> Option<(Reports, Vec<u8>)>
-    /// There are runs to Done: where a job of any kind but a batch is run so, the calls of daemon and client are acts
-    /// of a server and steps of a job's loop that meet all premises of `programs_keep_all`, and in which that job is
-    /// Done with these reports and that file went out.
+    /// There are runs to Done. If a job of any kind but a batch is run so, the calls of daemon and client are acts of a server
+    /// and steps of a job's loop that meet all premises of `programs_keep_all`. In them that job is Done with these reports and
+    /// that file went out.
     ensures done { IfSome result (λ told. HasOpenedNone (core D.state daemon.old)
         → IsDoneRun job (core D.state daemon.old) told.0 told.1.items) }
-    /// So all of that is kept, over devices of which a world is made; and where the job is a scan, and the pages that came
-    /// for its device are steady, that file is exactly the picture that its settings mean on the page of its start.
+    /// So all of that is kept, over devices of which a world is made. If the job is a scan, and the pages that came for its
+    /// device are steady, that file is exactly the picture that its settings mean on the page of its start.
     ensures kept { IfSome result (λ told. (devices : List DeviceState)
         → AreFit devices (job ∷ []) (core D.state daemon.old)
         → IsKeptRun devices job (core D.state daemon.old) told.0 told.1.items) }

@@ -39,6 +39,7 @@ use Rattle.event_world.specs.declared.event.Event.{Event}
 use Rattle.event_world.specs.JobEvents.{is_done}
 use Rattle.event_world.specs.Rounds.{RoundsRunOut, all_made}
 use Rattle.event_world.specs.Worlds.{AreNew, IsFitJob, WorldCore}
+use Rattle.netpbm.specs.NoFile.{HoldsNoFile}
 use Rattle.world_refines.specs.GhostStates.{Ghost}
 use Rattle.world_refines.specs.MainTheorem.{AreFittingLoads}
 use Rattle.world_refines.specs.NewWorlds.{IsNewDaemon, make_of}
@@ -178,13 +179,13 @@ quiet_rounds : (w v : WorldCore) (r : RoundsRunOut source_state w v) → AllByRe
 quiet_rounds w v r = quiet_moves (all_made r.rounds) w v (rounds_moves r.rounds w v r.goes)
 
 no_whole : (source : _) (xs : List JointEvent) (t : Ghost) (w v : WorldCore) (run : RunsAmong source xs w v) → KeptAmongStrangers source xs t w v run → ((outcome : Outcome) → outcome_at v 0 ≡ Some outcome → is_done outcome ≡ false) → HasNoWholeFile v
-no_whole source xs t w v run k undone file there whole = by (slice_get v.endpoints 0) refl
+no_whole source xs t w v run k undone = λ file there. by file there (slice_get v.endpoints 0) refl
   where
-    by : (o : Option Endpoint) → slice_get v.endpoints 0 ≡ o → ⊥
-    by None at = absurd (let clash : None ≡ Some file = sym (ap (option_and_then (λ (p : Endpoint). p.file)) at) ∙ there in cc)
-    by (Some endpoint) at =
+    by : (file : List ℕ) → file_answered v 0 ≡ Some file → (o : Option Endpoint) → slice_get v.endpoints 0 ≡ o → HoldsNoFile file
+    by file there None at = absurd (let clash : None ≡ Some file = sym (ap (option_and_then (λ (p : Endpoint). p.file)) at) ∙ there in cc)
+    by file there (Some endpoint) at =
         k.promises.short 0 endpoint file at (undone endpoint.client.outcome (ap (option_map (λ (p : Endpoint). p.client.outcome)) at))
-        (sym (ap (option_and_then (λ (p : Endpoint). p.file)) at) ∙ there) whole
+        (sym (ap (option_and_then (λ (p : Endpoint). p.file)) at) ∙ there)
 
 -- ---- the stranger who has the flatbed stays
 

@@ -1,7 +1,7 @@
 -- Histories of one flatbed, one job and the strangers who come, from a new world to the job's end.
 use Rattle.std.specs.Prelude.{ℕ, ◌≡◌, false, Some, List, [], ◌∷◌}
 use Rattle.md5_auth.specs.declared.users.Entry.{Entry}
-use Rattle.netpbm.specs.Pnm.{IsWhole}
+use Rattle.netpbm.specs.NoFile.{HoldsNoFile}
 use Rattle.page_picture.specs.Page.{PageView}
 use Rattle.page_sources.specs.SourceView.{source_state}
 use Rattle.sane_fixed.specs.declared.status.Status.TheVariants.{DeviceBusy}
@@ -25,10 +25,10 @@ use Rattle.scan_world.specs.Histories.{of_jobs}
 use Rattle.worked_strangers.specs.Visits.{HasVisits, of_strangers, until_gone}
 
 -- **a job among strangers (`VisitedWorld`, `IsJobAmong`, `ScannedAmong`, `UnscannedAmong`, `BusyAmong`)**: a new world
--- of this flatbed, these users and this job, in which strangers came until one had the flatbed; a history in which he
--- then was lost and a third one came and stood to the end, while the job made its next moves until it had none; that
--- the job is done there with this file, or is not, and has none that is whole; and one in which he had it to the end,
--- the job made its next moves until it had none and was answered DEVICE_BUSY, and no file is whole.
+-- of this flatbed, these users and this job, in which strangers came until one had the flatbed. In one history he was
+-- then lost, and a third one came and stood to the end, while the job made its next moves until it had none. There the
+-- job is done with this file, or it is not done and has no whole file. In the other he had the flatbed to the end, the
+-- job made its next moves until it had none and was answered DEVICE_BUSY, and no file is whole.
 pub record VisitedWorld (name : List ℕ) (page : PageView) (users : List Entry) (job : Job) : Type 0 where
   pub first : WorldCore
   pub jobs : AreNew (job ∷ []) first.endpoints
@@ -52,9 +52,9 @@ pub record IsJobAmong (name : List ℕ) (page : PageView) (users : List Entry) (
   pub runs : RunsAmong source_state (of_jobs (all_made moves.rounds)) left last
   pub third : StandsApart last 2
 
--- the file under way of the world's first job is not whole
+-- no front of the file under way of the world's first job is whole
 abbrev pub HasNoWholeFile : WorldCore → Type 0
-HasNoWholeFile w = (file : List ℕ) → file_answered w 0 ≡ Some file → IsWhole file → ⊥
+HasNoWholeFile w = (file : List ℕ) → file_answered w 0 ≡ Some file → HoldsNoFile file
 
 -- nor is that job done
 abbrev pub IsNotDone : WorldCore → Type 0

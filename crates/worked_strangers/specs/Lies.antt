@@ -15,8 +15,8 @@ use Rattle.event_world.specs.Worlds.{WorldCore}
 use Rattle.world_refines.specs.GhostStates.{Ghost, job_state}
 use Rattle.strangers.specs.Together.{JointEvent, KeptAmongStrangers, RunsAmong}
 
--- **the lie (`MeansOther`, `PictureIsNoStrangers`)**: whatever strangers do, no scan that is done has a file of another
--- picture than the one that its settings mean on the page of its first start, where its device's sources are steady.
+-- **the lie (`MeansOther`, `PictureIsNoStrangers`)**: whatever strangers do, the file of a scan that is done is of no
+-- other picture than the one that its settings mean on the page of its first start, if its device's sources are steady.
 abbrev pub MeansOther : JobState → Picture → Type 0
 MeansOther p picture = (begin : Begin) (later : List Begin) (meant : Picture) → p.session.started ≡ begin ∷ later
     → meaning_of begin.page begin.options.scene ≡ Some meant → SamePicture picture meant → ⊥

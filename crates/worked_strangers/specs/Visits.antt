@@ -26,9 +26,9 @@ says n piece fed = record { session = n; act = Feed piece fed false }
 abbrev pub is_cut_off : ℕ → StrangerAct
 is_cut_off n = record { session = n; act = Leaves 1 None }
 
--- **visits (`garbage`, `until_taken`, `until_gone`, `HasVisits`)**: one stranger says four bytes that begin no
--- request, which ends his session, and is lost; another one greets, and opens a device; later he is lost, and a third
--- one greets, and stays.
+-- **visits (`garbage`, `until_taken`, `until_gone`, `HasVisits`)**: one stranger says four bytes that begin no request,
+-- which ends his session, and is lost. Another one greets, and opens a device. Later he is lost, and a third one
+-- greets, and stays.
 --
 -- a word that no request begins with
 abbrev pub garbage : List ℕ

@@ -1,5 +1,5 @@
-//! Worked histories of a job among strangers: sessions that no job has come to a daemon, one with garbage, one that takes the job's
-//! device and is lost, one that stays; and behind what they do a job makes its moves.
+//! Worked histories of a job among strangers. Sessions that no job has come to a daemon: one with garbage, one that takes the
+//! job's device and is lost, one that stays. Behind what they do a job makes its moves.
 #![tactic(auto)]
 
 mod below;

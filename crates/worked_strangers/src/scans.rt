@@ -76,7 +76,7 @@ fn was_busy(world: &EventWorld<Scanner>) -> bool
     }
 }
 
-/// Scans on a flatbed with this page, behind strangers who came, and answers the file: one says garbage, another one takes the
+/// Scans on a flatbed with this page, behind strangers who came, and answers the file. One says garbage, another one takes the
 /// flatbed and is lost, and a third one stays to the end.
 pub fn scan_among_strangers(
     alloc: Global,
@@ -85,15 +85,15 @@ pub fn scan_among_strangers(
     users: Users,
     job: Job,
 ) -> Result<Vec<u8>, NoScan>
-    /// There is a history of a new world in which a stranger's session was fed garbage and ended, another one had the
-    /// flatbed and was lost, a third one greeted, and stood to the end; and the job is done, with this file.
+    /// There is such a history of a new world: a stranger's session was fed garbage and ended, another one had the flatbed and
+    /// was lost, a third one greeted, and stood to the end. The job is done, with this file.
     ensures scanned { IfOk result (λ file. ScannedAmong name page users job file.items) }
     /// Where it scans, that file is of the picture that its settings mean on that very page.
     ensures meant { IfOk result
         (λ file. job.task ≡ tasks.Scan → IsScanOf page job file.items) }
     /// It is refused only where no client takes it.
     ensures bad_job { result ≡ Err NoScan.BadJob → ¬ IsFitJob job }
-    /// Where the job is not done, there is such a history up to where it has no move left, and no file of it is whole.
+    /// If the job is not done, there is such a history up to where it has no move left, and no file of it is whole.
     ensures not_done { result ≡ Err NoScan.NotDone → UnscannedAmong name page users job }
 {
     what_stands_below();
@@ -137,8 +137,8 @@ pub fn is_busy_among_strangers(
     users: Users,
     job: Job,
 ) -> bool
-    /// There is a history of a new world in which a stranger has the flatbed as the job asks and to the end; the job
-    /// ended as answered DEVICE_BUSY, and no file of it is whole.
+    /// There is a history of a new world in which a stranger has the flatbed as the job asks and to the end. The job ended as
+    /// answered DEVICE_BUSY, and no file of it is whole.
     ensures { result ≡ true → BusyAmong name page users job }
 {
     what_stands_below();

@@ -51,8 +51,8 @@ pub record HasAllowedOptions (context : RequestContext) : Type 0 where
       → IsAllowed s.setup
   pub held : (w : ℕ) (l : Lease DeviceState) → held_by context.session.held w ≡ Some l → IsAllowed l.device.setup
 
--- These users are asked something by the job, among devices of these infos with options within their limits, and a
--- reply to it passes a limit of the wire, or has no spelling.
+-- The job asks these users something, among devices of these infos with options within their limits, and a reply to it
+-- passes a limit of the wire, or has no spelling.
 pub record HasUnsaidReply (users : List Entry) (infos : List DeviceInfo) (job : Job) : Type 0 where
   pub context : RequestContext
   pub devices : infos ≡ map info_at context.registry
@@ -81,9 +81,10 @@ replies_kept memory replies = if memory then [] else replies
 
 -- **a delivery to the daemon (`AnswersSome`, `Completes`, `AnswersEach`, `IsCutShort`, `HasUnsaidReply`,
 -- `HasAllowedOptions`)**: the requests that are whole with the piece, the first of those that were sent, are answered
--- one after another; then the session goes on and what is left is no whole request, or the last of them ended it, or it
--- breaks off, for lack of memory or at a reply to something that its job asks, of devices whose options are within
--- their limits, which is past the limits of the wire or has no spelling; a session that was over lets the piece go by.
+-- one after another. Then the session goes on, and what is left is no whole request; or the last of them ended it; or
+-- it breaks off. It breaks off for lack of memory, or at a reply to something that its job asks, of devices whose
+-- options are within their limits, which is past the limits of the wire or has no spelling. A session that was over
+-- lets the piece go by.
 pub data AnswersSome (n : ℕ) (t : Ghost) (i : ℕ) (steps : List Transition) (u : Ghost) : Type 0 where
   GoesOn : (asked : List AbstractRequest) (rest told : List ℕ) → Completes t i n asked rest
       → NeedsMore message_limit request_format rest → AnswersEach i asked steps →

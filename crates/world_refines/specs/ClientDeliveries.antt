@@ -114,9 +114,9 @@ pub record Ignores (t : Ghost) (i n : ℕ) (steps : List Transition) (u : Ghost)
   pub takes : GhostTakes t i steps (wires_after_delivery (job_state t i).served n (wires t i).telling [] (wires t i)) u
 
 -- **a delivery to the client (`GhostHears`, `Ignores`, `ReplyWaits`, `GhostHeard`, `GhostOutOfMemory`,
--- `GhostHeardOutOfMemory`)**: bytes of the reply that is due are moved to the client: while more of it is on the way
--- they wait there; with the last of them the client hears it, and its next requests are on the way; or there is no
--- memory, and the job ends; a job that is over lets them go by; with a session that is over its last replies leave
+-- `GhostHeardOutOfMemory`)**: bytes of the reply that is due are moved to the client. While more of it is on the way
+-- they wait there. With the last of them the client hears it, and its next requests are on the way; or there is no
+-- memory, and the job ends. A job that is over lets them go by. With a session that is over its last replies leave
 -- nothing. More of the file may be given with it.
 abbrev pub GhostHears : ℕ → Ghost → ℕ → List Transition → Ghost → Type 0
 GhostHears n t i steps u = Ignores t i n steps u

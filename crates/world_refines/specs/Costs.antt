@@ -23,8 +23,8 @@ counted_at Done x = bytes_undelivered x
 counted_at (Ended status why) x = bytes_undelivered x
 
 -- **what is still to come (`cost`, `bytes_undelivered`, `Pays`)**: the moves of a job by the model, and one for each
--- byte of its connections that is not delivered, which are counted from its connection on; a job that is under way may
--- still take as many.
+-- byte of its connections that is not delivered, counted from its connection on. A job that is under way may still take
+-- as many.
 abbrev pub cost : Ghost → ℕ → ℕ
 cost t i = control_variant t.system i + counted_at (job_state t i).client.stage (wires t i)
 

@@ -77,9 +77,8 @@ wires_after_data n text sent ending x =
     record x { up = x.up ++ sent; image = open_still ending (bytes_not_delivered n text) }
 
 -- **a delivery of a frame's data (`GhostSees`, `GhostReadsOn`, `ReadsBytes`, `GhostReadsEnd`, `ReadsShort`)**: just the
--- bytes that the piece's records carry are read; behind the frame's end what the job asks for then is on the way; or
--- there is no memory behind a front of them. Behind its end the data connection is no more. From a job that is over the
--- piece is only taken.
+-- bytes of the piece's records are read. Behind the frame's end the job's next requests are on the way, and the data
+-- connection is gone. Or there is no memory behind a front of them. From a job that is over the piece is only taken.
 --
 -- A job that is under way reads the piece; from any other it is only taken. What the joins were told and gave goes on
 -- by that.

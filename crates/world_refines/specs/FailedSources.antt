@@ -1,5 +1,5 @@
--- What fails in an event: a source, when the device that a job's session held is stopped behind it, and its source has
--- counted that; or the saying of a reply, when the session answers a request with one that passes a limit of the wire.
+-- What fails in an event: a source, if the device that a job's session held is stopped behind it and its source has
+-- counted that; or the saying of a reply, if the session answers a request with one that passes a limit of the wire.
 use Rattle.std.specs.Prelude.{ℕ, ◌≡◌, ◌⊎◌, ◌++◌, Any, Bool, true, false, Some, List, [], ◌∷◌, slice_get}
 use Rattle.page_picture.specs.Source.{SourceState}
 use Rattle.page_sources.specs.declared.kinds.Source.{Source}
@@ -35,10 +35,10 @@ pub record HoldsLease (core : Core) (n word : ℕ) (lease : Lease DeviceState) :
   pub held : held_by session.held word ≡ Some lease
 
 -- **failed in (`FailedIn`, `HoldsLease`, `IsInSome`, `HasFailed`, `AllAlong`, `FailsSo`, `FailsIn`, `FailsInSome`,
--- `InEvent`)**: the session of a job held the device of a name in a world, its page's source failed and counted that,
--- and in the daemon behind the event it holds the device stopped, or the device lies so in its place; that is so of one
--- of some events, of the world in front of it and the daemon behind; along steps, each of the state that it is taken
--- in; of a turn that fails by the model, and of a START, where its job is under way.
+-- `InEvent`)**: the session of a job held the device of a name in a world, and its page's source failed and counted
+-- that. In the daemon behind the event it holds the device stopped, or the device lies so in its place. That is so of
+-- one of some events, of the world in front of it and the daemon behind; along steps, each of the state that it is
+-- taken in; of a turn that fails by the model, and of a START, while its job is under way.
 pub record FailedIn (before : WorldCore) (behind : Core) (i : ℕ) (name : List ℕ) : Type 0 where
   pub endpoint : Endpoint
   pub is_there : slice_get before.endpoints i ≡ Some endpoint
@@ -55,7 +55,7 @@ pub record FailedIn (before : WorldCore) (behind : Core) (i : ℕ) (name : List 
       ⊎ IsIn (after_cancel after) lease.place behind.registry
 
 -- **cut in (`CutIn`)**: the session of a job, of the users, the devices and itself as they stand in a world, answers
--- the request that its client wrote and waits for, and a reply to it passes a limit of the wire, or has no spelling.
+-- the request that its client wrote and waits for. A reply to it passes a limit of the wire, or has no spelling.
 pub record CutIn (before : WorldCore) (i : ℕ) (job : Job) : Type 0 where
   pub endpoint : Endpoint
   pub is_there : slice_get before.endpoints i ≡ Some endpoint
@@ -99,7 +99,7 @@ abbrev pub AllAlong : (SystemState → Transition → Type 0) → SystemState �
 AllAlong Holds s [] = Unit {0}
 AllAlong Holds s (x ∷ xs) = Holds s x × AllAlong Holds (after_transition s x) xs
 
--- where a source of a job's device fails by the model, of a job that is under way, that is so of the job; and where its
+-- if a source of a job's device fails by the model, while the job is under way, that is so of the job; and so if its
 -- session breaks off at a reply
 abbrev pub FailsSo : (Bool → ℕ → Type 0) → SystemState → Transition → Type 0
 FailsSo Failed s (By i (Answers challenge (Some fault))) = IsUnderWay (s.job i).client.stage → Failed true i

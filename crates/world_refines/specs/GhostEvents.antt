@@ -34,8 +34,8 @@ HasSomeBytes None = ⊥
 HasSomeBytes (Some bytes) = bytes ≢ []
 
 -- **can, takes, leads (`GhostCan`, `GhostTakes`, `EventRefines`)**: when an event can happen, in the words of the
--- model; its steps, which are enabled, and the bytes that it moves; whatever a world stands for, what the event makes
--- of it stands for what these steps lead to.
+-- model; its steps, which are enabled, and the bytes that it moves. Whatever a world stands for, the event makes of it
+-- a world that stands for what these steps lead to.
 abbrev pub GhostCan : Ghost → ℕ → JobEvent → Type 0
 GhostCan t i Connect = (i < t.count) × ((job_state t i).client.stage ≡ Idle)
 GhostCan t i (ToDaemon n) = ((job_state t i).linked ≡ true) × ((wires t i).up ≢ []) × (0 < n)

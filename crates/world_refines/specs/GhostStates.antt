@@ -16,7 +16,7 @@ use Rattle.client_refines.specs.ClientRefinement.{task_of, requested_setting}
 
 -- The bytes of a job's connections: what its client has written and was not delivered, and what came of it to the
 -- session behind its last whole request; the replies that were not delivered, and what came of them to the client
--- behind the last whole one; and what is on the way on its data connection, where that stands.
+-- behind the last whole one; and what is on the way on its data connection, if that stands.
 pub record Wires : Type 0 where
   pub up : List ℕ
   pub asking : List ℕ
@@ -84,9 +84,9 @@ is_allowed_for users user password backend None = false
 is_allowed_for users user password backend (Some challenge) = is_allowed users user password backend challenge
 
 -- **a job of the model (`abstract_job`, `place_named`, `is_guarded`, `is_allowed`)**: it wants the place of its
--- device's name, or the place behind all; its backend is guarded where a line of the users names it; it is allowed
--- where a line of its user and backend has a password of the same digest behind the challenge that is read in the
--- resource that was sent (the model calls the whole resource a challenge).
+-- device's name, or the place behind all. Its backend is guarded if a line of the users names it. It is allowed if a
+-- line of its user and backend has a password of the same digest behind the challenge that is read in the resource that
+-- was sent (the model calls the whole resource a challenge).
 abbrev pub abstract_job : List Entry → List DeviceInfo → Job → model.AbstractJob
 abstract_job users infos job =
     record {

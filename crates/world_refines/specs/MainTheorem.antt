@@ -3,7 +3,7 @@ use Rattle.std.specs.Prelude.{ℕ, ◌≡◌, ◌≢◌, ◌≤◌, ◌<◌, ◌
 use Rattle.std.specs.Prelude.{map, slice_get, ◌⊎◌}
 use Rattle.sane_fixed.specs.declared.status.Status.{Status}
 use Rattle.sane_fixed.specs.declared.status.Status.TheVariants.{Good, Eof}
-use Rattle.netpbm.specs.Pnm.{IsWhole}
+use Rattle.netpbm.specs.NoFile.{HoldsNoFile}
 use Rattle.page_picture.specs.Source.{SourceState}
 use Rattle.page_sources.specs.declared.kinds.Source.{Source}
 use Rattle.device_api.specs.ScannerLimits.{HasLimits, IsHeldPage}
@@ -45,10 +45,10 @@ use Rattle.world_refines.specs.NewWorlds.{make_of}
 use Rattle.world_refines.specs.WorldPromises.{FileIsOfFirstStart, HasScannedPage, PagesAreCounted, IsOutcome}
 use Rattle.system_model.specs.Causes.{IsCauseAmong, WasUnsaid}
 
--- **events one after another (`GhostComes`, `GhostComesAll`, `EventsFollow`)**: each takes its steps of the model where
--- it can happen, and changes nothing where it cannot, on what those before it left; a page that is laid in is within
--- its limits. Their transitions are a history, its marks are enabled at each device, and what fails in them failed in
--- one of the events.
+-- **events one after another (`GhostComes`, `GhostComesAll`, `EventsFollow`)**: each takes its steps of the model if it
+-- can happen, and else changes nothing, on what those before it left. A page that is laid in is within its limits.
+-- Their transitions are a history, its marks are enabled at each device, and what fails in them failed in one of the
+-- events.
 abbrev pub GhostComes : (Source → SourceState) → Event → Ghost → List Transition → Ghost → Type 0
 GhostComes source (Connect i) t steps u =
     GhostHappens (GhostCan t i actions.Connect) (GhostConnects t i steps u) t steps u
@@ -95,9 +95,9 @@ abbrev pub AreFittingLoads : (Source → SourceState) → List DeviceInfo → (�
 AreFittingLoads source infos make [] = Unit {0}
 AreFittingLoads source infos make (e ∷ es) = IsFittingLoad source infos make e × AreFittingLoads source infos make es
 
--- Whatever a world stands for, what events make of it stands for what they do to that. Their steps are enabled, and so
--- are their marks at each device: two clients never hold one, a start takes the page that is next, and no page is laid
--- in within a scan.
+-- Whatever a world stands for, events make of it a world that stands for what they do to that. Their steps are enabled,
+-- and so are their marks at each device: two clients never hold one, a start takes the page that is next, and no page
+-- is laid in within a scan.
 pub record RunRefines (source : Source → SourceState) (events : List Event) (t : Ghost) (w v : WorldCore) : Type 0 where
   pub ghost_then : Ghost
   pub steps : List Transition
@@ -123,22 +123,22 @@ EventsFollow = (source : Source → SourceState) (events : List Event) (t : Ghos
 
 -- ---- the headline
 
--- **kept (`Promises`, `AllIsKept`)**: the headline: from a new world on, behind any events, what they did is such that
--- each outcome is right, and no refusal has the status GOOD or EOF; each file of a scan that is done and of a finished
--- page is meant, that of a job that is not done is never whole, and a file is none only where the job is told as out of
--- memory; and no job that is not over runs out of moves.
+-- **kept (`Promises`, `AllIsKept`)**: the headline, from a new world on, behind any events. Each outcome is right, and
+-- no refusal has the status GOOD or EOF. Each file of a scan that is done and of a finished page is meant, no front of
+-- that of a job that is not done is whole, and a file is missing only if the job is told as out of memory. A job that
+-- runs out of moves is over.
 --
--- Of each job: its outcome is the model's, and one that is refused names a status; the file of a scan that is done and
--- those of a batch's finished pages denote what the job's settings mean on the pages of its starts, the file of a job
--- that is not done is never whole, and a file is none only where the job is told as out of memory; a batch has its
--- pages, and a job that runs has a next move.
+-- Of each job: its outcome is the model's, and one that is refused names a status. The file of a scan that is done and
+-- those of a batch's finished pages denote what the job's settings mean on the pages of its starts. No front of the
+-- file of a job that is not done is whole, and a file is missing only if the job is told as out of memory. A batch has
+-- its pages, and a job that runs has a next move.
 pub record Promises (u : Ghost) (v : WorldCore) : Type 0 where
   pub outcomes : (i : ℕ) (endpoint : Endpoint) → slice_get v.endpoints i ≡ Some endpoint
       → IsOutcome u i endpoint.client.outcome
   pub statuses : (i : ℕ) (endpoint : Endpoint) (status : Status) (why : Why) → slice_get v.endpoints i ≡ Some endpoint
       → endpoint.client.outcome ≡ Ended status why → (status ≢ Good) × (status ≢ Eof)
   pub short : (i : ℕ) (endpoint : Endpoint) (file : List ℕ) → slice_get v.endpoints i ≡ Some endpoint
-      → is_done endpoint.client.outcome ≡ false → endpoint.file ≡ Some file → IsWhole file → ⊥
+      → is_done endpoint.client.outcome ≡ false → endpoint.file ≡ Some file → HoldsNoFile file
   pub starved : (i : ℕ) (endpoint : Endpoint) → slice_get v.endpoints i ≡ Some endpoint → endpoint.file ≡ None
       → endpoint.out_of_memory ≡ true
   -- page k of the finished ones, from 1
@@ -169,7 +169,7 @@ pub record Promises (u : Ghost) (v : WorldCore) : Type 0 where
       → k < endpoint.finished → slice_get endpoint.pages k ≡ Some (Some file) → HasScannedPage u i k file
 
 -- From a new world on it is so behind any events, in whatever order they come and in whatever pieces bytes are
--- delivered: what they did to nothing told is such that all is kept.
+-- delivered: all is kept of what they made of a world in which nothing had happened.
 pub record PromisesAreKept (source : Source → SourceState) (events : List Event) (t : Ghost)
     (w v : WorldCore) : Type 0 where
   pub run : RunRefines source events t w v

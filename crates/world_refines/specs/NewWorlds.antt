@@ -34,7 +34,7 @@ pub record PageSources : Type 0 where
   pub fallible : Bool
   pub steady : Bool
 
--- what never changes of a device, with that; where there is none it matters to nobody
+-- what never changes of a device, with that; a place without a device matters to nobody
 abbrev pub make_of : PageSources → Option DeviceState → Make
 make_of sources None = record { model = Feeder; order = Little; fallible = sources.fallible; steady = sources.steady }
 make_of sources (Some s) =
@@ -54,8 +54,8 @@ abbrev pub info_of_state : DeviceState → DeviceInfo
 info_of_state s = s.info
 
 -- **a new world (`initial_ghost`, `NewWorldsRefine`, `NewWorldsAreAlone`, `NewWorldsPay`)**: of each job nothing is
--- told: all clients are as at first, all devices lie in their places, no session stands, and nothing is on the way but
--- what clients have written before they are connected; and its jobs have moves enough for all that is to come.
+-- told. All clients are as at first, all devices lie in their places, no session stands, and nothing is on the way but
+-- what clients have written before they are connected. Its jobs have moves enough for all that is to come.
 --
 -- Of these jobs nothing is told yet. (The other job stands for those that there are not.)
 abbrev pub initial_ghost : (ℕ → PageSources) → List Job → Job → List DeviceState → List Entry → List Endpoint → Ghost

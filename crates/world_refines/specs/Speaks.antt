@@ -25,8 +25,8 @@ Awaits name None sent = sent ≡ None
 Awaits name (Some awaited) sent = (awaited.name ≡ name) × (sent ≡ Some awaited.resource)
 
 -- **what a session and a device have of requests (`SpeaksAs`, `Awaits`, `SetsAsHeld`)**: a session was greeted, or INIT
--- is its next request; it awaits AUTHORIZE just where it does by the model, for the job's device and with the resource
--- that was sent; a SET and a START come first among the requests on the way, and a SET is of an option as the client's
+-- is its next request. It awaits AUTHORIZE just when it does by the model, for the job's device and with the resource
+-- that was sent. A SET and a START come first among the requests on the way, and a SET is of an option as the client's
 -- device has it.
 pub record SpeaksAs (name : List ℕ) (p : JobState) (session : Session DeviceState) : Type 0 where
   pub greeted : IsGreeted session.greeted p.todo

@@ -20,11 +20,11 @@ HasNoRequest text = (front back : List ℕ) (q : Request) → text ≡ front ++ 
 abbrev pub HasNoReply : Progress → List ℕ → Type 0
 HasNoReply progress text = (front back : List ℕ) (r : Reply) → text ≡ front ++ back → IsReply progress front r → ⊥
 
--- **what pends (`Pends`, `HasNoRequest`, `HasNoReply`)**: no request stands at the front of what has come to a session,
--- no reply to what is waited for at that of what has come to a client, and a frame that is read has not ended.
+-- **what pends (`Pends`, `HasNoRequest`, `HasNoReply`)**: what has come to a session has no request at its front, and
+-- what has come to a client has no awaited reply at its front. A frame that is read has not ended.
 --
--- what came to a session is no whole request, what came to a client is no whole reply, and the frame that it reads has
--- not ended
+-- what came to a session is no whole request, and what came to a client no whole reply; the frame that it reads has not
+-- ended
 pub record Pends (outcome : Outcome) (progress : Progress) (phase : RecordPhase) (x : Wires) : Type 0 where
   pub asking : HasNoRequest x.asking
   pub telling : is_running outcome ≡ true → HasNoReply progress x.telling

@@ -87,10 +87,11 @@ pub record KeepsPromise (t : Ghost) (i : ℕ) (reports : Reports) : Type 0 where
 abbrev pub HasCause : Ghost → ℕ → Status → Why → Type 0
 HasCause t i status why = IsCaused (make_for t.system i) (job_state t i).session status why
 
--- **outcomes (`IsOutcome`, `KeepsPromise`, `HasCause`)**: a job that runs is under way; one that is done has its
--- settings put one after another from the defaults on, each reported with what its text reads as by the descriptors in
--- force then, the nearest admitted value, and INEXACT just where these differ, and was permitted, or has the devices
--- that were listed, each with its own name, vendor, model and class (`AreListed`); another ending has its cause.
+-- **outcomes (`IsOutcome`, `KeepsPromise`, `HasCause`)**: a job that runs is under way. One that is done has its
+-- settings put one after another from the defaults on. Each is reported with what its text reads as by the descriptors
+-- in force then, the nearest admitted value, and INEXACT just where these differ. It was permitted, or it has the
+-- devices that were listed, each with its own name, vendor, model and class (`AreListed`). Another ending has its
+-- cause.
 abbrev pub IsOutcome : Ghost → ℕ → Outcome → Type 0
 IsOutcome t i Running = IsUnderWay (job_state t i).client.stage
 IsOutcome t i (Done reports) = KeepsPromise t i reports
@@ -103,7 +104,7 @@ OutcomesAreRight = (t : Ghost) (w : WorldCore) (i : ℕ) (endpoint : Endpoint) �
 -- ---- the file of a scan
 
 -- **meant (`IsMeant`, `FileIsOfFirstStart`, `HasScannedPage`)**: the file denotes the picture that the settings in
--- force mean on the page of a start: the first one of a scan, that of its number for a page of a batch.
+-- force mean on the page of a start: the first one of a scan, and for a page of a batch the one of its number.
 pub record IsMeant (make : Make) (settings : List (List ℕ × List ℕ)) (begin : Begin) (file : List ℕ) : Type 0 where
   pub picture : Picture
   pub in_force : option_map (λ r. r.0) (devices.in_force make.model make.order settings) ≡ Some begin.options
@@ -138,9 +139,9 @@ PagesAreMeant =
 -- ---- a batch
 
 -- **counted, stuck, losses (`PagesAreCounted`, `NobodyIsStuck`, `LossesAreExplained`)**: a batch that is done has
--- finished as many pages as it wanted, or fewer and at least one, and the tray ran out; a job has a next move just
--- where it runs, and it is the loss of its control connection only where memory ran out or its session broke off at a
--- reply past the limits of the wire.
+-- finished as many pages as it wanted; or fewer and at least one, and the tray ran out. A job has a next move just
+-- while it runs. That is the loss of its control connection only if memory ran out or its session broke off at a reply
+-- past the limits of the wire.
 abbrev pub PagesAreCounted : Ghost → ℕ → ℕ → Endpoint → Type 0
 PagesAreCounted t i count endpoint = (endpoint.finished ≡ count)
     ⊎ ((0 < endpoint.finished) × (endpoint.finished < count) × IsCauseAmong TrayRanOut (job_state t i).session.met)
@@ -161,8 +162,8 @@ NobodyIsStuck =
     → (is_running endpoint.client.outcome ≡ true → IsSome event)
     × (is_running endpoint.client.outcome ≡ false → event ≡ None)
 
--- A next move is the loss of a control connection only where the job is told as out of memory, or where it is under way
--- and its session was over at a reply that could not be said.
+-- A next move is the loss of a control connection only if the job is told as out of memory, or if it is under way and
+-- its session was over at a reply that could not be said.
 abbrev pub LossesAreExplained : Type 0
 LossesAreExplained =
     (t : Ghost) (w : WorldCore) (i : ℕ) (endpoint : Endpoint) → WorldRefines t w
@@ -172,8 +173,8 @@ LossesAreExplained =
 
 -- ---- the size of string values
 
--- A client reads the same value from a reply, as its text and a NUL or filled up to any size: in place of the one it
--- asked for, and of an option that it asks for.
+-- A client reads the same value from a reply, as its text and a NUL or filled up to any size: in place of the value
+-- that it asked for, and of an option that it asks for.
 abbrev pub ValuesAreReadAlike : Type 0
 ValuesAreReadAlike =
     (strings : StringSize) (size : ℕ) (value : Value)

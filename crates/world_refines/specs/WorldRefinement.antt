@@ -275,9 +275,9 @@ IsNobodys w n =
 abbrev pub stranger_of : WorldCore → ℕ → ℕ
 stranger_of w n = length w.endpoints + n
 
--- **sessions of strangers (`StrangerStands`, `IsNobodys`, `stranger_of`)**: each session that no endpoint has is by
--- the model that of a client behind all jobs, any session, with up to four devices; and for a number that has none,
--- or that an endpoint has, such a client holds nothing.
+-- **sessions of strangers (`StrangerStands`, `IsNobodys`, `stranger_of`)**: each session that no endpoint has is by the
+-- model that of a client behind all jobs: any session, with up to four devices. A client of a number that has no
+-- session, or whose session an endpoint has, holds nothing.
 pub record StrangerStands (t : Ghost) (w : WorldCore) (n : ℕ) : Type 0 where
   -- he has a session, any one, with up to four devices
   pub sits : (session : Session DeviceState) → session_of w.daemon n ≡ Some session → IsNobodys w n
@@ -298,12 +298,12 @@ AreStartedViews make p = (make p.session.job.wants).steady ≡ true
     → AllByRecursion (λ (b : Begin). IsPageView b.page) p.session.started
 
 -- **refines (`WorldRefines`, `EndpointRefines`, `EndpointClientRefines`, `WiresMatch`, `Means`, `IsServed`)**: each
--- job's endpoint is what stands of the job: its client reads as the client view of the model, its files are those of
--- its joins, the bytes are those on its connections and mean what the model has on the way, and its session, if it goes
--- on, is that of the model and speaks as they do; a frame that streams or is to be ended has no end yet; no two slots
--- are for one session, no two endpoints have one, and a session that no endpoint has is a stranger's; the devices'
--- sources are steady and their pages page views; the places that were shown to a list are those of devices
--- (`AreListedBelow`); and what stands by the model is sound.
+-- job's endpoint is what stands of the job. Its client reads as the client view of the model, and its files are those
+-- of its joins. The bytes are those on its connections, and mean what the model has on the way. Its session, if it goes
+-- on, is that of the model, and speaks as they do. A frame that streams or is to be ended has no end yet. No two slots
+-- are for one session, no two endpoints have one, and a session that no endpoint has is a stranger's. The devices'
+-- sources are steady and their pages page views. The places that were shown to a list are those of devices
+-- (`AreListedBelow`). What stands by the model is sound.
 pub record WorldRefines (t : Ghost) (w : WorldCore) : Type 0 where
   pub sound : Invariant t.system
   pub asks : (i : ℕ) → AsksAsHeld t.system i

@@ -23,18 +23,18 @@ pub fn a_data_connection_refines()
     ensures { EventRefines DataConnect Dials }
 {}
 
-/// Some of a job's requests are delivered to the daemon: each that is whole with them is answered, one after another, and the session
-/// goes on; or one of them ends it; or it breaks off, for lack of memory or at a reply past the limits of the wire.
+/// Some of a job's requests are delivered to the daemon. Each that is whole with them is answered, one after another, and the
+/// session goes on; or one of them ends it; or it breaks off, for lack of memory or at a reply past the limits of the wire.
 #[tactic(none)]
 pub fn a_delivery_to_the_daemon_refines()
-    /// So is a delivery of requests: those that become whole are answered in order, each as the model answers; then
-    /// the session goes on, is over, or breaks off: for want of memory, or at a reply past the limits of the wire.
+    /// So is a delivery of requests. Those that become whole are answered in order, each as the model answers. Then the session
+    /// goes on, is over, or breaks off: for want of memory, or at a reply past the limits of the wire.
     /// Carried by: `a_delivery_to_the_daemon_refines`: `IsCutShort`
     ensures { (n : ℕ) → EventRefines (ToDaemon n) (AnswersSome n) }
 {}
 
-/// Some of the daemon's replies are delivered: what came of the reply that is due waits until it is whole, and then the client hears
-/// it; or there is no memory for it, and the job ends. A job that is over lets them go by.
+/// Some of the daemon's replies are delivered. What came of the reply that is due waits until it is whole, and then the client
+/// hears it; or there is no memory for it, and the job ends. A job that is over lets them go by.
 #[tactic(none)]
 pub fn a_delivery_to_the_client_refines()
     /// So is a delivery of replies, a part of the reply that is due or the rest of it, which the client hears.
@@ -48,8 +48,8 @@ pub fn a_turn_refines()
     ensures { EventRefines DataTurn GhostTurns }
 {}
 
-/// Bytes of a frame's data come to the client of its job: one that is under way reads them, and the end behind them; what it asks for
-/// then goes out; and the file of a page that is whole is laid by.
+/// Bytes of a frame's data come to the client of its job. One that is under way reads them, and the end behind them. What it asks
+/// for then goes out, and the file of a page that is whole is laid by.
 #[tactic(none)]
 pub fn a_data_delivery_refines()
     /// So is a delivery of a frame's data: just the bytes that its records carry are read, and its end; the file of a

@@ -16,21 +16,21 @@ pub fn a_run_refines()
     /// Where each session is an endpoint's, it is so behind them: no event of a job brings a stranger.
     /// Carried by: `a_run_refines`: `alone` of `RunRefines`
     ///
-    /// Where a page source fails in them by the model, it failed in one of the events and counted that: the job's
-    /// session held the device in the world in front of it, and in the daemon behind it holds it stopped, or has
-    /// given it back so; at a START, of a job under way.
+    /// If a page source fails in them by the model, it failed in one of the events and counted that. The job's session held the
+    /// device in the world in front of it. In the daemon behind it, the session holds it stopped, or has given it back so; at a
+    /// START, of a job under way.
     /// Carried by: `a_run_refines`: `failures` of `RunRefines`
     ///
-    /// Where a session breaks off at a reply, of such a job, it answered in one of the events, as it stood in the world in
-    /// front, with one that cannot be said.
+    /// If a session breaks off at a reply, of such a job, it answered in one of the events, as it stood in the world in front,
+    /// with one that cannot be said.
     /// Carried by: `a_run_refines`: `failures` of `RunRefines`
     ensures { EventsFollow }
 {}
 
-/// THE HEADLINE. From a new world on, whatever happens, in whatever order the events of all jobs come and in whatever pieces bytes
-/// are delivered: a scan that is done has a file that denotes exactly the picture that its settings mean on the page of its first
-/// start; each finished page of a batch likewise; settings were reported as the definitions have them; a job that ends otherwise has
-/// its cause; and no job runs out of moves before it is over.
+/// THE HEADLINE. From a new world on, whatever happens, in whatever order the events of all jobs come and in whatever pieces
+/// bytes are delivered: the file of a scan that is done denotes exactly the picture that its settings mean on the page of its
+/// first start; each finished page of a batch likewise; settings were reported as the definitions have them; a job that ends
+/// otherwise has its cause; and a job has moves until it is over.
 #[tactic(none)]
 pub fn all_is_kept()
     /// The moves that `World::moves_left` counts suffice: it is 0 only where the job is over, and a job that rests
@@ -44,8 +44,8 @@ pub fn all_is_kept()
     /// true of devices and events.
     /// Carried by: `all_is_kept`: `HaveSourcesAt`, `AreFittingLoads`
     ///
-    /// There a job that ends otherwise has a status that is neither GOOD nor EOF, its file under way is never whole,
-    /// nor is that of a job that runs, and a file is none only where the job is told as out of memory.
+    /// There a job that ends otherwise has a status other than GOOD and EOF. No front of its file under way is whole, nor
+    /// of that of a job that runs. A file is missing only if the job is told as out of memory.
     /// Carried by: `all_is_kept`: `statuses`, `short`, `starved` of `Promises`
     ensures { AllIsKept }
 {}

@@ -46,8 +46,8 @@ pub fn nobody_is_stuck()
     ensures { NobodyIsStuck }
 {}
 
-/// The next move of a job that runs is the loss of its control connection only where the daemon ended its session for lack of memory,
-/// or at a reply past the limits of the wire.
+/// The next move of a job that runs is the loss of its control connection only if the daemon ended its session for lack of
+/// memory, or at a reply past the limits of the wire.
 #[tactic(none)]
 pub fn losses_are_explained()
     /// It is the loss of its control connection only where memory ran out, or where its session broke off at a reply
@@ -58,8 +58,8 @@ pub fn losses_are_explained()
 
 #[tactic(none)]
 pub fn values_are_read_alike()
-    /// A client reads the same value from a reply, whether its daemon sends string values as their text or as long as
-    /// their option; what is proved of a world holds with either.
+    /// A client reads the same value from a reply, whether its daemon sends string values as their text or as long as their
+    /// option. What is proved of a world holds with either.
     /// Carried by: `values_are_read_alike`, `all_is_kept`
     ensures { ValuesAreReadAlike }
 {}

@@ -1,5 +1,5 @@
-use Rattle.frame_join.proofs.EndSteps.{whole_not}
+use Rattle.frame_join.proofs.EndSteps.{holds_no_file}
 use Rattle.frame_join.proofs.laws.not_whole_before.Goals as goal
 
 pub returns : goal.returns
-returns c = whole_not
+returns c = holds_no_file

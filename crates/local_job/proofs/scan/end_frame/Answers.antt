@@ -1,6 +1,7 @@
 use Rattle.std.proofs.Common.{◌≡◌, ◌∙◌, sym, subst, Ok, Err}
 use Rattle.frame_join.specs.FrameHistory.{JoinHistory, after_end, answer_of_end}
 use Rattle.frame_join.specs.JoinStates.{Represents}
+use Rattle.local_job.proofs.Drains.{stopped_at_end}
 use Rattle.local_job.proofs.JoinedPasses.{ended, ended_well, end_cause}
 use Rattle.local_job.proofs.OutputEnds.{join_spares}
 use Rattle.local_job.proofs.scan.end_frame.Goals as goal
@@ -24,6 +25,11 @@ returns-else-drain-clause-short g c = λ first past frame inside.
     let well = ended_well past frame c.in-Ok.is_whole inside.no_fault inside.under answer in
     let stood : Represents (ended past frame) c.end.new.self = subst (λ (q : JoinHistory). Represents q c.end.new.self) well.1 (c.end.ensures.carried past inside.stands) in
     c.drain.ensures.short c.if-drain.false first (ended past frame) stood inside.no_fault inside.taken
+
+pub returns-in-Err-clause-short : goal.returns-in-Err-clause-short
+returns-in-Err-clause-short g c = λ first past frame inside.
+    let answer : answer_of_end (after_end past) ≡ Err c.in-Err.fault = sym (c.end.ensures.answer past inside.stands) ∙ c.in-Err.is in
+    stopped_at_end first _ past _ c.in-Err.fault c.not_whole_before.ensures (c.end.ensures.carried past inside.stands) answer inside.taken
 
 pub returns-in-Err-clause-cause : goal.returns-in-Err-clause-cause
 returns-in-Err-clause-cause g c = λ first past frame inside.

@@ -6,6 +6,9 @@ use Rattle.frame_join.proofs.pixel_join.PixelJoin.has_given_all.Goals as goal
 pub returns-in_default-clause-whole : goal.returns-in_default-clause-whole
 returns-in_default-clause-whole c = λ past stands. never_whole past c.args.self.now stands (search rules)
 
+pub returns-in_default-2-clause-whole : goal.returns-in_default-2-clause-whole
+returns-in_default-2-clause-whole c = λ past stands. never_whole past c.args.self.now stands (search rules)
+
 pub returns-clause-exact : goal.returns-clause-exact
 returns-clause-exact c = λ past stands.
     let whole : answer_at c.args.self.now.stage ≡ Ok true = search rules in

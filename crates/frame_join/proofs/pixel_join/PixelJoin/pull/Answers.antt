@@ -1,10 +1,23 @@
-use Rattle.std.proofs.Common.{ℕ, ◌≡◌, ◌∙◌, arith, rules, sym, subst, take, false}
-use Rattle.frame_join.specs.FrameHistory.{after_pull}
+use Rattle.std.proofs.Common.{ℕ, List, [], ◌≡◌, ◌∙◌, ◌++◌, arith, rules, refl, sym, ap, subst, take, false}
+use Rattle.std.proofs.lemmas.List.{append-nil}
+use Rattle.frame_join.specs.FrameHistory.{JoinHistory, after_pull}
 use Rattle.frame_join.specs.PixelJoinStates.{PixelRepresents, IsPixelDrained}
 use Rattle.frame_join.specs.Inside.{may_go}
 use Rattle.frame_join.proofs.PullLaws.{run_on, went_on, spent, drained}
 use Rattle.frame_join.proofs.EndLaws.{gone_file, joined_no_fault, not_whole}
 use Rattle.frame_join.proofs.pixel_join.PixelJoin.pull.Goals as goal
+
+pub loop-at-init : goal.loop-at-init
+loop-at-init c = record {
+  within = omega arith;
+  size = refl;
+  carried = λ past stands.
+      let same : after_pull [] past ≡ past = ap (λ (l : List ℕ). record past { given = l }) (append-nil past.given) in
+      subst (λ (q : JoinHistory). PixelRepresents q c.args.self.now) (sym same) stands;
+  rest = refl;
+  first = λ _. refl;
+  went = λ no. absurd (omega (arith, no));
+}
 
 pub returns-then-end-at-clause-gone : goal.returns-then-end-at-clause-gone
 returns-then-end-at-clause-gone c = λ past stands fault none some.

@@ -1,6 +1,7 @@
 use Rattle.std.proofs.Common.{◌≡◌, ◌∙◌, ℕ, List, rules, true, false, sym, subst, take, arith}
 use Rattle.std.proofs.lemmas.List.{append-nil, length-take}
 use Rattle.netpbm.specs.Pnm.{IsWhole}
+use Rattle.frame_join.proofs.GivenKept.{holds_not_whole}
 use Rattle.frame_join.specs.FrameHistory.{JoinHistory}
 use Rattle.client_replies.specs.ProtocolStates.{is_ended, turns}
 use Rattle.net_client.specs.ClientStates.{ClientRepresents}
@@ -14,7 +15,7 @@ returns-then-is_ended-clause-taken c = λ past serves.
       carried = λ off. subst (λ (q : JoinHistory). ClientRepresents q c.args.self.now) (sym (pulled_none past)) serves;
       page = λ on. absurd (ended_turns_none c.args.self.now.outcome c.args.self.now.progress over on);
       denotes = λ alive. absurd (let clash : true ≡ false = sym over ∙ alive in cc);
-      whole = λ unjoined whole. c.not_whole_before.ensures past _ serves.stands unjoined (subst (λ (l : List ℕ). IsWhole l) (append-nil past.given) whole);
+      whole = λ unjoined whole. holds_not_whole past.given (c.not_whole_before.ensures past _ serves.stands (λ joined. absurd (unjoined joined))) (subst (λ (l : List ℕ). IsWhole l) (append-nil past.given) whole);
     }
 
 pub returns-then-is_turning-clause-taken : goal.returns-then-is_turning-clause-taken
