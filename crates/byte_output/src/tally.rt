@@ -1,8 +1,8 @@
 //! The calls on outputs, and what they came to.
 //!
-//! No clause of `Write` tells that a write failed, and none of `Shelf` that an output was refused, where the shelf tells
-//! nothing of itself. So the methods below, of which each makes one call and notes its result, are the only ones that a job
-//! calls an output by; that it ends for its output is bound to these notes by the contracts above.
+//! The clauses of `Write` do not tell that a write failed. Those of `Shelf` do not tell that an output was refused, unless the
+//! shelf tells of itself. So a job calls its outputs by the methods below alone. Each makes one call and notes its result. The
+//! contracts above bind a job that ends for its output to these notes.
 ghost use Rattle.std.specs.Prelude.{◌≡◌, ◌<◌, ◌+◌, ◌^◌, ◌||◌, not, true, false, length, IfOk};
 ghost use Rattle.std.specs.Result.{is_err};
 ghost use Rattle.std.specs.Io.{WritesAtMost};
@@ -66,9 +66,9 @@ impl OutputTally {
         // As the one call.
         ensures bound { WritesAtMost result bytes.now }
         ensures bytes { WriteAppends (W.contents to.old) (W.contents to.new) result bytes.now }
-        /// That an output failed is noted only by the call that did: a write that gave an error other than an
-        /// interruption or took nothing, one that was interrupted where none may be made again any more, a shelf that
-        /// gave no output, or one that refused an output.
+        /// Only the call that failed notes a failed output. That is a write that took nothing or gave an error other than an
+        /// interruption, an interrupted write that may not be made again, a shelf that gave no output, or a shelf that refused
+        /// one.
         /// Carried by: `told` of `write`, of `open`, of `close`; `failed` of `take_again`
         ensures told { self.new ≡ record self.old {
           failed = fails_to_write result || self.old.failed;

@@ -1,2 +1,4 @@
 pub mod PageLists
+pub mod CallLists
+pub mod NoScanners
 mod LimitedReads

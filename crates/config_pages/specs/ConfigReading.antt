@@ -1,22 +1,21 @@
 -- The text of a config that is read.
-use Rattle.std.specs.Prelude.{ℕ, ⊤, Option, None, IfSome, List, Result, Ok, Err, take}
-use Rattle.dispatch.specs.ConfigLines.{HasConfigFault}
+use Rattle.std.specs.Prelude.{ℕ, ⊤, Option, None, Some, List}
+use Rattle.dispatch.specs.ConfigLines.{HasConfigFault, TellsConfig}
+use Rattle.dispatch.specs.declared.config_line.ConfigLine.{ConfigLine}
 use Rattle.config_pages.specs.declared.config_reading.ConfigFailure.{ConfigFailure}
 use Rattle.config_pages.specs.declared.config_reading.ConfigFailure.TheVariants.{Unread, NoMem, Refused}
 
--- what is left in a reader that was opened, where it tells
-abbrev pub remaining_of : {R E : Type 0} → (R → Option (List ℕ)) → Result R E → Option (List ℕ)
-remaining_of remaining (Ok reader) = remaining reader
-remaining_of remaining (Err fault) = None
+-- the lines are all that the text tells of which was read
+abbrev pub AreReadLines : Option (List ℕ) → List ConfigLine → Type 0
+AreReadLines None lines = ⊥
+AreReadLines (Some text) lines = TellsConfig text lines
 
--- **a config that is refused (`RefusesConfig`, `IsUnreadConfig`)**: its text, where it is told, has the fault of its
--- first bad line; one that is not read has no bad line: it cannot be opened or read, or memory ran out.
+-- **a config that is refused (`RefusesConfig`)**: the text that was read of it has the fault of its first bad line. Or
+-- none was read: it cannot be opened or read, or memory ran out.
 abbrev pub RefusesConfig : Option (List ℕ) → ConfigFailure → Type 0
-RefusesConfig told Unread = ⊤
-RefusesConfig told NoMem = ⊤
-RefusesConfig told (Refused fault) = IfSome told (λ all. HasConfigFault (take 4194433 all) fault.line fault.reason)
-
-abbrev pub IsUnreadConfig : ConfigFailure → Type 0
-IsUnreadConfig Unread = ⊤
-IsUnreadConfig NoMem = ⊤
-IsUnreadConfig (Refused fault) = ⊥
+RefusesConfig None Unread = ⊤
+RefusesConfig None NoMem = ⊤
+RefusesConfig None (Refused fault) = ⊥
+RefusesConfig (Some text) Unread = ⊥
+RefusesConfig (Some text) NoMem = ⊥
+RefusesConfig (Some text) (Refused fault) = HasConfigFault text fault.line fault.reason

@@ -1,11 +1,14 @@
-ghost use Rattle.std.specs.Prelude.{◌≡◌, IfErr, IfOk, Contains, map};
-ghost use Rattle.dispatch.specs.declared.config_line.ConfigLine.{ConfigLine as ALine};
-ghost use Rattle.config_pages.specs.Devices.{AreDevicesOf};
+ghost use Rattle.std.specs.Prelude.{◌≡◌, IfErr, IfOk, OnOk, map};
+ghost use Rattle.config_pages.specs.Devices.{AreDevicesOf, HasNoScanners, calls_of_lines};
+ghost use Rattle.config_pages.specs.InputTexts.{with_calls};
 ghost use Rattle.virtual_scanner.specs.Scanners.{scanner_state};
 
 use crate::devices::{DeviceFault, scanner_of};
+use crate::inputs::Inputs;
 use dispatch::ConfigLine;
 use sane_fixed::ByteOrder;
+use std::alloc::Global;
+use std::fs::File;
 use thiserror::Error;
 use virtual_scanner::Scanner;
 
@@ -28,24 +31,30 @@ fn fault_of(line: &ConfigLine, fault: DeviceFault) -> ScannerFault
 }
 
 /// The scanners of the lines of a config, in their order. A fault names a line, and why it has none.
-pub fn scanners(
-    rt: &HostRuntime,
+pub fn scanners<I: Inputs<Page = File>>(
+    alloc: Global,
+    inputs: &mut I,
     lines: &[ConfigLine],
     order: ByteOrder,
 ) -> Result<Vec<Scanner>, ScannerFault>
-    /// The scanners of a config are one of each of its lines, in their order, of the line's kind. Each is new, has the
-    /// line's name and gives samples in the order asked for; on it is the line's first page, and in a feeder's tray all
-    /// its pages in their order, each at the line's dots per inch.
+    /// The scanners of a config are one for each of its lines, in their order, of the line's kind. Each is new, has the line's
+    /// name and gives samples in the order asked for. On it is the line's first page. A feeder's tray has all its pages in their
+    /// order, each at the line's dots per inch.
     /// Carried by: `ok` of `scanners`: `AreDevicesOf`
-    ensures ok { IfOk result
-        (λ scanners. AreDevicesOf order lines.now (map scanner_state scanners.items)) }
-    /// Where there are none, the number of one of the lines is told.
-    ensures line { IfErr result
-        (λ why. (line : ALine) × Contains lines.now line × (why.line ≡ line.line)) }
+    ensures ok { IfOk result (λ scanners.
+        AreDevicesOf (I.seen inputs.old).texts order lines.now (map scanner_state scanners.items)) }
+    /// The page files of these pages are asked for, each once and in their order, and nothing else is read.
+    /// Carried by: `asked` of `scanners`: `calls_of_lines`
+    ensures asked { OnOk result
+        (I.seen inputs.new ≡ with_calls (calls_of_lines lines.now) (I.seen inputs.old)) }
+    /// If there are none, the number of a line is told, and why it has none: one of its pages is not there, or memory ran out.
+    /// Carried by: `fault` of `scanners`: `HasNoScanners`
+    ensures fault { IfErr result
+        (HasNoScanners lines.now (I.seen inputs.old) (I.seen inputs.new)) }
 {
-    let mut scanners = Vec::new(rt.alloc());
+    let mut scanners = Vec::new(alloc);
     for line in lines {
-        let scanner = match scanner_of(rt, line, order) {
+        let scanner = match scanner_of(alloc, inputs, line, order) {
             Ok(scanner) => scanner,
             Err(fault) => return Err(fault_of(line, fault)),
         };

@@ -1,28 +1,45 @@
+use crate::limited_reading::text_of;
+use page_sources::Rereadable;
+use std::alloc::Global;
 use std::fs::File;
-use std::io::{self, ErrorKind, Read, Stdin};
+use std::io::{self, ErrorKind};
 
-/// What a program reads: its standard input, and files by their paths.
+/// What a program reads: its standard input, and files by their paths, relative to the current folder.
 pub trait Inputs {
-    ghost use Rattle.std.specs.Prelude.{◌≡◌, ℕ, List, Option, None, IfOk};
+    ghost use Rattle.std.specs.Prelude.{IfOk, option_map};
+    ghost use Rattle.std.specs.Result.{is_ok, result_ok};
+    ghost use Rattle.config_pages.specs.InputTexts.{AsksPage, ReadsText, SeenInputs, TellsPageFile, page_asked, text_read, unseen_inputs};
+    ghost use Rattle.config_pages.specs.InputTexts.InputName.{StandardText, FileText};
 
-    type Reader: Read + Drop;
+    type Page: Rereadable + Drop;
 
-    // The text on standard input, where it is told.
-    ghost standard_text: { Self → Option (List ℕ) } = { λ _. None };
+    // Which texts are there, and the calls so far, as far as they are told.
+    ghost seen: { Self → SeenInputs } = { λ _. unseen_inputs };
 
-    // The text in the file of each path, where it is told.
-    ghost file_text: { Self → List ℕ → Option (List ℕ) } = { λ _ _. None };
+    /// The first bytes of the text on standard input, so many at most.
+    fn standard(&mut self, alloc: Global, most: u64) -> io::Result<Vec<u8>>
+        /// Inputs tell what is read of standard input, or of the file of a path. If they tell the text that is there, it is the
+        /// first bytes of that one.
+        /// Carried by: `standard`, `file` of `Inputs`: `ReadsText`
+        ensures { ReadsText (text_read StandardText most
+            (option_map (λ text. text.items) (result_ok result)))
+            (seen self.old) (seen self.new) };
 
-    /// Standard input, of which nothing is read yet.
-    fn standard(&self) -> Self::Reader
-        /// What is read of standard input and of the file of a path is the text there, where the inputs tell it.
-        /// Carried by: `standard`, `file` of `Inputs`
-        ensures { Self.Reader.remaining result ≡ standard_text self.now };
+    /// The first bytes of the text in the file of that path, so many at most.
+    fn file(&mut self, alloc: Global, path: &[u8], most: u64) -> io::Result<Vec<u8>>
+        ensures { ReadsText (text_read (FileText path.now) most
+            (option_map (λ text. text.items) (result_ok result)))
+            (seen self.old) (seen self.new) };
 
-    /// The file of that path, relative to the current folder.
-    fn file(&self, path: &[u8]) -> io::Result<Self::Reader>
-        ensures { IfOk result
-            (λ reader. Self.Reader.remaining reader ≡ file_text self.now path.now) };
+    /// The page file of that path.
+    fn page(&mut self, path: &[u8]) -> io::Result<Self::Page>
+        /// Which page file is asked for is told, and whether it was opened; and its reader keeps the text that is there, where the
+        /// inputs tell that.
+        /// Carried by: `asked`, `told` of `page` of `Inputs`
+        ensures asked { AsksPage (page_asked path.now (is_ok result))
+            (seen self.old) (seen self.new) }
+        ensures told { IfOk result (λ page. TellsPageFile ((seen self.old).texts.file path.now)
+            (Self.Page.is_kept page) (Self.Page.text page)) };
 }
 
 /// Those of the process, which tell nothing.
@@ -31,33 +48,26 @@ pub struct HostInputs<'a> {
     pub rt: &'a HostRuntime,
 }
 
-/// Standard input, or a file of the system.
-#[derive(Drop)]
-pub enum HostReader {
-    Standard(Stdin),
-    File(File),
-}
-
-impl Read for HostReader {
-    fn read(&mut self, buf: &mut [u8]) -> io::Result<usize> {
-        match self {
-            HostReader::Standard(stdin) => stdin.read(buf),
-            HostReader::File(file) => file.read(buf),
-        }
+/// The file of that path.
+fn opened(rt: &HostRuntime, path: &[u8]) -> io::Result<File> {
+    match std::str::from_utf8(path) {
+        Ok(path) => File::open(rt, path),
+        Err(_) => Err(io::Error::from(ErrorKind::InvalidInput)),
     }
 }
 
 impl Inputs for HostInputs<'_> {
-    type Reader = HostReader;
+    type Page = File;
 
-    fn standard(&self) -> HostReader {
-        HostReader::Standard(self.rt.stdin())
+    fn standard(&mut self, alloc: Global, most: u64) -> io::Result<Vec<u8>> {
+        text_of(alloc, self.rt.stdin(), most)
     }
 
-    fn file(&self, path: &[u8]) -> io::Result<HostReader> {
-        match std::str::from_utf8(path) {
-            Ok(path) => Ok(HostReader::File(File::open(self.rt, path)?)),
-            Err(_) => Err(io::Error::from(ErrorKind::InvalidInput)),
-        }
+    fn file(&mut self, alloc: Global, path: &[u8], most: u64) -> io::Result<Vec<u8>> {
+        text_of(alloc, opened(self.rt, path)?, most)
+    }
+
+    fn page(&mut self, path: &[u8]) -> io::Result<File> {
+        opened(self.rt, path)
     }
 }

@@ -1,7 +1,7 @@
 //! A page in a file is scanned as the same page in memory, though its bytes go into the lines as they stand where they can.
 
 use crate::calls::{BR_X, BR_Y, DEPTH, Fill, MM, MODE, Plain, RESOLUTION, read_all, set};
-use config_pages::page_source;
+use config_pages::{HostInputs, page_source};
 use device_api::Device;
 use page_sources::Source;
 use sane_fixed::{ByteOrder, Status};
@@ -131,12 +131,17 @@ fn are_scanned_alike(
 
 #[test]
 fn pages_in_files(rt: HostRuntime) -> Result<(), Fail> {
+    let mut inputs = HostInputs { rt: &rt };
     for &kind in KINDS {
         for &width in WIDTHS {
             let text = file(rt.alloc(), kind, width)?;
             fs::write(&rt, "page.pnm", &text)?;
-            let one = page_source(&rt, b"page.pnm", 26).ok().expect(&rt, "a page");
-            let other = page_source(&rt, b"page.pnm", 26).ok().expect(&rt, "a page");
+            let one = page_source(rt.alloc(), &mut inputs, b"page.pnm", 26)
+                .ok()
+                .expect(&rt, "a page");
+            let other = page_source(rt.alloc(), &mut inputs, b"page.pnm", 26)
+                .ok()
+                .expect(&rt, "a page");
             let same = source(rt.alloc(), &text, 26).expect(&rt, "a page");
             let again = source(rt.alloc(), &text, 26).expect(&rt, "a page");
             let alike = are_scanned_alike(rt.alloc(), (one, other), (same, again), width);

@@ -1,6 +1,6 @@
 ghost use Rattle.std.specs.Prelude.{◌≡◌};
 
-use config_pages::{NoPage, PageSourceFault, page_source};
+use config_pages::{HostInputs, NoPage, PageSourceFault, page_source};
 use page_picture::PageSource;
 use std::fs;
 use std::test::Fail;
@@ -30,9 +30,10 @@ const PAGES: &[&[u8]] = &[
 
 #[test]
 fn pages_in_lines_and_in_files(rt: HostRuntime) -> Result<(), Fail> {
+    let mut inputs = HostInputs { rt: &rt };
     fs::write(&rt, "page.pgm", b"P5\n2 1\n255\n\x01\x02")?;
     for page in PAGES {
-        let Ok(mut source) = page_source(&rt, page, 26) else {
+        let Ok(mut source) = page_source(rt.alloc(), &mut inputs, page, 26) else {
             panic!(rt; "refused: {page:?}");
         };
         assert!(rt; source.size() == (2, 1));
@@ -60,13 +61,20 @@ const NO_PAGES: &[(&[u8], NoPage)] = &[
 
 #[test]
 fn pages_that_are_not_there(rt: HostRuntime) -> Result<(), Fail> {
+    let mut inputs = HostInputs { rt: &rt };
     fs::write(&rt, "short.pgm", b"P5\n1 1\n255\n")?;
     for (page, why) in NO_PAGES {
-        let refused = page_source(&rt, page, 26).err();
+        let refused = page_source(rt.alloc(), &mut inputs, page, 26).err();
         assert!(rt; refused == Some(PageSourceFault::NoPage(*why)));
     }
     for dpi in [0, 1201] {
-        let refused = page_source(&rt, b"hex:50350a3120310a3235350a00", dpi).err();
+        let refused = page_source(
+            rt.alloc(),
+            &mut inputs,
+            b"hex:50350a3120310a3235350a00",
+            dpi,
+        )
+        .err();
         assert!(rt; refused == Some(PageSourceFault::BadDpi));
     }
     Ok(())

@@ -2,9 +2,9 @@
 use Rattle.std.specs.Prelude.{ℕ, ◌≡◌, ⊤, Option, Some, None, List, [], ◌∷◌, ◌++◌}
 use Rattle.scan_job.specs.Shelves.{Stock, ReturnedOutput}
 
--- **the name of a file (`name_entry`, `named_behind`, `IsNamed`)**: in what an output to named files tells, 256, the
--- name, and 257, behind all that was taken before; and in front of all one mark more, 258, so there are as many marks
--- as files were named. None of the three is a byte.
+-- **the name of a file (`name_entry`, `named_behind`, `IsNamed`)**: an output to named files tells 256, the name, and
+-- 257, behind all that was taken before. In front of all stands one mark more, 258, so there are as many marks as files
+-- were named. None of the three is a byte.
 abbrev pub name_entry : List ℕ → List ℕ
 name_entry name = 256 ∷ (name ++ 257 ∷ [])
 

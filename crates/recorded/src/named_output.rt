@@ -7,7 +7,7 @@ pub trait NamedOutput: Write {
 
     /// Names the file of all that is written from here on.
     fn begin(&mut self, name: Text)
-        /// Behind the name of a file, in what an output tells, stand the bytes that it took; and how many files were named is
-        /// told in front, so that who appends alone names none.
+        /// Behind the name of a file, an output tells the bytes that it took. It tells in front how many files were named, so
+        /// that who appends names none.
         ensures { IsNamed name (Self.contents self.old) (Self.contents self.new) };
 }

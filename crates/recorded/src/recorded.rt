@@ -18,7 +18,7 @@ pub struct Recorded<W> {
 impl<W> Recorded<W> {
     /// An output of which nothing is recorded yet.
     pub fn new(writer: W) -> Recorded<W>
-        /// Of an output, when its record begins, nothing is told.
+        /// A new record of an output tells nothing.
         /// Carried by: `writer`, `taken` of `Recorded::new`
         ensures writer { result.writer ≡ writer }
         ensures taken { result.taken.text ≡ [] }
@@ -51,7 +51,7 @@ impl<W: Write> Write for Recorded<W> {
     ghost contents = { λ r. Some r.taken.text };
 
     fn write(&mut self, bytes: &[u8]) -> io::Result<usize>
-        /// What a recorded output tells is what its one call on the output took.
+        /// A recorded output tells what its one call on the output took.
         /// Carried by: `bytes`, `inner` of `write` of `Recorded`
         ensures bound { WritesAtMost result bytes.now }
         ensures bytes { WriteAppends

@@ -19,7 +19,7 @@ pub struct RecordedShelf<S> {
 impl<S> RecordedShelf<S> {
     /// A shelf of which nothing is recorded yet.
     pub fn new(shelf: S) -> RecordedShelf<S>
-        /// Of a shelf, when its record begins, no output is told.
+        /// A new record of a shelf tells no output.
         /// Carried by: `shelf`, `number`, `returned` of `RecordedShelf::new`
         ensures shelf { result.shelf ≡ shelf }
         ensures number { result.number ≡ 0 }
@@ -48,8 +48,8 @@ impl<S: Shelf> Shelf for RecordedShelf<S> {
     ghost stock = { λ s. Some (stock_of s.number s.returned.outputs) };
 
     fn open(&mut self, k: u32) -> Result<Recorded<S::Out>, ShelfFault>
-        /// What a recorded shelf tells is what its one call asked the shelf for: the output of that number, and the outputs
-        /// given back to it, kept or refused.
+        /// A recorded shelf tells what its one call asked the shelf for: the output of that number, and the outputs given back to
+        /// it, kept or refused.
         /// Carried by: `stock`, `inner` of `open` and of `close` of `RecordedShelf`
         ensures stock { OpensOutput (Some (stock_of self.old.number self.old.returned.outputs)) k
             (Some (stock_of self.new.number self.new.returned.outputs)) }

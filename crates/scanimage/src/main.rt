@@ -1,9 +1,11 @@
 //! `scanimage`: lists the virtual scanners of a config or of a daemon, shows their options, and scans to Netpbm files.
 #![tactic(auto)]
 
+use config_pages::{HostInputs, RecordedInputs};
 use recorded::{Recorded, RecordedShelf};
 use scanimage_cli::{
-    Ending, Folder, JobFiles, OutputFile, OutputTally, Outputs, program, tell_ending, words_of,
+    Ending, Folder, HostDial, HostWords, JobFiles, OutputFile, OutputTally, Outputs, Outside,
+    RecordedHosts, program, tell_ending, words_of,
 };
 use std::fs::File;
 use std::process::ExitCode;
@@ -18,14 +20,18 @@ fn main(rt: HostRuntime) -> ExitCode {
         File::open(&rt, ROOT),
         File::open(&rt, ROOT),
     ];
-    // No call on an output is made past its record.
+    // No call on an output, an input or a host is made past its record.
     let mut err = Recorded::new(rt.stderr());
-    let words = match words_of(rt.alloc(), &rt) {
+    let words = match words_of(rt.alloc(), &HostWords { rt: &rt }) {
         Ok(words) => words,
         Err(fault) => {
             let ending = Ending::of_split(fault);
             return tell_ending(&mut err, &ending, &mut OutputTally::new());
         }
+    };
+    let mut outside = Outside {
+        inputs: RecordedInputs::new(HostInputs { rt: &rt }),
+        hosts: RecordedHosts::new(HostDial::new(&rt)),
     };
     let mut outputs = Outputs {
         out: Recorded::new(rt.stdout()),
@@ -34,8 +40,9 @@ fn main(rt: HostRuntime) -> ExitCode {
             named: Recorded::new(OutputFile::new(&rt)),
             shelf: RecordedShelf::new(Folder { rt: &rt }),
         },
+        has_begun: false,
         tally: OutputTally::new(),
         errors: OutputTally::new(),
     };
-    program(&rt, words.as_slice(), &mut outputs)
+    program(rt.alloc(), words.as_slice(), &mut outside, &mut outputs)
 }

@@ -24,7 +24,7 @@ use Rattle.scanimage_cli.specs.declared.options.Options.{Options}
 use Rattle.scanimage_cli.specs.declared.planning.Destination.{Destination}
 use Rattle.scanimage_cli.specs.declared.planning.Plan.{Plan}
 use Rattle.scan_job.specs.Shelves.{Stock}
-use Rattle.frame_join.proofs.StreamLaws.{nothing_is_not_whole}
+use Rattle.frame_join.proofs.StreamLaws.{nothing_holds_none}
 use Rattle.local_job.specs.LocalRun.{LeavesNoFile}
 use Rattle.net_jobs.specs.Links.{LinkViews}
 use Rattle.net_jobs.specs.RunPromises.{SeenStreams}
@@ -37,6 +37,11 @@ use Rattle.scanimage_cli.specs.declared.planning.JobPlan.{JobPlan}
 use Rattle.scanimage_cli.specs.declared.printed.Printout.{Printout}
 use Rattle.scanimage_cli.proofs.Destinations.{IsFolder, IsListing, IsPath}
 use Rattle.scanimage_cli.proofs.PagesLeft.{same_pages_left}
+use Rattle.scanimage_cli.proofs.PortsTold.{asked_now}
+use Rattle.scanimage_cli.specs.Host.{DialsBetween}
+use Rattle.scanimage_cli.specs.NetDoing.{host_job}
+use Rattle.net_jobs.specs.JobJournal.{dialled_by}
+use Rattle.std.specs.Io.KnownBytes.{prepend_known}
 
 abbrev IsNot : Bool → Type 0
 IsNot false = ⊤
@@ -56,15 +61,15 @@ on_err (Err fault) is = is
 
 -- where nothing was written there is no file
 pub nothing_leaves_no_file : (held : Option (List ℕ)) → LeavesNoFile held held
-nothing_leaves_no_file held = λ first taken. record { text = []; taken = taken; not_whole = nothing_is_not_whole }
+nothing_leaves_no_file held = λ first taken. record { text = []; taken = taken; none = nothing_holds_none }
 
 pub nothing_stops_short : (held : Option (List ℕ)) → StopsShort held held
-nothing_stops_short None = record { text = []; taken = tt; not_whole = nothing_is_not_whole }
-nothing_stops_short (Some bytes) = record { text = []; taken = sym (append-nil bytes); not_whole = nothing_is_not_whole }
+nothing_stops_short None = record { text = []; taken = tt; none = nothing_holds_none }
+nothing_stops_short (Some bytes) = record { text = []; taken = sym (append-nil bytes); none = nothing_holds_none }
 
 -- what took no whole file, whatever it held before, leaves none
 pub short_leaves_no_file : (was now : Option (List ℕ)) → StopsShort was now → LeavesNoFile was now
-short_leaves_no_file was now short = λ first taken. record { text = short.text; taken = Appends-trans first was now [] short.text taken short.taken; not_whole = short.not_whole }
+short_leaves_no_file was now short = λ first taken. record { text = short.text; taken = Appends-trans first was now [] short.text taken short.taken; none = short.none }
 
 -- where no output was touched none took a file
 pub untouched : (destination : Destination) (was : JobOutputs) → LeavesNone destination was was
@@ -117,49 +122,61 @@ on_err_short was now (Ok value) short = tt
 on_err_short was now (Err fault) short = short_leaves_no_file was now short
 
 -- what a job over the net did with its file at standard output
-pub ran_to_output : {L : Type 0} (views : LinkViews L) (job : Job) (host : List ℕ) (old new : SeenStreams L (Option (List ℕ))) (was now : JobOutputs) (result : Result Printout Ending)
+pub ran_to_output : {L : Type 0} (views : LinkViews L) (dials : DialsBetween) (job : Job) (host : List ℕ) (old new : SeenStreams L (Option (List ℕ))) (was now : JobOutputs) (result : Result Printout Ending)
+    → (views.ports old.links).asked ≡ dials.was → (views.ports new.links).asked ≡ dials.now
     → old.output ≡ was.out → new.output ≡ now.out → now.files ≡ was.files
-    → IfOk result (DoesNetJob views (record { host = host; job = job }) old new) → IfOk result (RanThere job host StandardOutput was now)
-ran_to_output views job host old new was now (Ok printed) at_first at_last same x = record {
+    → IfOk result (DoesNetJob views (record { host = host; job = job }) old new) → IfOk result (RanThere (host_job host job) StandardOutput dials was now)
+ran_to_output views dials job host old new was now (Ok printed) dials_first dials_last at_first at_last same x = record {
   reports = x.reports;
   trace = x.ran.ran.trace;
   events = x.ran.ran.did.events;
   runs = x.ran.ran.did.runs;
   told = x.ran.told;
+  dialled = dialled_by x.ran.ran.moves;
+  named = x.ran.ran.asked;
+  asked_for = sym dials_last ∙ asked_now views old.links x.ran.ran.moves new.links x.ran.ran.calls ∙ ap (prepend_known (dialled_by x.ran.ran.moves)) dials_first;
   gave = (record { text = x.ran.text; taken = subst (λ o. Appends o now.out x.ran.text) at_first (subst (λ o. Appends old.output o x.ran.text) at_last x.ran.taken); file = x.ran.file; none = x.ran.none }, same);
   prints = x.prints;
 }
-ran_to_output views job host old new was now (Err ending) at_first at_last same x = x
+ran_to_output views dials job host old new was now (Err ending) dials_first dials_last at_first at_last same x = x
 
 -- in the file of that name
-pub ran_to_file : {L : Type 0} (views : LinkViews L) (job : Job) (host path : List ℕ) (old new : SeenStreams L (Option (List ℕ))) (was now : JobOutputs) (result : Result Printout Ending)
+pub ran_to_file : {L : Type 0} (views : LinkViews L) (dials : DialsBetween) (job : Job) (host path : List ℕ) (old new : SeenStreams L (Option (List ℕ))) (was now : JobOutputs) (result : Result Printout Ending)
+    → (views.ports old.links).asked ≡ dials.was → (views.ports new.links).asked ≡ dials.now
     → IsNamed path was.files.named old.output → new.output ≡ now.files.named → now.out ≡ was.out → now.files.stock ≡ was.files.stock
-    → IfOk result (DoesNetJob views (record { host = host; job = job }) old new) → IfOk result (RanThere job host (Path path) was now)
-ran_to_file views job host path old new was now (Ok printed) named at_last out stock x = record {
+    → IfOk result (DoesNetJob views (record { host = host; job = job }) old new) → IfOk result (RanThere (host_job host job) (Path path) dials was now)
+ran_to_file views dials job host path old new was now (Ok printed) dials_first dials_last named at_last out stock x = record {
   reports = x.reports;
   trace = x.ran.ran.trace;
   events = x.ran.ran.did.events;
   runs = x.ran.ran.did.runs;
   told = x.ran.told;
+  dialled = dialled_by x.ran.ran.moves;
+  named = x.ran.ran.asked;
+  asked_for = sym dials_last ∙ asked_now views old.links x.ran.ran.moves new.links x.ran.ran.calls ∙ ap (prepend_known (dialled_by x.ran.ran.moves)) dials_first;
   gave = ((old.output, named, record { text = x.ran.text; taken = subst (λ o. Appends old.output o x.ran.text) at_last x.ran.taken; file = x.ran.file; none = x.ran.none }), out, stock);
   prints = x.prints;
 }
-ran_to_file views job host path old new was now (Err ending) named at_last out stock x = x
+ran_to_file views dials job host path old new was now (Err ending) dials_first dials_last named at_last out stock x = x
 
 -- or in the outputs of the shelf
-pub ran_to_folder : {L : Type 0} (views : LinkViews L) (job : Job) (host : List ℕ) (old new : SeenStreams L (Option Stock)) (was now : JobOutputs) (result : Result Printout Ending)
+pub ran_to_folder : {L : Type 0} (views : LinkViews L) (dials : DialsBetween) (job : Job) (host : List ℕ) (old new : SeenStreams L (Option Stock)) (was now : JobOutputs) (result : Result Printout Ending)
+    → (views.ports old.links).asked ≡ dials.was → (views.ports new.links).asked ≡ dials.now
     → old.output ≡ was.files.stock → new.output ≡ now.files.stock → now.out ≡ was.out → now.files.named ≡ was.files.named
-    → IfOk result (DoesNetBatch views (record { host = host; job = job }) old new) → IfOk result (RanThere job host Folder was now)
-ran_to_folder views job host old new was now (Ok printed) at_first at_last out named x = record {
+    → IfOk result (DoesNetBatch views (record { host = host; job = job }) old new) → IfOk result (RanThere (host_job host job) Folder dials was now)
+ran_to_folder views dials job host old new was now (Ok printed) dials_first dials_last at_first at_last out named x = record {
   reports = x.reports;
   trace = x.ran.ran.trace;
   events = x.ran.ran.did.events;
   runs = x.ran.ran.did.runs;
   told = x.ran.told;
+  dialled = dialled_by x.ran.ran.moves;
+  named = x.ran.ran.asked;
+  asked_for = sym dials_last ∙ asked_now views old.links x.ran.ran.moves new.links x.ran.ran.calls ∙ ap (prepend_known (dialled_by x.ran.ran.moves)) dials_first;
   gave = (x.ran.count, x.ran.files, subst (λ o. TakesBack o (page_outputs_from 1 (pages_of x.ran.ran.trace)) now.files.stock) at_first (subst (λ o. TakesBack old.output (page_outputs_from 1 (pages_of x.ran.ran.trace)) o) at_last x.ran.outputs), out, named);
   prints = x.prints;
 }
-ran_to_folder views job host old new was now (Err ending) at_first at_last out named x = x
+ran_to_folder views dials job host old new was now (Err ending) dials_first dials_last at_first at_last out named x = x
 
 -- a list was printed
 pub listed : (table : Table) (asked : AskedHere) (was now : ProgramOutputs) (lines : List ℕ) → asked.plan.task ≡ ListTask → lines ≡ device_lines [] (listed_infos table) → now.err ≡ was.err → now.files ≡ was.files → Appends was.out now.out lines → IsDoneHere table asked was now
@@ -181,11 +198,11 @@ pub batch_prints_none : (destination : Destination) (job : Job) (device : Device
 batch_prints_none destination job device was now printed count is does = let p = prints_as destination job device was now printed does in p.1 ∙ ap (λ t. printed_table t [] job.device p.0) is
 
 -- nor do they over the net
-pub scan_there_prints_none : (destination : Destination) (job : Job) (host : List ℕ) (was now : JobOutputs) (printed : Printout) → job.task ≡ Scan → RanThere job host destination was now printed → printed.table.items ≡ []
-scan_there_prints_none destination job host was now printed is x = x.prints.table ∙ ap (λ t. printed_table t (net_prefix host) job.device x.reports) is
+pub scan_there_prints_none : (destination : Destination) (job : Job) (host : List ℕ) (dials : DialsBetween) (was now : JobOutputs) (printed : Printout) → job.task ≡ Scan → RanThere (host_job host job) destination dials was now printed → printed.table.items ≡ []
+scan_there_prints_none destination job host dials was now printed is x = x.prints.table ∙ ap (λ t. printed_table t (net_prefix host) job.device x.reports) is
 
-pub batch_there_prints_none : (destination : Destination) (job : Job) (host : List ℕ) (was now : JobOutputs) (printed : Printout) (count : ℕ) → job.task ≡ Batch count → RanThere job host destination was now printed → printed.table.items ≡ []
-batch_there_prints_none destination job host was now printed count is x = x.prints.table ∙ ap (λ t. printed_table t (net_prefix host) job.device x.reports) is
+pub batch_there_prints_none : (destination : Destination) (job : Job) (host : List ℕ) (dials : DialsBetween) (was now : JobOutputs) (printed : Printout) (count : ℕ) → job.task ≡ Batch count → RanThere (host_job host job) destination dials was now printed → printed.table.items ≡ []
+batch_there_prints_none destination job host dials was now printed count is x = x.prints.table ∙ ap (λ t. printed_table t (net_prefix host) job.device x.reports) is
 
 -- a job whose file goes to standard output touches no other
 pub does_spare : (destination : Destination) (job : Job) (device : DeviceState × DeviceState) (was now : JobOutputs) (printed : Printout) → destination ≡ StandardOutput → DoesPlanned destination job device was now printed → now.files ≡ was.files
@@ -198,8 +215,8 @@ gave_spares StandardOutput job trace was now at gave = gave.1
 gave_spares (Path path) job trace was now at gave = absurd (subst IsPath at tt)
 gave_spares Folder job trace was now at gave = absurd (subst IsFolder at tt)
 
-pub ran_spares : (destination : Destination) (job : Job) (host : List ℕ) (was now : JobOutputs) (printed : Printout) → destination ≡ StandardOutput → RanThere job host destination was now printed → now.files ≡ was.files
-ran_spares destination job host was now printed at x = gave_spares destination job x.trace was now at x.gave
+pub ran_spares : (destination : Destination) (job : Job) (host : List ℕ) (dials : DialsBetween) (was now : JobOutputs) (printed : Printout) → destination ≡ StandardOutput → RanThere (host_job host job) destination dials was now printed → now.files ≡ was.files
+ran_spares destination job host dials was now printed at x = gave_spares destination job x.trace was now at x.gave
 
 -- what is well has no ending
 pub well_is_no_end : {A E : Type 0} (P : Type 0) (result : Result A E) → IsOk result → OnErr result P

@@ -3,10 +3,12 @@ use Rattle.std.proofs.Common.{Bool, ℕ, ◌≡◌, ◌⊎◌, List, Option, Res
 use Rattle.scanimage_cli.specs.Printing.{TakesOrFails}
 use Rattle.device_api.specs.State.{DeviceState}
 use Rattle.dispatch.specs.Table.{Table, fresh_table}
-use Rattle.config_pages.specs.InputTexts.{InputTexts}
+use Rattle.config_pages.specs.Devices.{calls_of_lines}
+use Rattle.config_pages.specs.InputTexts.{SeenInputs, with_calls}
+use Rattle.scanimage_cli.specs.Host.{dials_between}
 use Rattle.scanimage_cli.specs.Inputs.{IsPasswordIn}
-use Rattle.scanimage_cli.specs.Programs.{ProgramOutputs, IsDoneHere, IsDoneThere}
-use Rattle.scanimage_cli.specs.Whole.{HasRunFor, IsCarriedOut, IsDoneAt}
+use Rattle.scanimage_cli.specs.Programs.{IsDoneHere, IsDoneThere}
+use Rattle.scanimage_cli.specs.Whole.{HasRunFor, IsCarriedOut, IsDoneAt, ProgramState}
 use Rattle.scanimage_cli.specs.declared.planning.Location.TheVariants.{Here, There}
 use Rattle.scanimage_cli.specs.declared.planning.Plan.{Plan}
 use Rattle.scanimage_cli.specs.JobOutputs.{JobOutputs, LeavesNoneOfPlan}
@@ -14,16 +16,17 @@ use Rattle.scanimage_cli.specs.Plans.{IsPlanOf}
 use Rattle.scanimage_cli.specs.Written.{CarriedOutIsWritten, HaveTaken, IsWrittenFor, TakenOutputs}
 use Rattle.scanimage_cli.specs.declared.planning.Remote.{Remote}
 
-pub carried_there : (texts : InputTexts) (plan : Plan) (remote : Remote) (table : Table) (password : List ℕ) (was now : ProgramOutputs) → plan.location ≡ There remote → IsPasswordIn texts plan.password_file password
-    → IsDoneThere (record { remote = remote; plan = plan.job; password = password }) was now → IsCarriedOut texts plan table was now
-carried_there texts plan remote table password was now at named done = record { password = password; named = named; does = subst (λ l. IsDoneAt l table plan.job password was now) (sym at) done }
+pub carried_there : (plan : Plan) (remote : Remote) (table : Table) (password : List ℕ) (was now : ProgramState) → plan.location ≡ There remote → IsPasswordIn plan.password_file was.inputs now.inputs password
+    → IsDoneThere (record { remote = remote; plan = plan.job; password = password }) (dials_between was.ports now.ports) was.outputs now.outputs → IsCarriedOut plan table was now
+carried_there plan remote table password was now at named done = record { password = password; named = named; does = subst (λ l. IsDoneAt l table plan.job password was now) (sym at) done }
 
-pub carried_here : (texts : InputTexts) (plan : Plan) (device : Option (List ℕ)) (table : Table) (password : List ℕ) (was now : ProgramOutputs) → plan.location ≡ Here device → IsPasswordIn texts plan.password_file password
-    → IsDoneHere table (record { device = device; plan = plan.job; password = password }) was now → IsCarriedOut texts plan table was now
-carried_here texts plan device table password was now at named done = record { password = password; named = named; does = subst (λ l. IsDoneAt l table plan.job password was now) (sym at) done }
+pub carried_here : (plan : Plan) (device : Option (List ℕ)) (table : Table) (password : List ℕ) (was now : ProgramState) → plan.location ≡ Here device → IsPasswordIn plan.password_file was.inputs now.inputs password
+    → now.ports ≡ was.ports → IsDoneHere table (record { device = device; plan = plan.job; password = password }) was.outputs now.outputs → IsCarriedOut plan table was now
+carried_here plan device table password was now at named same done = record { password = password; named = named; does = subst (λ l. IsDoneAt l table plan.job password was now) (sym at) (done, same) }
 
-pub carried_fresh : (texts : InputTexts) (plan : Plan) (table : Table) (devices : List DeviceState) (was now : ProgramOutputs) → table ≡ fresh_table devices → IsCarriedOut texts plan table was now → IsCarriedOut texts plan (fresh_table devices) was now
-carried_fresh texts plan table devices was now fresh carried = subst (λ t. IsCarriedOut texts plan t was now) fresh carried
+pub carried_fresh : (plan : Plan) (table : Table) (devices : List DeviceState) (was now : ProgramState) (asked : SeenInputs) → table ≡ fresh_table devices → was.inputs ≡ asked → IsCarriedOut plan table was now
+    → IsCarriedOut plan (fresh_table devices) (record was { inputs = asked }) now
+carried_fresh plan table devices was now asked fresh same carried = subst (λ inputs. IsCarriedOut plan (fresh_table devices) (record was { inputs = inputs }) now) same (subst (λ t. IsCarriedOut plan t was now) fresh carried)
 
 -- a line is told from where nothing was told before
 pub still_told : (was mid now : Option (List ℕ)) (line : List ℕ) (failed : Bool) → mid ≡ was → TakesOrFails mid now line failed → TakesOrFails was now line failed
@@ -36,15 +39,16 @@ leaves_none_of words plan was now (Ok value) is left = tt
 leaves_none_of words plan was now (Err fault) is left = inr (plan, is, left)
 
 -- what has run, of outputs that tell all that they took, is written as planned
-pub has_written : (texts : InputTexts) (words : List (List ℕ)) (was now : ProgramOutputs) (old new : TakenOutputs) → CarriedOutIsWritten → HaveTaken was old → HaveTaken now new → HasRunFor texts words was now → IsWrittenFor texts words old new
-has_written texts words was now old new law first last ran = record {
+pub has_written : (words : List (List ℕ)) (was now : ProgramState) (old new : TakenOutputs) → CarriedOutIsWritten → HaveTaken was.outputs old → HaveTaken now.outputs new → HasRunFor words was now → IsWrittenFor words was.inputs now.inputs old new
+has_written words was now old new law first last ran = record {
   plan = ran.plan;
   is_plan = ran.is_plan;
   lines = ran.lines;
+  configured = ran.configured;
   config = ran.config;
   devices = ran.devices;
   of_lines = ran.of_lines;
   password = ran.carried.password;
   read = ran.carried.named;
-  written = law texts ran.plan (fresh_table ran.devices) was now old new first last ran.carried;
+  written = law ran.plan (fresh_table ran.devices) (record was { inputs = with_calls (calls_of_lines ran.lines) ran.configured }) now old new first last ran.carried;
 }

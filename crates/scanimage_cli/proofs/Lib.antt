@@ -12,3 +12,8 @@ pub mod Destinations
 pub mod PageTexts
 pub mod PagesLeft
 pub mod Carrying
+pub mod PortsTold
+pub mod InputsRead
+pub mod WordLists
+pub mod Caused
+pub mod CausedRun

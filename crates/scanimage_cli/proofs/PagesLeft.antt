@@ -5,8 +5,9 @@ use Rattle.std.proofs.lemmas.Bool.Decides.{nat_tests}
 use Rattle.std.proofs.lemmas.List.{append-nil}
 use Rattle.std.proofs.lemmas.List.Elements.{All-cons, All-head, All-nil, All-pop, All-tail}
 use Rattle.netpbm.specs.Pnm.{IsWhole}
+use Rattle.netpbm.specs.NoFile.{HoldsNoFile}
 use Rattle.frame_join.specs.FrameHistory.{JoinHistory}
-use Rattle.frame_join.proofs.StreamLaws.{nothing_is_not_whole}
+use Rattle.frame_join.proofs.StreamLaws.{nothing_holds_none}
 use Rattle.device_api.specs.InForce.{Placement, in_force}
 use Rattle.device_api.specs.State.{after_reset, with_setup}
 use Rattle.scan_frames.specs.declared.setup.Setup.{Setup}
@@ -37,7 +38,7 @@ no_more_back None = tt
 no_more_back (Some stock) = sym (append-nil stock.taken)
 
 nothing_left : (was now : Option Stock) → TakesBack was [] now → LeavesPages was now
-nothing_left was now back = record { texts = []; whole = All-nil IsWhole; last = []; left = []; is_left = refl; unfinished = inl nothing_is_not_whole; outputs = back }
+nothing_left was now back = record { texts = []; whole = All-nil IsWhole; last = []; left = []; is_left = refl; unfinished = inl nothing_holds_none; outputs = back }
 
 pub same_pages_left : (stock : Option Stock) → LeavesPages stock stock
 same_pages_left stock = nothing_left stock stock (no_more_back stock)
@@ -86,7 +87,7 @@ decide_count (Batch count) = decide_both (decide_le 1 count) (decide_le count 16
 -- ---- left here
 
 behind : (was now : DeviceAndShelf) (files : List (List ℕ)) (stop : Stop) → ArePageFiles was.device files → EndsBehind files was now stop → LeavesPages was.stock now.stock
-behind was now files stop are x = record { texts = files; whole = all_whole was.device files are; last = x.text; left = x.left; is_left = x.is_left; unfinished = inl x.not_whole; outputs = x.outputs }
+behind was now files stop are x = record { texts = files; whole = all_whole was.device files are; last = x.text; left = x.left; is_left = x.is_left; unfinished = inl x.none; outputs = x.outputs }
 
 refused : (was now : DeviceAndShelf) (files : List (List ℕ)) (stop : Stop) → ArePageFiles was.device files → RefusesLast files was now stop → LeavesPages was.stock now.stock
 refused was now files stop are x = record {
@@ -139,14 +140,14 @@ length_texts : (pages : List JoinHistory) → length (texts_of pages) ≡ length
 length_texts [] = refl
 length_texts (page ∷ more) = ap suc (length_texts more)
 
-kept_left : (pages : List JoinHistory) (text : List ℕ) (was now : Option Stock) → All IsPageFile pages → (IsWhole text → ⊥) → KeepsAllPages pages text was now → LeavesPages was now
-kept_left pages text was now files not_whole x = record {
+kept_left : (pages : List JoinHistory) (text : List ℕ) (was now : Option Stock) → All IsPageFile pages → HoldsNoFile text → KeepsAllPages pages text was now → LeavesPages was now
+kept_left pages text was now files none x = record {
   texts = texts_of pages;
   whole = pages_whole pages files;
   last = text;
   left = x.left;
   is_left = subst (λ n. AreLeft (n + 1) text x.left) (sym (length_texts pages)) x.is_left;
-  unfinished = inl not_whole;
+  unfinished = inl none;
   outputs = subst (λ o. TakesBack was (o ++ x.left) now) (outputs_of_pages 1 pages) x.outputs;
 }
 
@@ -164,14 +165,14 @@ refused_left pages was now files x =
           (subst (λ o. TakesBack was (o ++ refused_output (length x.shelved + 1) x.last.given ∷ []) now) (outputs_of_pages 1 x.shelved) x.outputs);
     }
 
-shelf_left : (pages trace_pages : List JoinHistory) (text : List ℕ) (stop : Stop) (was now : Option Stock) → All IsPageFile pages → (IsWhole text → ⊥)
+shelf_left : (pages trace_pages : List JoinHistory) (text : List ℕ) (stop : Stop) (was now : Option Stock) → All IsPageFile pages → HoldsNoFile text
     → ((pages ≡ trace_pages) × KeepsAllPages pages text was now) ⊎ ((stop ≡ failed_output) × (text ≡ []) × RefusesLastPage pages was now) → LeavesPages was now
-shelf_left pages trace_pages text stop was now files not_whole (inl kept) = kept_left pages text was now files not_whole kept.1
-shelf_left pages trace_pages text stop was now files not_whole (inr last) = refused_left pages was now files last.2
+shelf_left pages trace_pages text stop was now files none (inl kept) = kept_left pages text was now files none kept.1
+shelf_left pages trace_pages text stop was now files none (inr last) = refused_left pages was now files last.2
 
 net_batch_left : {C D S : Type 0} (views : StreamViews C D S (Option Stock)) (job : Job) (was now : JobStreams C D S) (stop : Stop) → StopsBatch views job was now stop → LeavesPages (views.output was.output) (views.output now.output)
 net_batch_left {C} {D} {S} views job was now stop (inl x) = subst (λ (s : JobStreams C D S). LeavesPages (views.output was.output) (views.output s.output)) (sym x.same) (same_pages_left (views.output was.output))
-net_batch_left views job was now stop (inr x) = shelf_left x.pages x.ran.trace.pages x.text stop (views.output was.output) (views.output now.output) x.files x.not_whole x.shelf
+net_batch_left views job was now stop (inr x) = shelf_left x.pages x.ran.trace.pages x.text stop (views.output was.output) (views.output now.output) x.files x.none x.shelf
 
 pub net_pages_left : {A C D S : Type 0} (views : StreamViews C D S (Option Stock)) (job : Job) (was now : JobStreams C D S) (result : Result A Ending) → IfErr result (EndsNetBatch views job was now) → OnErr result (LeavesPages (views.output was.output) (views.output now.output))
 net_pages_left views job was now (Ok value) ended = tt

@@ -19,7 +19,8 @@ use Rattle.scanimage_cli.specs.Doing.{DoesBatch, DoesJob}
 use Rattle.scanimage_cli.specs.Printing.{printed_table}
 use Rattle.scanimage_cli.specs.Programs.DoesPlanned.{ToOutput, ToPath, ToFolder}
 use Rattle.scanimage_cli.specs.Programs.{AskedHere, AskedThere, DoesPlanned, GaveFile, GavePlanned, HasDoneHere, IsDoneHere, IsDoneThere, ProgramOutputs, asked_here, asked_there, job_part}
-use Rattle.scanimage_cli.specs.Whole.{IsDoneAt}
+use Rattle.scanimage_cli.specs.Host.{DialsBetween, dials_between}
+use Rattle.scanimage_cli.specs.Whole.{IsDoneAt, ProgramState}
 use Rattle.scanimage_cli.specs.Written.{AreFilesHere, AreFilesThere, CarriedOutIsWritten, HaveTaken, IsFileHere, IsFileThere, IsWritten, JobThere, TakenOutputs, planned_at}
 use Rattle.scanimage_cli.specs.declared.planning.Destination.{Destination}
 use Rattle.scanimage_cli.specs.declared.planning.Destination.TheVariants.{StandardOutput, Path, Folder}
@@ -181,7 +182,7 @@ module _ (table : Table) (device : Option (List ℕ)) (plan : JobPlan) (password
 
 -- ---- done at a host
 
-module _ (table : Table) (remote : Remote) (plan : JobPlan) (password : List ℕ) (was now : ProgramOutputs) (old new : TakenOutputs) (first : HaveTaken was old) (last : HaveTaken now new) (d : IsDoneThere (asked_there remote plan password) was now) where
+module _ (table : Table) (remote : Remote) (plan : JobPlan) (password : List ℕ) (was now : ProgramOutputs) (old new : TakenOutputs) (first : HaveTaken was old) (last : HaveTaken now new) (dials : DialsBetween) (d : IsDoneThere (asked_there remote plan password) dials was now) where
   abbrev AskedOfIt : AskedThere
   AskedOfIt = asked_there remote plan password
 
@@ -256,9 +257,9 @@ done_here : (table : Table) (device : Option (List ℕ)) (plan : JobPlan) (passw
 done_here table device plan password was now old new first last done (inl is) = listed_written table device plan password was now old new first last is (done.list is).2
 done_here table device plan password was now old new first last done (inr other) = here_written table device plan password was now old new first last (done.job other)
 
-done_at : (location : Location) (table : Table) (plan : JobPlan) (password : List ℕ) (was now : ProgramOutputs) (old new : TakenOutputs) → HaveTaken was old → HaveTaken now new → IsDoneAt location table plan password was now → IsWritten (planned_at location table plan password) old new
-done_at (Here device) table plan password was now old new first last done = done_here table device plan password was now old new first last done (is_list_or_not plan.task)
-done_at (There remote) table plan password was now old new first last done = there_written table remote plan password was now old new first last done
+done_at : (location : Location) (table : Table) (plan : JobPlan) (password : List ℕ) (was now : ProgramState) (old new : TakenOutputs) → HaveTaken was.outputs old → HaveTaken now.outputs new → IsDoneAt location table plan password was now → IsWritten (planned_at location table plan password) old new
+done_at (Here device) table plan password was now old new first last done = done_here table device plan password was.outputs now.outputs old new first last done.0 (is_list_or_not plan.task)
+done_at (There remote) table plan password was now old new first last done = there_written table remote plan password was.outputs now.outputs old new first last (dials_between was.ports now.ports) done
 
 pub carried_out_is_written : CarriedOutIsWritten
-carried_out_is_written texts plan table was now old new first last carried = done_at plan.location table plan.job carried.password was now old new first last carried.does
+carried_out_is_written plan table was now old new first last carried = done_at plan.location table plan.job carried.password was now old new first last carried.does

@@ -2,10 +2,10 @@
 use Rattle.std.specs.Prelude.{ℕ, Option, List}
 use Rattle.scan_job.specs.Shelves.{Stock}
 
--- **streams of a call (`passed`, `dialled`, `held`)**: each as it was before a call and as it is behind it: a control
--- connection, of which is seen what reads of it will give and what was written to it; what makes data connections, of
--- which are seen the ports that were asked for, those that it was told of before, and the bytes of the connections
--- that are to come; an output, or a shelf, of which is seen what it holds.
+-- **streams of a call (`passed`, `dialled`, `held`)**: each as it was before a call and as it is behind it. Of a
+-- control connection one sees what reads of it will give and what was written to it. Of the dialer one sees the ports
+-- that were asked for, those that it was told of before, and the bytes of the connections to come. Of an output, or a
+-- shelf, one sees what it holds.
 --
 -- a control connection
 pub record PassedControl (C : Type 0) : Type 0 where

@@ -1,10 +1,11 @@
 -- The texts that scanimage reads.
-use Rattle.std.specs.Prelude.{ℕ, ◌≡◌, ◌⊎◌, Option, Some, None, IfSome, List, [], codes, take}
+use Rattle.std.specs.Prelude.{ℕ, ◌≡◌, ◌⊎◌, Option, Some, None, List, [], codes}
 use Rattle.sane_fixed.specs.declared.status.Status.TheVariants.{NoMem}
 use Rattle.scan_job.specs.declared.outcome.Why.TheVariants.{Memory}
 use Rattle.dispatch.specs.ConfigLines.{HasConfigFault}
 use Rattle.dispatch.specs.declared.config_line.ConfigLine.{ConfigLine}
-use Rattle.config_pages.specs.InputTexts.{InputTexts, TellsLines}
+use Rattle.config_pages.specs.InputTexts.{InputName, IsConfigRead, ReadsText, SeenInputs, text_read}
+use Rattle.config_pages.specs.InputTexts.InputName.{StandardText, FileText}
 use Rattle.scanimage_cli.specs.Password.{first_line_of}
 use Rattle.scanimage_cli.specs.declared.ending.Ending.{Ending}
 use Rattle.scanimage_cli.specs.declared.ending.Ending.TheVariants.{BadCommandLine, CannotRead, Config, Page, Ended}
@@ -15,42 +16,67 @@ use Rattle.scanimage_cli.specs.declared.planning.Input.TheVariants.{StandardInpu
 abbrev pub IsUnread : List ℕ → Ending → Type 0
 IsUnread name ending = (ending ≡ Ended NoMem Memory) ⊎ (ending ≡ CannotRead name)
 
--- **a text that is not taken (`IsUnread`, `RefusesNamedConfig`)**: out of memory, or the file of that name cannot be
--- read; a config also for the fault of its first bad line.
+-- the fault of the first bad line of a config
+abbrev pub IsLineRefusal : List ℕ → Ending → Type 0
+IsLineRefusal text BadCommandLine = ⊥
+IsLineRefusal text (CannotRead path) = ⊥
+IsLineRefusal text (Config fault) = HasConfigFault text fault.line fault.reason
+IsLineRefusal text (Page line why) = ⊥
+IsLineRefusal text (Ended status why) = ⊥
+
+-- **a text that is not taken (`IsUnread`, `RefusesNamedConfig`)**: nothing was read of it, since the file of that name
+-- cannot be read, or for want of memory; a config also for the fault of the first bad line of what was read.
 abbrev pub RefusesNamedConfig : List ℕ → Option (List ℕ) → Ending → Type 0
-RefusesNamedConfig name told BadCommandLine = ⊥
-RefusesNamedConfig name told (CannotRead path) = path ≡ name
-RefusesNamedConfig name told (Config fault) =
-    IfSome told (λ all. HasConfigFault (take 4194433 all) fault.line fault.reason)
-RefusesNamedConfig name told (Page line why) = ⊥
-RefusesNamedConfig name told (Ended status why) = (status ≡ NoMem) × (why ≡ Memory)
+RefusesNamedConfig name None ending = IsUnread name ending
+RefusesNamedConfig name (Some text) ending = IsLineRefusal text ending
 
--- the text that is read there
-abbrev pub text_at : InputTexts → Input → Option (List ℕ)
-text_at texts StandardInput = texts.standard
-text_at texts (Path path) = texts.file path
-
--- **the config and the password that are named (`AreLinesOf`, `RefusesConfigAt`, `IsPasswordIn`, `IsUnreadAt`)**: the
--- lines of the text that is read there, or that it is not taken, for what is told of that text; the first line of the
--- file's first 1,026 bytes, or that this is not read. No lines where no config is named, and an empty password where no
--- file is.
-abbrev pub AreLinesOf : InputTexts → Option Input → List ConfigLine → Type 0
-AreLinesOf texts None lines = lines ≡ []
-AreLinesOf texts (Some input) lines = TellsLines (text_at texts input) lines
+-- where a named input is read
+abbrev pub name_read : Input → InputName
+name_read StandardInput = StandardText
+name_read (Path path) = FileText path
 
 -- the name by which it is told
 abbrev pub name_of_input : Input → List ℕ
 name_of_input StandardInput = codes "-"
 name_of_input (Path path) = path
 
-abbrev pub RefusesConfigAt : InputTexts → Option Input → Ending → Type 0
-RefusesConfigAt texts None ending = ⊥
-RefusesConfigAt texts (Some input) ending = RefusesNamedConfig (name_of_input input) (text_at texts input) ending
+-- a config that is not taken was read once, where it is named
+pub record RefusesConfigRead (input : Input) (was now : SeenInputs) (ending : Ending) : Type 0 where
+  pub gave : Option (List ℕ)
+  pub read : ReadsText (text_read (name_read input) 4194433 gave) was now
+  pub why : RefusesNamedConfig (name_of_input input) gave ending
 
-abbrev pub IsPasswordIn : InputTexts → Option (List ℕ) → List ℕ → Type 0
-IsPasswordIn texts None password = password ≡ []
-IsPasswordIn texts (Some path) password = IfSome (texts.file path) (λ all. password ≡ first_line_of (take 1026 all))
+-- the first line of what was read of the file of that path
+abbrev pub IsReadPassword : Option (List ℕ) → List ℕ → Type 0
+IsReadPassword None password = ⊥
+IsReadPassword (Some text) password = password ≡ first_line_of text
 
-abbrev pub IsUnreadAt : Option (List ℕ) → Ending → Type 0
-IsUnreadAt None ending = ending ≡ Ended NoMem Memory
-IsUnreadAt (Some path) ending = IsUnread path ending
+pub record IsPasswordRead (path : List ℕ) (was now : SeenInputs) (password : List ℕ) : Type 0 where
+  pub text : List ℕ
+  pub read : ReadsText (text_read (FileText path) 1026 (Some text)) was now
+  pub line : password ≡ first_line_of text
+
+pub record IsPasswordUnread (path : List ℕ) (was now : SeenInputs) (ending : Ending) : Type 0 where
+  pub gave : Option (List ℕ)
+  pub read : ReadsText (text_read (FileText path) 1026 gave) was now
+  pub why : IsUnread path ending
+
+-- **the config and the password that are named (`AreLinesOf`, `RefusesConfigAt`, `IsPasswordIn`, `IsUnreadAt`)**: the
+-- lines of the text that was read there, once, or that it is not taken; the first line of the 1,026 bytes at most that
+-- were read of the file, once, or that this is not read. If no config is named there are no lines, if no file is there
+-- is an empty password, and then nothing is read.
+abbrev pub AreLinesOf : Option Input → SeenInputs → SeenInputs → List ConfigLine → Type 0
+AreLinesOf None was now lines = (lines ≡ []) × (now ≡ was)
+AreLinesOf (Some input) was now lines = IsConfigRead (name_read input) was now lines
+
+abbrev pub RefusesConfigAt : Option Input → SeenInputs → SeenInputs → Ending → Type 0
+RefusesConfigAt None was now ending = ⊥
+RefusesConfigAt (Some input) was now ending = RefusesConfigRead input was now ending
+
+abbrev pub IsPasswordIn : Option (List ℕ) → SeenInputs → SeenInputs → List ℕ → Type 0
+IsPasswordIn None was now password = (password ≡ []) × (now ≡ was)
+IsPasswordIn (Some path) was now password = IsPasswordRead path was now password
+
+abbrev pub IsUnreadAt : Option (List ℕ) → SeenInputs → SeenInputs → Ending → Type 0
+IsUnreadAt None was now ending = (ending ≡ Ended NoMem Memory) × (now ≡ was)
+IsUnreadAt (Some path) was now ending = IsPasswordUnread path was now ending

@@ -1,6 +1,7 @@
 -- What the outputs of a job hold, and what a job leaves of them that does not end well.
 use Rattle.std.specs.Prelude.{ℕ, ◌+◌, ◌≡◌, ◌⊎◌, Option, List, [], ◌∷◌, ◌++◌, All, length}
 use Rattle.netpbm.specs.Pnm.{IsWhole}
+use Rattle.netpbm.specs.NoFile.{HoldsNoFile}
 use Rattle.recorded.specs.Names.{IsNamed}
 use Rattle.scan_job.specs.FileOutputs.{AreLeft, TakesBack, refused_output}
 use Rattle.scan_job.specs.Shelves.{Stock, ReturnedOutput}
@@ -20,20 +21,20 @@ pub record JobOutputs : Type 0 where
 abbrev pub job_outputs : Option (List ℕ) → Option (List ℕ) → Option Stock → JobOutputs
 job_outputs out named stock = record { out = out; files = files_held named stock }
 
--- a shelf kept whole files, numbered from 1, and was given back one output more at most, which it refused, or which
--- took no whole file
+-- a shelf kept whole files, numbered from 1, and was given back one output more at most, which it refused, or of which
+-- no front is a whole file
 pub record LeavesPages (was now : Option Stock) : Type 0 where
   pub texts : List (List ℕ)
   pub whole : All IsWhole texts
   pub last : List ℕ
   pub left : List ReturnedOutput
   pub is_left : AreLeft (length texts + 1) last left
-  pub unfinished : (IsWhole last → ⊥) ⊎ (left ≡ refused_output (length texts + 1) last ∷ [])
+  pub unfinished : HoldsNoFile last ⊎ (left ≡ refused_output (length texts + 1) last ∷ [])
   pub outputs : TakesBack was (outputs_from 1 texts ++ left) now
 
--- **no file is left of a job that does not end well (`LeavesNone`, `LeavesPages`, `LeavesNoneOfPlan`)**: of its file
--- the output that it was to go to took no whole one, standard output or the one file that was named; and no other
--- output was touched. A batch leaves the files of its finished pages. What has no file touches none.
+-- **no file is left of a job that does not end well (`LeavesNone`, `LeavesPages`, `LeavesNoneOfPlan`)**: no front of
+-- what its output took is a whole file, on standard output or in the one file that was named, and no other output was
+-- touched. A batch leaves the files of its finished pages. A job without a file touches none.
 abbrev pub LeavesNone : Destination → JobOutputs → JobOutputs → Type 0
 LeavesNone StandardOutput was now = LeavesNoFile was.out now.out × (now.files ≡ was.files)
 LeavesNone (Path path) was now = ((now.files.named ≡ was.files.named)

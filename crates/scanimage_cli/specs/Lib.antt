@@ -21,3 +21,6 @@ pub mod Inside
 pub mod JobOutputs
 pub mod Written
 pub mod RecordedOutputs
+pub mod Words
+pub mod Causes
+pub mod HowEnded

@@ -20,6 +20,9 @@ pub record HostJob : Type 0 where
   pub host : List ℕ
   pub job : Job
 
+abbrev pub host_job : List ℕ → Job → HostJob
+host_job host job = record { host = host; job = job }
+
 -- **doing a job over the net (`NetJobIsDone`, `NetJobEnds`, `NetBatchIsDone`, `NetBatchEnds`; `DoesNetJob`,
 -- `EndsNetJob`, `DoesNetBatch`, `EndsNetBatch`)**: the same of what passed over the streams of a job that a host does
 -- (`HostJob`), as far as it is seen (`StreamViews`); one that stopped may have touched none.

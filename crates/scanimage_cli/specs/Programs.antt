@@ -1,6 +1,6 @@
 -- What the program scanimage has done where it ends well.
-use Rattle.std.specs.Prelude.{ℕ, ◌≡◌, ◌≢◌, Bool, Option, Some, None, Ok, List, [], length, slice_get, All}
-use Rattle.std.specs.Io.KnownBytes.{Appends}
+use Rattle.std.specs.Prelude.{ℕ, ◌≡◌, ◌≢◌, Bool, true, Option, Some, None, Ok, List, [], length, slice_get, All}
+use Rattle.std.specs.Io.KnownBytes.{Appends, prepend_known}
 use Rattle.netpbm.specs.Picture.{Picture}
 use Rattle.frame_join.specs.PictureText.{IsPictureFile}
 use Rattle.page_picture.specs.Shows.{ShowsFrames}
@@ -15,20 +15,23 @@ use Rattle.scan_job.specs.declared.outcome.Outcome.TheVariants.{Done}
 use Rattle.scan_job.specs.declared.report.Reports.{Reports}
 use Rattle.client_replies.specs.ProtocolStates.{target_of}
 use Rattle.net_jobs.specs.Batches.{MayScan, pages_of, IsPageFile}
-use Rattle.net_jobs.specs.JobTraces.{JobTrace, TraceEvent, EventsLead, initial_trace}
+use Rattle.net_jobs.specs.JobTraces.{JobTrace, TraceEvent, EventsLead, initial_trace, ports_named}
+use Rattle.net_jobs.specs.RunPromises.{AreAskedFor}
 use Rattle.recorded.specs.Names.{IsNamed}
 use Rattle.scan_job.specs.FileOutputs.{TakesBack}
 use Rattle.scan_job.specs.Shelves.{Stock}
 use Rattle.net_jobs.specs.Outputs.{page_outputs_from}
 use Rattle.local_job.specs.LocalPages.{with_shelf}
 use Rattle.local_job.specs.LocalRun.{with_file}
+use Rattle.config_pages.specs.InputTexts.{SeenInputs}
 use Rattle.scanimage_cli.specs.CallStreams.{FilesHeld, HeldOutput, files_held}
 use Rattle.scanimage_cli.specs.JobOutputs.{JobOutputs, LeavesNoneOfPlan}
 use Rattle.scanimage_cli.specs.DeviceList.{device_lines, net_prefix}
 use Rattle.scanimage_cli.specs.Doing.{DoesJob, DoesBatch}
-use Rattle.scanimage_cli.specs.Host.{IsAddressOf}
+use Rattle.scanimage_cli.specs.Host.{DialsBetween, IsHostCalled, dials_between}
+use Rattle.scanimage_cli.specs.NetDoing.{HostJob}
 use Rattle.scanimage_cli.specs.Printing.{Prints, TakesOrFails}
-use Rattle.scanimage_cli.specs.declared.host.ControlConnection.{ControlConnection}
+use Rattle.scanimage_cli.specs.declared.outside.Outside.{Outside}
 use Rattle.scanimage_cli.specs.declared.outputs.Outputs.{Outputs}
 use Rattle.scanimage_cli.specs.declared.planning.Destination.{Destination}
 use Rattle.scanimage_cli.specs.declared.planning.Destination.TheVariants.{StandardOutput, Path, Folder}
@@ -36,13 +39,14 @@ use Rattle.scanimage_cli.specs.declared.planning.JobPlan.{JobPlan}
 use Rattle.scanimage_cli.specs.declared.planning.Remote.{Remote}
 use Rattle.scanimage_cli.specs.declared.printed.Printout.{Printout}
 
--- what standard output, standard error and the outputs of files hold, where they tell, and whether it is noted that an
--- output failed
+-- what standard output, standard error and the outputs of files hold, where they tell, whether it is noted that an
+-- output failed, and whether a job was begun
 pub record ProgramOutputs : Type 0 where
   pub out : Option (List ℕ)
   pub err : Option (List ℕ)
   pub files : FilesHeld
   pub failed : Bool
+  pub has_begun : Bool
 
 -- what is seen of the outputs of a call
 abbrev pub seen_outputs : {O E N S : Type 0} → (O → Option (List ℕ)) → (E → Option (List ℕ)) → (N → Option (List ℕ))
@@ -52,9 +56,18 @@ seen_outputs out err named stock all = record {
   err = err all.err;
   files = files_held (named all.files.named) (stock all.files.shelf);
   failed = all.tally.failed;
+  has_begun = all.has_begun;
 }
 
--- what a job's own file can go to
+-- what was read, and the connections that were asked for, as far as they are told
+pub record OutsideSeen : Type 0 where
+  pub inputs : SeenInputs
+  pub ports : Option (List ℕ)
+
+abbrev pub seen_outside : {I H : Type 0} → (I → SeenInputs) → (H → Option (List ℕ)) → Outside I H → OutsideSeen
+seen_outside seen ports outside = record { inputs = seen outside.inputs; ports = ports outside.hosts }
+
+-- a job's own outputs: what its file can go to
 abbrev pub job_part : ProgramOutputs → JobOutputs
 job_part all = record { out = all.out; files = all.files }
 
@@ -144,17 +157,20 @@ GavePlanned Folder job trace was now = MayScan job.task (length (pages_of trace)
     × TakesBack was.files.stock (page_outputs_from 1 (pages_of trace)) now.files.stock × (now.out ≡ was.out)
     × (now.files.named ≡ was.files.named)
 
--- the job is done by the client's rules, for replies and frames that came, its file where it is to go, and what its
--- reports come to is to be printed
-pub record RanThere (job : Job) (host : List ℕ) (destination : Destination) (was now : JobOutputs)
+-- the job is done by the client's rules, for replies and frames that came, over data connections to the ports that the
+-- replies named, its file where it is to go, and what its reports come to is to be printed
+pub record RanThere (asked : HostJob) (destination : Destination) (dials : DialsBetween) (was now : JobOutputs)
     (printed : Printout) : Type 0 where
   pub reports : Reports
   pub trace : JobTrace
   pub events : List TraceEvent
-  pub runs : EventsLead (target_of job) (initial_trace job) events trace
+  pub runs : EventsLead (target_of asked.job) (initial_trace asked.job) events trace
   pub told : trace.protocol.outcome ≡ Done reports
-  pub gave : GavePlanned destination job trace was now
-  pub prints : Prints job.task (net_prefix host) job.device reports printed
+  pub dialled : List ℕ
+  pub named : AreAskedFor dialled (ports_named events)
+  pub asked_for : dials.now ≡ prepend_known dialled dials.was
+  pub gave : GavePlanned destination asked.job trace was now
+  pub prints : Prints asked.job.task (net_prefix asked.host) asked.job.device reports printed
 
 -- a job that is asked of a host: the rest of its plan, and the password
 pub record AskedThere : Type 0 where
@@ -165,31 +181,29 @@ pub record AskedThere : Type 0 where
 abbrev pub asked_there : Remote → JobPlan → List ℕ → AskedThere
 asked_there remote plan password = record { remote = remote; plan = plan; password = password }
 
--- the control connection was made to the host's address and the port that is asked
-pub record IsConnectedTo (remote : Remote) (control : ControlConnection) : Type 0 where
-  pub address : IsAddressOf remote.host control.address
-  pub port : control.port ≡ remote.port
-
--- **done at a host (`EndsWellThere`, `IsDoneThere`, `RanThere`, `IsConnectedTo`)**: the job of the plan, with the
--- password, for the device that is asked for there, done by the client's rules over a connection to the host and port
--- that are asked, its file where the plan has it go; behind it its list or table is printed, and the lines of its
--- rounded settings on standard error.
-pub record IsDoneThere (asked : AskedThere) (was now : ProgramOutputs) : Type 0 where
+-- **done at a host (`EndsWellThere`, `IsDoneThere`, `RanThere`, `IsHostCalled`)**: the job of the plan, with the
+-- password, for the device that is asked for there, done by the client's rules over one control connection, to the host
+-- and port that are asked, and data connections to the ports that its replies named. Its file goes where the plan has
+-- it go. Behind it its list or table is printed, and the lines of its rounded settings on standard error.
+pub record IsDoneThere (asked : AskedThere) (dials : DialsBetween) (was now : ProgramOutputs) : Type 0 where
   pub job : Job
   pub asked_for : IsJobOf asked.plan asked.password job
   pub device : job.device ≡ asked.remote.device
-  pub control : ControlConnection
-  pub connected : IsConnectedTo asked.remote control
+  pub connected : Option (List ℕ)
+  pub called : IsHostCalled asked.remote true dials.was connected
   pub behind : Option (List ℕ)
   pub printed : Printout
-  pub ran : RanThere job asked.remote.host asked.plan.destination (job_part was)
-      (record { out = behind; files = now.files }) printed
+  pub ran : RanThere (record { host = asked.remote.host; job = job }) asked.plan.destination
+      (dials_between connected dials.now) (job_part was) (record { out = behind; files = now.files }) printed
   pub printed_out : Appends behind now.out printed.table.items
   pub rounded : TakesOrFails was.err now.err printed.rounded.items now.failed
 
 -- the same of a call
-abbrev pub EndsWellThere : {T : Type 0} → AskedThere → HeldOutput T ProgramOutputs → Type 0
-EndsWellThere asked outputs = IsDoneThere asked (outputs.contents outputs.was) (outputs.contents outputs.now)
+abbrev pub EndsWellThere : {H T : Type 0} → AskedThere → HeldOutput H (Option (List ℕ))
+    → HeldOutput T ProgramOutputs → Type 0
+EndsWellThere asked hosts outputs =
+    IsDoneThere asked (dials_between (hosts.contents hosts.was) (hosts.contents hosts.now))
+    (outputs.contents outputs.was) (outputs.contents outputs.now)
 
 -- of the plan no file is left behind a call
 abbrev pub EndsWithNone : {T : Type 0} → JobPlan → HeldOutput T ProgramOutputs → Type 0

@@ -20,15 +20,15 @@ use Rattle.net_jobs.specs.Outputs.{texts_of}
 use Rattle.local_job.specs.LocalBatch.{IsBatchPut, pages_of_task}
 use Rattle.local_job.specs.LocalPages.{ArePageFiles, IsFileOfFirstPage, after_pages, outputs_from}
 use Rattle.local_job.specs.LocalRun.{IsPut}
-use Rattle.config_pages.specs.Devices.{AreDevicesOf}
-use Rattle.config_pages.specs.InputTexts.{InputTexts}
+use Rattle.config_pages.specs.Devices.{AreDevicesOf, calls_of_lines}
+use Rattle.config_pages.specs.InputTexts.{SeenInputs, with_calls}
 use Rattle.dispatch.specs.Table.{Table, fresh_table, listed_infos, unplug_answer}
 use Rattle.dispatch.specs.declared.config_line.ConfigLine.{ConfigLine}
 use Rattle.scanimage_cli.specs.Inputs.{AreLinesOf, IsPasswordIn}
 use Rattle.scanimage_cli.specs.Plans.{IsPlanOf}
 use Rattle.scanimage_cli.specs.Programs.{AskedHere, AskedThere, IsDeviceNamed, IsJobOf, ProgramOutputs}
 use Rattle.scanimage_cli.specs.Programs.{asked_here, asked_there}
-use Rattle.scanimage_cli.specs.Whole.{IsCarriedOut}
+use Rattle.scanimage_cli.specs.Whole.{IsCarriedOut, ProgramState}
 use Rattle.scanimage_cli.specs.declared.planning.Destination.TheVariants.{StandardOutput, Path, Folder}
 use Rattle.scanimage_cli.specs.declared.planning.JobPlan.{JobPlan}
 use Rattle.scanimage_cli.specs.declared.planning.Location.{Location}
@@ -47,10 +47,10 @@ pub record JobHere (table : Table) (asked : AskedHere) : Type 0 where
   pub setup : Setup
   pub placed : List Placement
 
--- **the file that is asked for (`IsFileAsked`, `AreFilesAsked`; `IsFileAt`, `AreFilesAt`)**: a whole file, of the
--- picture that the settings in force mean on the page of the scanner here, where the page's source is steady; or of the
--- picture that the frames show by which the job was done at the host. Of a batch one of each page, as many as were
--- asked for, or fewer, where no page was left.
+-- **the file that is asked for (`IsFileAsked`, `AreFilesAsked`; `IsFileAt`, `AreFilesAt`)**: a whole file. Here it is
+-- of the picture that the settings in force mean on the page of the scanner, if the page's source is steady. At a host
+-- it is of the picture that the frames show by which the job was done. A batch has one of each page, as many as were
+-- asked for, or fewer if no page was left.
 pub record IsFileHere (table : Table) (asked : AskedHere) (text : List ℕ) : Type 0 where
   pub here : JobHere table asked
   pub put : IsPut here.device here.job (here.setup, here.placed)
@@ -129,8 +129,8 @@ pub record HaveTaken (all : ProgramOutputs) (taken : TakenOutputs) : Type 0 wher
   pub stock : all.files.stock ≡ Some (stock_of number taken.returned)
 
 -- **written as planned (`IsWritten`)**: the file of a scan is the one that is asked for, on standard output, or in the
--- one file that was named, by the plan's name; those of a batch are the ones of its pages, numbered from 1, that the
--- shelf kept; and nothing else was written to a file.
+-- one file that was named, by the plan's name. Those of a batch are the ones of its pages, numbered from 1, that the
+-- shelf kept. Nothing else was written to a file.
 pub record IsWritten (asked : AskedAt) (was now : TakenOutputs) : Type 0 where
   pub to_output : asked.plan.task ≡ Scan → asked.plan.destination ≡ StandardOutput
       → ((text : List ℕ) × IsFileAsked asked text × (now.out ≡ was.out ++ text))
@@ -146,20 +146,23 @@ pub record IsWritten (asked : AskedAt) (was now : TakenOutputs) : Type 0 where
 
 -- a plan that was carried out is written
 abbrev pub CarriedOutIsWritten : Type 0
-CarriedOutIsWritten = (texts : InputTexts) (plan : Plan) (table : Table) (was now : ProgramOutputs)
-    → (old new : TakenOutputs) → HaveTaken was old → HaveTaken now new
-    → (carried : IsCarriedOut texts plan table was now)
+CarriedOutIsWritten = (plan : Plan) (table : Table) (was now : ProgramState)
+    → (old new : TakenOutputs) → HaveTaken was.outputs old → HaveTaken now.outputs new
+    → (carried : IsCarriedOut plan table was now)
     → IsWritten (planned_at plan.location table plan.job carried.password) old new
 
 -- **written for the words (`IsWrittenFor`)**: they have a plan, and what it asks for was written as planned, with the
--- scanners of the config's lines and the password in the file that it names
-pub record IsWrittenFor (texts : InputTexts) (words : List (List ℕ)) (was now : TakenOutputs) : Type 0 where
+-- scanners of the lines of the config that was read, if they name one, and the password that was read in the file that
+-- they name. Nothing else was read, but the page files of these lines.
+pub record IsWrittenFor (words : List (List ℕ)) (read_was read_now : SeenInputs) (was now : TakenOutputs)
+    : Type 0 where
   pub plan : Plan
   pub is_plan : IsPlanOf words plan
   pub lines : List ConfigLine
-  pub config : AreLinesOf texts plan.config lines
+  pub configured : SeenInputs
+  pub config : AreLinesOf plan.config read_was configured lines
   pub devices : List DeviceState
-  pub of_lines : AreDevicesOf Big lines devices
+  pub of_lines : AreDevicesOf configured.texts Big lines devices
   pub password : List ℕ
-  pub read : IsPasswordIn texts plan.password_file password
+  pub read : IsPasswordIn plan.password_file (with_calls (calls_of_lines lines) configured) read_now password
   pub written : IsWritten (planned_at plan.location (fresh_table devices) plan.job password) was now

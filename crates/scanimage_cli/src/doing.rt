@@ -22,9 +22,9 @@ pub fn do_job<W: Write>(
     output: &mut W,
     outputs: &mut OutputTally,
 ) -> Result<Printout, Ending>
-    /// `do_job` gives what is to be printed just where the job is done: an output that tells its bytes then took the
-    /// whole file of the picture that the settings in force mean on the scanner's page (where the page's source is
-    /// steady), or nothing, where the job is no scan.
+    /// `do_job` gives what is to be printed just when the job is done. An output that tells its bytes then took the whole file of
+    /// the picture that the settings in force mean on the scanner's page (if the page's source is steady), or, of a job that is
+    /// no scan, nothing.
     /// Carried by: `done` of `do_job`: `DoesJob`
     ///
     /// What is to be printed is the list or the table of the job's reports, and a line for each setting that was

@@ -2,11 +2,14 @@ ghost use Rattle.std.specs.Prelude.{◌≡◌, None, IfSome};
 ghost use Rattle.std.specs.declared.net.ipv4_addr.Ipv4Addr.{Ipv4Addr as Address};
 ghost use Rattle.scanimage_cli.specs.Host.{IsAddressOf};
 
+use crate::hosts::{HostPoint, Hosts};
 use net_backend::{Dial, DialFault};
 use std::net::{Ipv4Addr, SocketAddr, TcpStream};
 
 /// The address of a host: an IPv4 address, or `localhost`, which is 127.0.0.1. No other name is known.
-fn address_of(host: &[u8]) -> Option<Ipv4Addr>
+pub fn address_of(host: &[u8]) -> Option<Ipv4Addr>
+    /// The address of a host is 127.0.0.1 for `localhost`, that of the text of an IPv4 address, and none of any other text.
+    /// Carried by: `known`, `unknown` of `address_of`: `IsAddressOf`
     ensures known { IfSome result (IsAddressOf host.now) }
     ensures unknown { result ≡ None → (address : Address) → ¬ (IsAddressOf host.now address) }
 {
@@ -16,62 +19,47 @@ fn address_of(host: &[u8]) -> Option<Ipv4Addr>
     Ipv4Addr::parse_ascii(host).ok()
 }
 
-/// The control connection of a job, and where it was made to.
-#[derive(Drop)]
-pub struct ControlConnection {
-    pub address: Ipv4Addr,
-    pub port: u16,
-    pub stream: TcpStream,
-}
-
-/// The connections to a host. Each waits for the host.
+/// The connections to a host, over TCP. Each waits for the host.
 #[derive(Drop)]
 pub struct HostDial<'a> {
     rt: &'a HostRuntime,
-    pub address: Ipv4Addr,
-    /// Whether a data connection is made as soon as its port is known, as SANE's own daemon wants it.
+    address: Ipv4Addr,
+    /// Whether a data connection is made as soon as its port is known.
     is_first: bool,
     /// One that was made so, with its port, and was not asked for yet.
     held: Option<(u16, TcpStream)>,
 }
 
 impl<'a> HostDial<'a> {
-    ghost use Rattle.std.specs.Prelude.{◌≡◌, None, IfOk, IfSome, true, false};
-    ghost use Rattle.std.specs.declared.net.ipv4_addr.Ipv4Addr.{Ipv4Addr as Address};
-    ghost use Rattle.scanimage_cli.specs.Host.{IsAddressOf, held_for};
+    ghost use Rattle.std.specs.Prelude.{◌≡◌, None, IfSome, true, false};
+    ghost use Rattle.scanimage_cli.specs.Host.{held_for};
 
-    /// Those to an IPv4 address or to `localhost`; `None` where the host is neither. Where `is_first`, a data connection is
-    /// made as soon as its port is known.
-    pub fn new(rt: &'a HostRuntime, host: &[u8], is_first: bool) -> Option<HostDial<'a>>
-        /// The address of a host is 127.0.0.1 for `localhost`, that of the text of an IPv4 address, and none of any
-        /// other text.
-        /// Carried by: `HostDial::new`: `IsAddressOf`
-        ensures known { IfSome result (λ dial. IsAddressOf host.now dial.address) }
-        ensures unknown { result ≡ None → (address : Address) → ¬ (IsAddressOf host.now address) }
-        /// No data connection is made at first, and before they are asked for only where that is wanted.
-        /// Carried by: `fresh` of `HostDial::new`, `off` of the private `hold`
-        ensures fresh { IfSome result (λ dial. (dial.is_first ≡ is_first) × (dial.held ≡ None)) }
+    /// Those to this machine, until another host is dialled.
+    pub fn new(rt: &'a HostRuntime) -> HostDial<'a>
+        ensures { result.held ≡ None }
     {
-        let address = address_of(host)?;
-        Some(HostDial {
+        HostDial {
             rt,
-            address,
-            is_first,
+            address: Ipv4Addr::LOCALHOST,
+            is_first: false,
             held: None,
-        })
+        }
     }
 
-    /// The control connection to that port of the host.
-    pub fn control(&self, port: u16) -> Result<ControlConnection, DialFault>
-        /// The control connection is made to the host's address and the port that is asked for.
-        ensures { IfOk result (λ made. (made.address ≡ self.now.address) × (made.port ≡ port)) }
+    /// From here on connections go to that host. One that is held is closed.
+    pub fn turn_to(&mut self, address: Ipv4Addr, is_first: bool)
+        /// Connections are made to the host that was dialled last, in the way that was wanted of it; none is made at first, and
+        /// before they are asked for only where that is wanted.
+        /// Carried by: `turned` of `HostDial::turn_to`, `off` of the private `hold`
+        ensures turned { self.new ≡ record self.old {
+          address = address;
+          is_first = is_first;
+          held = None;
+        } }
     {
-        let stream = self.connect(port)?;
-        Ok(ControlConnection {
-            address: self.address,
-            port,
-            stream,
-        })
+        self.address = address;
+        self.is_first = is_first;
+        self.held = None;
     }
 
     fn connect(&self, port: u16) -> Result<TcpStream, DialFault> {
@@ -116,5 +104,14 @@ impl Dial for HostDial<'_> {
             Some(conn) => Ok(conn),
             None => self.connect(port),
         }
+    }
+}
+
+impl Hosts for HostDial<'_> {
+    type Control = TcpStream;
+
+    fn control(&mut self, at: HostPoint) -> Result<TcpStream, DialFault> {
+        self.turn_to(at.address, at.is_first);
+        self.connect(at.port)
     }
 }

@@ -23,9 +23,9 @@ fn names_answered(alloc: Global, host: &[u8], job: &Job) -> Result<(Vec<u8>, Tex
     Ok((net_prefix(alloc, host)?, job.device.try_clone(alloc)?))
 }
 
-/// Does a job of one file on a daemon of that host, over a control connection and the data connections that are dialed,
-/// and gives what is to be printed of it, which is there before the last bytes of its file go out. A job that ends otherwise, or
-/// an output that fails, leaves no whole file.
+/// Does a job of one file on a daemon of that host, over a control connection and the data connections that are dialed. Gives
+/// what is to be printed of it, which is there before the last bytes of its file go out. A job that ends otherwise, or an output
+/// that fails, leaves no whole file.
 pub fn do_net_job<C: Read + Write, D: Dial, W: Write>(
     alloc: Global,
     host: &[u8],
@@ -35,15 +35,14 @@ pub fn do_net_job<C: Read + Write, D: Dial, W: Write>(
     output: &mut W,
     outputs: &mut OutputTally,
 ) -> Result<Printout, Ending>
-    /// `do_net_job` gives what is to be printed just where the job is done by the client's rules, for the replies
-    /// that it read and the frames that came: an output that tells its bytes then took the whole file of the picture
-    /// that these frames show.
+    /// `do_net_job` gives what is to be printed just when the job is done by the client's rules, for the replies that it read and
+    /// the frames that came. An output that tells its bytes then took the whole file of the picture that these frames show.
     /// Carried by: `done` of `do_net_job`: `NetJobIsDone`, `DoesNetJob`
     ensures done { IfOk result (NetJobIsDone host.now job
         (passed C.remaining C.contents control.old control.new)
         (dialled D.ports D.prepared D.coming dial.old dial.new)
         (held W.contents output.old output.new)) }
-    /// Where it gives an ending instead, an output that tells its bytes took no whole file, and the ending is the
+    /// If it gives an ending instead, no front of what an output took that tells its bytes is a whole file. The ending is the
     /// status and the why with which the job stopped, never GOOD, whatever the daemon says.
     /// Carried by: `no_file`, `ended` of `do_net_job`
     ensures no_file { OnErr result (StopsShort (W.contents output.old) (W.contents output.new)) }

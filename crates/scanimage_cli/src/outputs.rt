@@ -13,6 +13,8 @@ pub struct Outputs<O, E, N, S> {
     pub out: O,
     pub err: E,
     pub files: JobFiles<N, S>,
+    /// Whether a job was begun.
+    pub has_begun: bool,
     /// Of the calls by which what is asked for is done.
     pub tally: OutputTally,
     /// Of those by which an ending is told.

@@ -211,8 +211,8 @@ pub fn plan_by_options(
 /// The plan of the words of a command line, without the program's name. `BadCommandLine` where they cannot be split, where `clap`
 /// refuses the program's own, and where there is no plan of the options.
 pub fn plan_of(alloc: Global, words: &[Text]) -> Result<Plan, Ending>
-    /// From the words of a command line to the plan nothing is free: the config and the password's file that are read, the
-    /// device and where it is, the user, the settings in their order, the task, and where its file goes.
+    /// The words of a command line alone decide the plan: the config and the password's file that are read, the device and where
+    /// it is, the user, the settings in their order, the task, and where its file goes.
     /// Carried by: `planned` of `plan_of`
     ensures planned { IfOk result (IsPlanOf words.now) }
     /// There is no plan for want of memory alone, or the command line is refused as such.

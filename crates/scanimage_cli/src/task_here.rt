@@ -2,6 +2,7 @@ ghost use Rattle.std.specs.Prelude.{◌≡◌, true, IfOk, IfErr, OnOk, OnErr};
 ghost use Rattle.dispatch.specs.Table.{listed_infos};
 ghost use Rattle.scanimage_cli.specs.Programs.{DoesPlanned, EndsWellHere, EndsWithNone, IsDeviceNamed, asked_here, scanner_table, seen_outputs};
 ghost use Rattle.scanimage_cli.specs.CallStreams.{held};
+ghost use Rattle.scanimage_cli.specs.Causes.{EndsPlanned, FailsHere, IsUnnamed};
 ghost use Rattle.scanimage_cli.specs.JobOutputs.{LeavesNone, job_outputs};
 ghost use Rattle.scanimage_cli.specs.Ending.{IsFailure, IsOfJob, IsOfOutput};
 
@@ -42,6 +43,11 @@ fn run_job<O: Write, N: NamedOutput, S: Shelf>(
     ensures failed { IfErr result IsFailure }
     // It is a status and its cause.
     ensures told { IfErr result IsOfJob }
+    // It is that of the job, for a reason that a job on the device has.
+    ensures ended { IfErr result
+        (EndsPlanned destination job.now (state device.old, state device.new)
+        (job_outputs (O.contents out.old) (N.contents files.old.named) (S.stock files.old.shelf))
+        (job_outputs (O.contents out.new) (N.contents files.new.named) (S.stock files.new.shelf))) }
 {
     match destination {
         Destination::StandardOutput => do_job(alloc, device, job, out, outputs),
@@ -65,6 +71,8 @@ fn device_name(
     ensures failed { IfErr result IsFailure }
     // It is a status and its cause.
     ensures told { IfErr result IsOfJob }
+    ensures unnamed { IfErr result
+        (IsUnnamed named (listed_infos (scanner_table registry.now))) }
 {
     if let Some(name) = named {
         return Ok(name);
@@ -90,15 +98,15 @@ pub fn run_task<O: Write, E: Write, N: NamedOutput, S: Shelf>(
     password: Text,
     outputs: &mut Outputs<O, E, N, S>,
 ) -> Result<(), Ending>
-    /// Where what is asked for here ends well, it is done: a list of devices is printed; or the job of the plan is done as
-    /// `do_job` or `do_batch` says, on the device that is named, or on the first, its file where the plan has it go, its table
+    /// If what is asked for here ends well, it is done. A list of devices is printed; or the job of the plan is done as `do_job`
+    /// or `do_batch` says, on the device that is named, or on the first. Its file goes where the plan has it go, its table is
     /// printed behind it, and its rounded settings on standard error.
     /// Carried by: `done` of `run_task`: `EndsWellHere`, `IsDoneHere`
     ensures done { OnOk result
         (EndsWellHere (scanner_table registry.old) (asked_here device plan password)
         (held (seen_outputs O.contents E.contents N.contents S.stock) outputs.old outputs.new)) }
-    /// Where it does not, the output that the file of a scan was to go to took no whole file, where it tells its bytes, and no
-    /// other was touched; a batch leaves its finished pages alone; and what has no file touches none.
+    /// If it does not, no front of what the output of a scan's file took is a whole file, if it tells its bytes, and no other
+    /// output was touched. A batch leaves its finished pages alone, and a task without a file touches none.
     /// Carried by: `no_file` of `run_task`: `EndsWithNone`, `LeavesNoneOfPlan`
     ensures no_file { OnErr result (EndsWithNone plan
         (held (seen_outputs O.contents E.contents N.contents S.stock) outputs.old outputs.new)) }
@@ -113,6 +121,12 @@ pub fn run_task<O: Write, E: Write, N: NamedOutput, S: Shelf>(
     /// What is asked for that does not end well is told by a status and its cause, and not as a bad command line.
     /// Carried by: `told` of `run_task`, `run_net_task`
     ensures told { IfErr result IsOfJob }
+    /// An ending has its cause: want of memory, or no such device, before a job was begun; a job that was begun on that device,
+    /// and stopped for a reason that such a job has; or a list or table that was not taken.
+    /// Carried by: `ended` of `run_task`: `FailsHere`, `EndsHere`
+    ensures ended { IfErr result
+        (FailsHere (scanner_table registry.old) (asked_here device plan password)
+        (held (seen_outputs O.contents E.contents N.contents S.stock) outputs.old outputs.new)) }
 {
     if plan.task == Task::List {
         let Ok(devices) = registry.list(alloc) else {
@@ -145,6 +159,7 @@ pub fn run_task<O: Write, E: Write, N: NamedOutput, S: Shelf>(
         return Err(Ending::no_memory());
     };
     let mut device: Box<dyn Device> = scanner;
+    outputs.has_begun = true;
     let printed = run_job(
         alloc,
         &mut *device,

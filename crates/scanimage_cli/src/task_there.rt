@@ -1,11 +1,15 @@
 ghost use Rattle.std.specs.Prelude.{◌≡◌, true, IfOk, IfErr, OnOk, OnErr};
-ghost use Rattle.scanimage_cli.specs.Programs.{EndsWellThere, EndsWithNone, IsConnectedTo, RanThere, asked_there, seen_outputs};
+ghost use Rattle.scanimage_cli.specs.Programs.{EndsWellThere, EndsWithNone, RanThere, asked_there, seen_outputs};
 ghost use Rattle.scanimage_cli.specs.CallStreams.{held};
+ghost use Rattle.scanimage_cli.specs.Causes.{EndsNetPlanned, FailsThere, IsUnconnected};
+ghost use Rattle.scanimage_cli.specs.Host.{IsHostCalled, dials_between};
 ghost use Rattle.scanimage_cli.specs.JobOutputs.{LeavesNone, job_outputs};
+ghost use Rattle.scanimage_cli.specs.NetDoing.{host_job};
 ghost use Rattle.scanimage_cli.specs.Ending.{IsFailure, IsOfJob, IsOfOutput};
 
 use crate::ending::Ending;
-use crate::host::{ControlConnection, HostDial};
+use crate::host::address_of;
+use crate::hosts::{HostPoint, Hosts};
 use crate::net_doing::{do_net_batch, do_net_job};
 use crate::outputs::{JobFiles, Outputs};
 use crate::planning::{Destination, JobPlan, Remote};
@@ -18,38 +22,45 @@ use scan_job::{Job, Shelf};
 use std::alloc::Global;
 use std::io::Write;
 
-/// What makes the connections to a host, and the control connection to the port that is asked.
-fn connections<'a>(
-    rt: &'a HostRuntime,
-    remote: &Remote,
-) -> Result<(HostDial<'a>, ControlConnection), Ending>
-    ensures connected { IfOk result (λ made. IsConnectedTo remote.now made.1) }
+/// The control connection to the host and the port that are asked.
+fn connection<H: Hosts>(hosts: &mut H, remote: &Remote) -> Result<H::Control, Ending>
+    ensures called { OnOk result
+        (IsHostCalled remote.now true (H.ports hosts.old) (H.ports hosts.new)) }
     ensures spares { IfErr result (λ ending. ¬ IsOfOutput ending) }
     ensures failed { IfErr result IsFailure }
     // It is a status and its cause.
     ensures told { IfErr result IsOfJob }
+    ensures unconnected { IfErr result
+        (IsUnconnected remote.now (H.ports hosts.old) (H.ports hosts.new)) }
 {
-    let Some(dial) = HostDial::new(rt, remote.host.as_bytes(), remote.dial_first) else {
+    let Some(address) = address_of(remote.host.as_bytes()) else {
         return Err(Ending::ending_of_loss());
     };
-    match dial.control(remote.port) {
-        Ok(control) => Ok((dial, control)),
+    let at = HostPoint {
+        address,
+        port: remote.port,
+        is_first: remote.dial_first,
+    };
+    match hosts.control(at) {
+        Ok(control) => Ok(control),
         Err(_) => Err(Ending::ending_of_loss()),
     }
 }
 
 /// Does a job over connections to its host, its file where it is to go.
-fn run_job<O: Write, N: NamedOutput, S: Shelf>(
+fn run_job<H: Hosts, O: Write, N: NamedOutput, S: Shelf>(
     alloc: Global,
     host: &[u8],
     job: Job,
     destination: Destination,
-    made: (HostDial<'_>, ControlConnection),
+    hosts: &mut H,
+    control: H::Control,
     out: &mut O,
     files: &mut JobFiles<N, S>,
     outputs: &mut OutputTally,
 ) -> Result<Printout, Ending>
-    ensures ran { IfOk result (RanThere job host.now destination
+    ensures ran { IfOk result (RanThere (host_job host.now job) destination
+        (dials_between (H.ports hosts.old) (H.ports hosts.new))
         (job_outputs (O.contents out.old) (N.contents files.old.named) (S.stock files.old.shelf))
         (job_outputs (O.contents out.new) (N.contents files.new.named) (S.stock files.new.shelf))) }
     ensures no_file { OnErr result (LeavesNone destination
@@ -59,41 +70,44 @@ fn run_job<O: Write, N: NamedOutput, S: Shelf>(
     ensures failed { IfErr result IsFailure }
     // It is a status and its cause.
     ensures told { IfErr result IsOfJob }
+    // It is that of the job, for a reason that a job at a host has.
+    ensures ended { IfErr result (EndsNetPlanned job
+        (dials_between (H.ports hosts.old) (H.ports hosts.new))) }
 {
-    let (mut dial, mut control) = made;
-    let stream = &mut control.stream;
+    let mut stream = control;
+    let stream = &mut stream;
     match destination {
-        Destination::StandardOutput => {
-            do_net_job(alloc, host, job, stream, &mut dial, out, outputs)
-        }
+        Destination::StandardOutput => { do_net_job(alloc, host, job, stream, hosts, out, outputs) }
         Destination::Path(path) => {
             files.named.begin(path);
             let named = &mut files.named;
-            do_net_job(alloc, host, job, stream, &mut dial, named, outputs)
+            do_net_job(alloc, host, job, stream, hosts, named, outputs)
         }
         Destination::Folder => {
             let shelf = &mut files.shelf;
-            do_net_batch(alloc, host, job, stream, &mut dial, shelf, outputs)
+            do_net_batch(alloc, host, job, stream, hosts, shelf, outputs)
         }
     }
 }
 
 /// Does what is asked for on the daemon of a host, with the device of that name there.
-pub fn run_net_task<O: Write, E: Write, N: NamedOutput, S: Shelf>(
-    rt: &HostRuntime,
+pub fn run_net_task<H: Hosts, O: Write, E: Write, N: NamedOutput, S: Shelf>(
+    alloc: Global,
+    hosts: &mut H,
     remote: Remote,
     plan: JobPlan,
     password: Text,
     outputs: &mut Outputs<O, E, N, S>,
 ) -> Result<(), Ending>
-    /// Where a job over the net ends well, it is the one that the plan has for that host, port and device, done by the client's
-    /// rules, its file where the plan has it go, and behind it its list or table is printed, and its rounded settings on standard
-    /// error.
+    /// If a job over the net ends well, it is the one that the plan has for that host, port and device, done by the client's
+    /// rules over one control connection to that host and port. Its file goes where the plan has it go. Behind it its list or
+    /// table is printed, and its rounded settings on standard error.
     /// Carried by: `done` of `run_net_task`: `EndsWellThere`, `IsDoneThere`
     ensures done { OnOk result (EndsWellThere (asked_there remote plan password)
+        (held H.ports hosts.old hosts.new)
         (held (seen_outputs O.contents E.contents N.contents S.stock) outputs.old outputs.new)) }
-    /// Where it does not, the output that the file of a scan over the net was to go to took no whole file, where it tells its
-    /// bytes, and no other was touched; a batch leaves its finished pages alone; and what has no file touches none.
+    /// If it does not, no front of what the output of a scan's file took is a whole file, if it tells its bytes, and no other
+    /// output was touched. A batch leaves its finished pages alone, and a task without a file touches none.
     /// Carried by: `no_file` of `run_net_task`: `EndsWithNone`, `LeavesNoneOfPlan`
     ensures no_file { OnErr result (EndsWithNone plan
         (held (seen_outputs O.contents E.contents N.contents S.stock) outputs.old outputs.new)) }
@@ -105,6 +119,13 @@ pub fn run_net_task<O: Write, E: Write, N: NamedOutput, S: Shelf>(
     ensures failed { IfErr result IsFailure }
     // It is a status and its cause.
     ensures told { IfErr result IsOfJob }
+    /// An ending has its cause: want of memory, a job that is too large or a host without an address, before a connection was
+    /// asked for; a control connection that was not made; a job that was begun over one, and stopped for a reason that its
+    /// replies, frames and moves show; or a list or table that was not taken.
+    /// Carried by: `ended` of `run_net_task`: `FailsThere`, `EndsThere`
+    ensures ended { IfErr result (FailsThere (asked_there remote plan password)
+        (held H.ports hosts.old hosts.new)
+        (held (seen_outputs O.contents E.contents N.contents S.stock) outputs.old outputs.new)) }
 {
     let JobPlan {
         user,
@@ -112,7 +133,7 @@ pub fn run_net_task<O: Write, E: Write, N: NamedOutput, S: Shelf>(
         task,
         destination,
     } = plan;
-    let Ok(device) = remote.device.try_clone(rt.alloc()) else {
+    let Ok(device) = remote.device.try_clone(alloc) else {
         return Err(Ending::no_memory());
     };
     let job = Job {
@@ -126,13 +147,15 @@ pub fn run_net_task<O: Write, E: Write, N: NamedOutput, S: Shelf>(
     if let Some(ending) = Ending::of_refused(&job) {
         return Err(ending);
     }
-    let made = connections(rt, &remote)?;
+    let control = connection(hosts, &remote)?;
+    outputs.has_begun = true;
     let printed = run_job(
-        rt.alloc(),
+        alloc,
         remote.host.as_bytes(),
         job,
         destination,
-        made,
+        hosts,
+        control,
         &mut outputs.out,
         &mut outputs.files,
         &mut outputs.tally,

@@ -1,7 +1,7 @@
 //! Each call of the frontend that takes memory, where there is enough.
 
 use crate::common::{ONE_PLACE, job, text};
-use config_pages::Inputs;
+use config_pages::{Inputs, RecordedInputs, text_of};
 use device_api::DeviceInfo;
 use local_job::OutputTally;
 use option_desc::{Constraint, Descriptor, Value};
@@ -9,11 +9,12 @@ use page_picture::DeviceKind;
 use sane_fixed::{ByteOrder, Cap, Fixed, Info, Kind, Text, Unit};
 use scan_job::{Report, Task};
 use scanimage_cli::{
-    Ending, Input, SplitFault, config_lines, device_list, do_job, options_table, password_of,
-    read_options, rounded_lines, split_words, task_of, words_of,
+    Ending, Input, SplitFault, WordSource, config_lines, device_list, do_job, options_table,
+    password_of, read_options, rounded_lines, split_words, task_of, words_of,
 };
 use std::alloc::Global;
-use std::env::{Env, FillError};
+use std::env::FillError;
+use std::fs::File;
 use std::io::{self, ErrorKind};
 use std::process::Abort;
 use testing::{dots, scanner};
@@ -64,24 +65,29 @@ struct OneText {
 }
 
 impl Inputs for OneText {
-    ghost use Rattle.std.specs.Prelude.{Some};
+    ghost use Rattle.std.specs.Prelude.{None, Some};
 
-    type Reader = &'static [u8];
+    type Page = File;
 
-    ghost standard_text = { λ it. Some it.text.now };
+    ghost seen = { λ it. record {
+      texts = record { standard = Some it.text.now; file = λ _. Some it.text.now };
+      calls = None;
+    } };
 
-    ghost file_text = { λ it _. Some it.text.now };
-
-    fn standard(&self) -> &'static [u8] {
-        self.text
+    fn standard(&mut self, alloc: Global, most: u64) -> io::Result<Vec<u8>> {
+        text_of(alloc, self.text, most)
     }
 
-    fn file(&self, path: &[u8]) -> io::Result<&'static [u8]> {
+    fn file(&mut self, alloc: Global, path: &[u8], most: u64) -> io::Result<Vec<u8>> {
         if path == b"a".as_slice() {
-            Ok(self.text)
+            text_of(alloc, self.text, most)
         } else {
             Err(io::Error::from(ErrorKind::NotFound))
         }
+    }
+
+    fn page(&mut self, _path: &[u8]) -> io::Result<File> {
+        Err(io::Error::from(ErrorKind::NotFound))
     }
 }
 
@@ -93,25 +99,25 @@ const LINES: &[(u32, u32, usize)] = &[(2, 0, 1), (4, 1, 2)];
 fn texts_that_are_named(rt: HostRuntime) {
     let alloc = rt.alloc();
     let text = b"# two\nflatbed 0 26 a.pnm\n\nfeeder 1 26 a.pnm b.pnm\n";
-    let config = OneText { text };
+    let mut config = RecordedInputs::new(OneText { text });
     let text = b"first\r\nsecond\n";
-    let secret = OneText { text };
+    let mut secret = RecordedInputs::new(OneText { text });
     let there = testing::text(alloc, b"a");
-    let Ok(lines) = config_lines(alloc, &config, &Some(Input::StandardInput)) else {
+    let Ok(lines) = config_lines(alloc, &mut config, &Some(Input::StandardInput)) else {
         panic!(&rt; "no lines")
     };
     assert!(&rt; lines.len() == LINES.len());
     for (line, told) in lines.as_slice().iter().zip(LINES) {
         assert!(&rt; (line.line, line.index, line.pages.len()) == *told);
     }
-    let Ok(password) = password_of(alloc, &secret, &there) else {
+    let Ok(password) = password_of(alloc, &mut secret, &there) else {
         panic!(&rt; "no password")
     };
     assert!(&rt; password.as_bytes() == b"first".as_slice());
     let other = testing::text(alloc, b"-");
     assert!(&rt;
         matches!(
-            password_of(alloc, &secret, &other),
+            password_of(alloc, &mut secret, &other),
             Err(Ending::CannotRead(_))
         )
     );
@@ -194,28 +200,20 @@ fn a_scan_that_is_printed(rt: HostRuntime) {
     drop(device);
 }
 
-/// A command line whose second word is too long.
-struct Words;
+/// A command line whose third word is too long.
+struct LongWord;
 
-impl Env for Words {
-    fn arg(&self, i: usize, _buf: &mut [u8]) -> Result<usize, FillError> {
+impl WordSource for LongWord {
+    fn word(&self, i: usize, _room: &mut [u8]) -> Result<usize, FillError> {
         match i {
             1 => Ok(0),
             2 => Err(FillError::TooLong),
             _ => Err(FillError::NotPresent),
         }
     }
-
-    fn var(&self, _name: &str, _buf: &mut [u8]) -> Result<usize, FillError> {
-        Err(FillError::NotPresent)
-    }
-
-    fn var_at(&self, _i: usize, _buf: &mut [u8]) -> Result<usize, FillError> {
-        Err(FillError::NotPresent)
-    }
 }
 
 #[test]
 fn a_word_that_cannot_be_had(rt: HostRuntime) {
-    assert!(&rt; matches!(words_of(rt.alloc(), &Words), Err(SplitFault::Bad)));
+    assert!(&rt; matches!(words_of(rt.alloc(), &LongWord), Err(SplitFault::Bad)));
 }

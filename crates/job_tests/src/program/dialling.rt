@@ -1,7 +1,7 @@
 //! Connections to a host that are made before they are asked for, over loopback.
 
 use net_backend::Dial;
-use scanimage_cli::HostDial;
+use scanimage_cli::{HostDial, address_of};
 use std::alloc::Global;
 use std::io::{Read, Write};
 use std::net::{Ipv4Addr, SocketAddr, TcpListener, TcpStream};
@@ -18,7 +18,10 @@ fn listener(rt: &HostRuntime) -> Result<(TcpListener, u16), Fail> {
 
 /// Those to this machine.
 fn dial<'a>(end: &impl Abort, rt: &'a HostRuntime, is_first: bool) -> HostDial<'a> {
-    HostDial::new(rt, b"127.0.0.1", is_first).expect(end, "an address")
+    let address = address_of(b"127.0.0.1").expect(end, "an address");
+    let mut dial = HostDial::new(rt);
+    dial.turn_to(address, is_first);
+    dial
 }
 
 /// Says that byte on the connection that came, and ends it.

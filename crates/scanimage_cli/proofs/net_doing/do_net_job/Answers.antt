@@ -1,5 +1,6 @@
 use Rattle.std.proofs.Common.{rules, refl, inl, inr}
 use Rattle.scanimage_cli.proofs.NetDone.{short_of}
+use Rattle.scanimage_cli.proofs.Carried.{nothing_stops_short}
 use Rattle.scanimage_cli.proofs.net_doing.do_net_job.Goals as goal
 
 pub returns-in_default-clause-ended : goal.returns-in_default-clause-ended
@@ -13,3 +14,6 @@ returns-clause-no_file g c = short_of _ g.D.Dial.coming g.W.Write.contents c.arg
 
 pub returns-clause-ended : goal.returns-clause-ended
 returns-clause-ended g c = record { stop = c.in-Err.stop; told = c.of.ensures; reason = c.in-Err.ensures.ended }
+
+pub returns-in_default-clause-no_file : goal.returns-in_default-clause-no_file
+returns-in_default-clause-no_file g c = nothing_stops_short _

@@ -3,6 +3,7 @@ use Rattle.std.proofs.lemmas.Result.{err_from_is_err_and}
 use Rattle.scan_job.specs.declared.job.Task.TheVariants.{List as ListTask}
 use Rattle.virtual_scanner.specs.Scanners.{scanner_state}
 use Rattle.dispatch.specs.Table.{seen_unplug, table, unplug_answer}
+use Rattle.scanimage_cli.specs.Causes.EndsHere.{ByJob}
 use Rattle.scanimage_cli.proofs.Carried.{batch_prints_none, does_spare, job_leaves, list_leaves, listed, on_err, on_ok_of, on_ok_of_two, print_leaves, scan_prints_none, untouched_plan}
 use denote.Param.Object.{read_made}
 use Rattle.scanimage_cli.proofs.task_here.run_task.OwnLists.{at-1-1, own-1}
@@ -63,3 +64,14 @@ pub returns-in_err-printed-clause-output : goal.returns-in_err-printed-clause-ou
 returns-in_err-printed-clause-output g c =
     let p = err_from_is_err_and c.from_residual-in_err-printed.result c.from_residual-in_err-printed.ensures.1 in
     rw (p.1, p.2) c.in_err-printed.ensures.output
+
+pub returns-in_err-printed-clause-ended : goal.returns-in_err-printed-clause-ended
+returns-in_err-printed-clause-ended g c =
+    let p = err_from_is_err_and c.from_residual-in_err-printed.result c.from_residual-in_err-printed.ensures.1 in
+    let name : c.as_bytes.result.now ≡ c.in_ok-device.device = search rules in
+    let is = read_made own-1 (own-1.entry at-1-1) at-1-1 refl _ (λ j v. j.1.state v) c.into_dyn_box-device.result.vtable c.into_dyn_box-device.result.value c.in-Ok-new.scanner.value c.into_dyn_box-device.ensures.1 ∙ ap scanner_state c.in-Ok-new.ensures.ok in
+    rw (p.1, p.2)
+    (ByJob (record { user = c.args.plan.user; password = c.args.password; device = c.in_ok-device.device; settings = c.args.plan.settings; task = c.args.plan.task })
+    (record { user = refl; password_is = refl; settings_are = refl; task = refl }) c.in_ok-device.ensures.named _
+    (ap (unplug_answer (table scanner_state c.args.registry.now)) (sym name) ∙ (sym c.unplug.ensures.answer ∙ (ap (seen_unplug scanner_state) c.in-Ok-unplug.is ∙ (ap Ok (sym is) ∙ ap (λ d. Ok ((own-1.entry d.0).1.state d.1)) (sym c.deref_box_mut-1.ensures.value.1)))))
+    refl c.in_err-printed.ensures.ended)
