@@ -5,7 +5,6 @@ ghost use Rattle.std.specs.Prelude.{◌≡◌, ◌≢◌, IfErr, IfSome, None, O
 ghost use Rattle.std.specs.Io.KnownBytes.{Appends};
 ghost use Rattle.std.specs.Process.{exit_status as code_of};
 ghost use Rattle.saned_core.specs.DaemonStates.{core};
-ghost use Rattle.config_pages.specs.InputTexts.{input_texts};
 ghost use Rattle.virtual_scanner.specs.Scanners.{scanner_state};
 ghost use Rattle.saned_cli.specs.DaemonEndings.{IsDaemonFailure, IsServeFailure, daemon_exit_status};
 ghost use Rattle.saned_cli.specs.OwnTexts.{own_text, text_asked};
@@ -18,8 +17,8 @@ use crate::daemon_command_line::words;
 use config_pages::{HostInputs, Inputs, scanners};
 use dispatch::Registry;
 use saned_cli::{
-    DaemonEnding, DaemonPlan, LocalNet, OwnText, ServeEnd, config_lines, plan_of, serve,
-    text_asked, users_of,
+    DaemonEnding, DaemonPlan, LocalNet, OwnText, SOCKET_TABLE, ServeEnd, SystemSockets,
+    config_lines, plan_of, serve, text_asked, users_of,
 };
 use saned_core::Daemon;
 use std::fs::File;
@@ -40,13 +39,12 @@ fn serve_at(
     ensures failed { IfErr result IsServeFailure }
 {
     let options = &plan.options;
-    let mut net = match LocalNet::bind(*rt, rt.alloc(), options.port) {
+    let sockets = SystemSockets::new(*rt, rt.alloc(), SOCKET_TABLE);
+    let mut net = match LocalNet::bind(sockets, *rt, rt.alloc(), options.port) {
         Ok(net) => net.with_data_ports(options.data_ports),
         Err(fault) => return Err(DaemonEnding::of_bind(&fault)),
     };
-    let Ok(port) = net.port() else {
-        return Err(DaemonEnding::CannotListen);
-    };
+    let port = net.port();
     // Nobody need read it: the daemon serves all the same.
     let _ = println!(rt; "port {port}");
     match serve(
@@ -62,16 +60,19 @@ fn serve_at(
 }
 
 /// Reads the config and the users, makes the devices, and serves as the words say.
-fn run<I: Inputs>(rt: &HostRuntime, inputs: &I, words: &[String]) -> Result<(), DaemonEnding>
-    ensures done { OnOk result (HasServedFor
-        (input_texts (I.standard_text inputs.now) (I.file_text inputs.now))
+fn run<I: Inputs<Page = File>>(
+    rt: &HostRuntime,
+    inputs: &mut I,
+    words: &[String],
+) -> Result<(), DaemonEnding>
+    ensures done { OnOk result (HasServedFor (I.seen inputs.old) (I.seen inputs.new)
         (map string_bytes words.now)) }
     ensures failed { IfErr result IsDaemonFailure }
 {
     let alloc = rt.alloc();
     let plan = plan_of(alloc, words)?;
     let lines = config_lines(alloc, inputs, &plan.options)?;
-    let devices = match scanners(rt, lines.as_slice(), plan.options.byte_order) {
+    let devices = match scanners(alloc, inputs, lines.as_slice(), plan.options.byte_order) {
         Ok(devices) => devices,
         Err(why) => return Err(DaemonEnding::of_device(why.line, why.fault)),
     };
@@ -92,15 +93,14 @@ fn told<E: Write>(err: &mut E, ending: &DaemonEnding) -> ExitCode
 }
 
 /// Serves as the words of the command line say, and gives the exit status.
-fn serve_for<I: Inputs, E: Write>(
+fn serve_for<I: Inputs<Page = File>, E: Write>(
     rt: &HostRuntime,
-    inputs: &I,
+    inputs: &mut I,
     words: &[String],
     err: &mut E,
 ) -> ExitCode
     ensures well { code_of result ≡ 0 → HasServedFor
-        (input_texts (I.standard_text inputs.now) (I.file_text inputs.now))
-        (map string_bytes words.now) }
+        (I.seen inputs.old) (I.seen inputs.new) (map string_bytes words.now) }
     ensures otherwise { code_of result ≢ 0
         → (ending : AnEnding)
         × (code_of result ≡ daemon_exit_status ending) × IsDaemonFailure ending }
@@ -126,21 +126,19 @@ fn tell_text<O: Write, E: Write>(text: OwnText, out: &mut O, err: &mut E) -> Exi
 }
 
 /// Does what the words of the command line say, and gives the exit status.
-fn exit_code<I: Inputs, O: Write, E: Write>(
+fn exit_code<I: Inputs<Page = File>, O: Write, E: Write>(
     rt: &HostRuntime,
-    inputs: &I,
+    inputs: &mut I,
     words: &[String],
     out: &mut O,
     err: &mut E,
 ) -> ExitCode
-    /// Where the exit status is 0 and the words ask for no text, a daemon of the config's scanners has served as `serve` says, with
-    /// the users of the file that the words name, their seed, size of strings and limits, and there was memory to begin; of both
-    /// files where the inputs tell their texts.
+    /// If the exit status is 0 and the words ask for no text, a daemon of the config's scanners has served as `serve` says, with
+    /// the users of the file that the words name, their seed, size of strings and limits, and there was memory to begin. The
+    /// config and the users are those that were read, and nothing else was but the page files of the config's lines.
     /// Carried by: `well` of the private `exit_code`, `done` of the private `run`: `HasServedFor`
     ensures well { code_of result ≡ 0 → text_asked (map string_bytes words.now) ≡ None
-        → HasServedFor
-        (input_texts (I.standard_text inputs.now) (I.file_text inputs.now))
-        (map string_bytes words.now) }
+        → HasServedFor (I.seen inputs.old) (I.seen inputs.new) (map string_bytes words.now) }
     /// Where it is 0 and the words ask for a text, just that text was written to standard output.
     ensures text { code_of result ≡ 0 → IfSome (text_asked (map string_bytes words.now))
         (λ text. Appends (O.contents out.old) (O.contents out.new) (own_text text)) }
@@ -164,9 +162,9 @@ fn main(rt: HostRuntime) -> ExitCode {
     ];
     let mut out = rt.stdout();
     let mut err = rt.stderr();
-    let inputs = HostInputs { rt: &rt };
+    let mut inputs = HostInputs { rt: &rt };
     match words(&rt) {
-        Ok(words) => exit_code(&rt, &inputs, words.as_slice(), &mut out, &mut err),
+        Ok(words) => exit_code(&rt, &mut inputs, words.as_slice(), &mut out, &mut err),
         Err(ending) => told(&mut err, &ending),
     }
 }

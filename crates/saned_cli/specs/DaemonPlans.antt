@@ -1,5 +1,5 @@
 -- What the words of saned's command line have it do.
-use Rattle.std.specs.Prelude.{ℕ, ◌≡◌, ◌⊎◌, Option, Some, None, Ok, IsErr, List, option_map, replicate, string_bytes, ⊤}
+use Rattle.std.specs.Prelude.{ℕ, ◌≡◌, Option, Some, None, Ok, IsErr, List, option_map, replicate, string_bytes, ⊤}
 use Rattle.hex.specs.Hex.{decode_sized}
 use Rattle.saned_cli.specs.OptionsOfDaemon.{AreDaemonOptions}
 use Rattle.saned_cli.specs.declared.daemon_ending.DaemonEnding.{DaemonEnding}

@@ -3,6 +3,10 @@ pub mod OptionWords
 pub mod DaemonEndings
 pub mod DataPorts
 pub mod SocketTable
+pub mod TableReadings
+pub mod Guarding
+pub mod NetViews
+pub mod Inside
 pub mod DaemonPlans
 pub mod DaemonInputs
 pub mod WholeDaemon

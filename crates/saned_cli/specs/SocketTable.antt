@@ -1,7 +1,7 @@
 -- The system's table of sockets, as Linux tells it in /proc/net/tcp: a line of headings, and a line for each socket,
 -- whose fields stand between blanks. Counted from 0, field 1 is the socket's own end, field 2 its peer's, field 7 the
 -- user who owns it, and field 9 the number of its inode, which is 0 where no process has the socket any more.
-use Rattle.std.specs.Prelude.{ℕ, ◌≡◌, ◌≢◌, ◌/◌, ◌%◌, ◌&&◌, ◌||◌, Bool, true, false, Option, Some, None, List, [], ◌∷◌}
+use Rattle.std.specs.Prelude.{ℕ, ◌≡◌, ◌≢◌, ◌/◌, ◌%◌, ◌&&◌, ◌||◌, Bool, false, Option, Some, None, List, [], ◌∷◌}
 use Rattle.std.specs.Prelude.{◌++◌, codes, decimal, filter, not, slice_index}
 use Rattle.std.specs.List.{slice_get}
 use Rattle.std.specs.Str.{bytes_eq}

@@ -3,8 +3,8 @@ use Rattle.std.specs.Prelude.{ℕ, ◌≡◌, ◌≢◌, None, Option, List, [],
 use Rattle.device_api.specs.State.{DeviceState}
 use Rattle.dispatch.specs.Table.{fresh_table}
 use Rattle.dispatch.specs.declared.config_line.ConfigLine.{ConfigLine}
-use Rattle.config_pages.specs.Devices.{AreDevicesOf}
-use Rattle.config_pages.specs.InputTexts.{InputTexts, TellsLines}
+use Rattle.config_pages.specs.Devices.{AreDevicesOf, calls_of_lines}
+use Rattle.config_pages.specs.InputTexts.{IsConfigRead, SeenInputs, with_calls}
 use Rattle.md5_auth.specs.Challenges.{HasGiven}
 use Rattle.md5_auth.specs.declared.users.Entry.{Entry}
 use Rattle.saned_core.specs.DaemonStates.{Core}
@@ -12,7 +12,7 @@ use Rattle.saned_serve.specs.ListenerTraces.{ListenerTrace}
 use Rattle.saned_serve.specs.Serving.{HasServed}
 use Rattle.saned_serve.specs.declared.serving.ServeEnd.{ServeEnd}
 use Rattle.saned_serve.specs.declared.serving.ServeEnd.TheVariants.{NoMem}
-use Rattle.saned_cli.specs.DaemonInputs.{AreUsersIn, config_text}
+use Rattle.saned_cli.specs.DaemonInputs.{AreUsersIn, config_name}
 use Rattle.saned_cli.specs.DaemonPlans.{IsDaemonPlanOf}
 use Rattle.saned_cli.specs.declared.daemon_plan.DaemonPlan.{DaemonPlan}
 
@@ -39,16 +39,18 @@ pub record IsServedBy (plan : DaemonPlan) (daemon : Core) : Type 0 where
 
 -- **has served for its words (`HasServedFor`, `IsDaemonOf`, `IsServedBy`)**: the words have a plan, and the daemon of
 -- it, of the scanners of the config's lines and of the users in the file that is named, has served to the plan's end of
--- sessions or idle turns, or in all turns that a server takes.
-pub record HasServedFor (texts : InputTexts) (words : List (List ℕ)) : Type 0 where
+-- sessions or idle turns, or in all turns that a server takes. Of the inputs the config was read, then the page files
+-- of its lines were asked for, then the users were read, and nothing else.
+pub record HasServedFor (was now : SeenInputs) (words : List (List ℕ)) : Type 0 where
   pub plan : DaemonPlan
   pub is_plan : IsDaemonPlanOf words plan
   pub lines : List ConfigLine
-  pub config : TellsLines (config_text texts plan.options) lines
+  pub configured : SeenInputs
+  pub config : IsConfigRead (config_name plan.options) was configured lines
   pub devices : List DeviceState
-  pub of_lines : AreDevicesOf plan.options.byte_order lines devices
+  pub of_lines : AreDevicesOf configured.texts plan.options.byte_order lines devices
   pub users : List Entry
-  pub users_named : AreUsersIn texts plan.options users
+  pub users_named : AreUsersIn plan.options (with_calls (calls_of_lines lines) configured) now users
   pub first : Core
   pub serves : IsServedBy plan first
   pub begun : IsDaemonOf plan devices users first

@@ -28,8 +28,8 @@ fn seed_of(options: &DaemonOptions) -> Option<[u8; 32]>
 /// The plan of the words of a command line, of which the first is the program's name. `BadCommandLine` where there are no options,
 /// then `BadSeed` just where the seed that they say is not 64 hexadecimal digits.
 pub fn plan_of(alloc: Global, words: &[String]) -> Result<DaemonPlan, DaemonEnding>
-    /// From the words to the plan nothing is free: the options are those of the words, and the seed is the one that they say, or
-    /// 32 bytes 0 where they say none.
+    /// The words alone decide the plan: the options are those of the words, and the seed is the one that they say, or 32 bytes 0
+    /// if they say none.
     /// Carried by: `planned`, `refused` of `plan_of`
     ensures planned { IfOk result (IsDaemonPlanOf (map string_bytes words.now)) }
     ensures refused { IfErr result (IsDaemonPlanRefusal (map string_bytes words.now)) }

@@ -1,181 +1,230 @@
 //! A port that waits for data connections.
 
-use crate::local::is_for_now;
-use crate::socket_file::{MOST_LINES, SocketFile};
-use crate::socket_table::{is_among, sockets_of};
-use mio::net::{TcpListener, TcpStream};
+ghost use Rattle.std.specs.Prelude.{◌≡◌, ◌∷◌, [], Some, None, Option, IfSome};
+ghost use Rattle.std.specs.Option.{option_map};
+ghost use Rattle.socket_calls.specs.SocketCall.{listening_port, with_socket_calls};
+ghost use Rattle.saned_cli.specs.Guarding.{IsHis, WhereTold, port_view};
+ghost use Rattle.saned_cli.specs.Inside.{HasLooked, HasMarkedFor, HaveCome, KeepsHisIn, LooksOnce, admitted_numbers, is_let_in, without_standing};
+ghost use Rattle.saned_cli.specs.Guarding.{closing, ending_of};
+ghost use Rattle.saned_cli.specs.Guarding.{ForgetsEnded, GivesNewest, numbers_of, port_and_calls};
+
+use crate::table_reading::{Newcomer, mark_those_of};
+use socket_calls::{Arrival, ListeningAt, Peeked, SocketCalls};
 use std::alloc::Global;
-use std::net::{Ipv4Addr, SocketAddr, SocketAddrV4};
-use std::os::unix::fs::FileExt;
 
-/// At most so many connections are taken for one reading of the table of sockets, and so many readings are made in a row: a
-/// stranger who dials without end costs few readings, and keeps no other session waiting for long.
-const MOST_AT_ONCE: usize = 1024;
-
-const MOST_READINGS: usize = 4;
+/// At most so many connections are taken at once, by one reading of the table of sockets: so a stranger who dials without end
+/// costs one reading a look, and keeps no other session waiting for long. Who comes later is left to the next look.
+const MOST_AT_ONCE: usize = 512;
 
 /// A port that waits for data connections.
 #[derive(Drop)]
-pub struct DataPort {
-    port: u16,
-    listener: TcpListener,
+pub struct DataPort<L, W> {
+    pub at: ListeningAt<L>,
     /// The user who owns the session's control connection, where the system tells him.
-    owner: Option<u32>,
+    pub owner: Option<u32>,
     /// The newest connection that stands both ways.
-    open: Option<TcpStream>,
+    pub standing: Option<W>,
     /// The newest whose peer ended its side: it closed it, or only means to read, as SANE's own clients do. Nothing but a
     /// write tells the two apart.
-    shut: Option<TcpStream>,
+    pub ended: Option<W>,
 }
 
-/// A connection that was just made, the other end of it, and whether the table told that the session's user has that.
-#[derive(Drop)]
-struct Newcomer {
-    stream: TcpStream,
-    peer: SocketAddrV4,
-    is_his: bool,
+/// Puts a connection into its place, where an older one is closed.
+fn put_in_place<S: SocketCalls>(sockets: &mut S, place: &mut Option<S::Waiting>, stream: S::Waiting)
+    ensures placed { option_map S.number place.new ≡ Some (S.number stream) }
+    ensures closed { S.calls sockets.new
+        ≡ with_socket_calls (closing (option_map S.number place.old)) (S.calls sockets.old) }
+{
+    if let Some(older) = place.replace(stream) {
+        sockets.close(older);
+    }
 }
 
-/// The first of the connections that waited, and whether no more did: who comes while the table is read is left to the
-/// next look, so that a stranger who dials without end costs one reading a look.
-#[derive(Drop)]
-struct Newcomers {
-    made: Vec<Newcomer>,
-    are_all: bool,
+/// Keeps a connection by what its peer has done: one that is broken, or whose peer speaks, is closed.
+fn keep<S: SocketCalls>(
+    sockets: &mut S,
+    it: &mut DataPort<S::Listener, S::Waiting>,
+    stream: S::Waiting,
+)
+    ensures { HasLooked (S.number stream ∷ [])
+        (port_and_calls S.number it.old (S.calls sockets.old))
+        (port_and_calls S.number it.new (S.calls sockets.new)) }
+{
+    match sockets.peek(&stream) {
+        Peeked::Nothing => put_in_place(sockets, &mut it.standing, stream),
+        Peeked::End => put_in_place(sockets, &mut it.ended, stream),
+        // Where only a daemon speaks, a peer that does is no client.
+        Peeked::Speech | Peeked::Break => sockets.close(stream),
+    }
 }
 
-/// Marks the newcomers whose end is that user's, by the table as it now is.
-fn mark_those_of<F: FileExt + Drop>(
+/// The first of the connections that wait.
+fn newcomers<S: SocketCalls>(
     alloc: Global,
-    user: u32,
-    ours: SocketAddrV4,
-    sockets: &SocketFile<F>,
-    newcomers: &mut [Newcomer],
-) {
-    let Some(mut lines) = sockets.lines() else {
+    sockets: &mut S,
+    at: &ListeningAt<S::Listener>,
+) -> Vec<Newcomer<S::Waiting>>
+    ensures { HaveCome S.number (listening_port at.now) (S.calls sockets.old) result.items
+        (S.calls sockets.new) }
+{
+    let mut made = Vec::new(alloc);
+    for _i in 0..MOST_AT_ONCE {
+        // The room comes first, so that nobody is lost who could not be kept.
+        if made.try_reserve(1).is_err() {
+            return made;
+        }
+        let Ok(Some(Arrival { stream, peer, .. })) = sockets.accept(at) else {
+            return made;
+        };
+        made.push_reserved(Newcomer {
+            stream,
+            peer,
+            is_his: false,
+        });
+    }
+    made
+}
+
+/// Whether a newcomer is kept: where the port is of a user, only his.
+fn is_let_in(owner: Option<u32>, is_his: bool) -> bool
+    ensures { result ≡ is_let_in owner is_his }
+{
+    match owner {
+        None => true,
+        Some(_) => is_his,
+    }
+}
+
+/// Keeps those of the newcomers that are the session's user's, and where he is not known all of them; the others are closed.
+fn admit<S: SocketCalls>(
+    sockets: &mut S,
+    it: &mut DataPort<S::Listener, S::Waiting>,
+    newcomers: Vec<Newcomer<S::Waiting>>,
+)
+    ensures { HasLooked (admitted_numbers S.number it.old.owner newcomers.items)
+        (port_and_calls S.number it.old (S.calls sockets.old))
+        (port_and_calls S.number it.new (S.calls sockets.new)) }
+{
+    for Newcomer { stream, is_his, .. } in newcomers {
+        if is_let_in(it.owner, is_his) {
+            keep(sockets, it, stream);
+        } else {
+            sockets.close(stream);
+        }
+    }
+}
+
+/// Looks once more at the connection that stands.
+fn look_again<S: SocketCalls>(sockets: &mut S, it: &mut DataPort<S::Listener, S::Waiting>)
+    ensures { HasLooked (numbers_of (option_map S.number it.old.standing))
+        (without_standing (port_and_calls S.number it.old (S.calls sockets.old)))
+        (port_and_calls S.number it.new (S.calls sockets.new)) }
+{
+    let Some(stream) = it.standing.take() else {
         return;
     };
-    for _ in 0..MOST_LINES {
-        let Some(line) = lines.next() else {
-            return;
-        };
-        let Ok(his) = sockets_of(alloc, line, ours, user) else {
-            return;
-        };
-        if !his.is_empty() {
-            mark(newcomers, his.as_slice());
-        }
+    keep(sockets, it, stream);
+}
+
+/// Marks the newcomers that are the user's, where the port is of one.
+fn mark_his<S: SocketCalls>(
+    alloc: Global,
+    sockets: &mut S,
+    port: u16,
+    owner: Option<u32>,
+    newcomers: &mut [Newcomer<S::Waiting>],
+)
+    ensures { HasMarkedFor port owner (S.calls sockets.old) newcomers.old newcomers.new
+        (S.calls sockets.new) }
+{
+    let Some(user) = owner else {
+        return;
+    };
+    mark_those_of(alloc, sockets, port, user, newcomers);
+}
+
+/// Looks at the connection that stands, and takes the first that wait.
+fn look<S: SocketCalls>(alloc: Global, sockets: &mut S, it: &mut DataPort<S::Listener, S::Waiting>)
+    requires { KeepsHisIn (port_and_calls S.number it.old (S.calls sockets.old)) }
+    ensures looks { LooksOnce
+        (port_and_calls S.number it.old (S.calls sockets.old))
+        (port_and_calls S.number it.new (S.calls sockets.new)) }
+    ensures his { KeepsHisIn (port_and_calls S.number it.new (S.calls sockets.new)) }
+{
+    look_again(sockets, it);
+    let mut made = newcomers(alloc, sockets, &it.at);
+    if made.is_empty() {
+        return;
+    }
+    mark_his(alloc, sockets, it.at.port(), it.owner, made.as_mut_slice());
+    admit(sockets, it, made);
+}
+
+/// Closes the connections that their peers have ended.
+pub fn forget_ended<S: SocketCalls>(
+    alloc: Global,
+    sockets: &mut S,
+    it: &mut DataPort<S::Listener, S::Waiting>,
+)
+    requires { KeepsHisIn (port_and_calls S.number it.old (S.calls sockets.old)) }
+    ensures forgets { ForgetsEnded
+        (port_and_calls S.number it.old (S.calls sockets.old))
+        (port_and_calls S.number it.new (S.calls sockets.new)) }
+    ensures his { KeepsHisIn (port_and_calls S.number it.new (S.calls sockets.new)) }
+{
+    look(alloc, sockets, it);
+    let Some(stream) = it.ended.take() else {
+        return;
+    };
+    sockets.close(stream);
+}
+
+/// The connection that a frame takes; the others are closed.
+pub fn taken<S: SocketCalls>(
+    alloc: Global,
+    sockets: &mut S,
+    it: &mut DataPort<S::Listener, S::Waiting>,
+) -> Option<S::Waiting>
+    requires { KeepsHisIn (port_and_calls S.number it.old (S.calls sockets.old)) }
+    ensures gives { GivesNewest
+        (port_and_calls S.number it.old (S.calls sockets.old))
+        (port_and_calls S.number it.new (S.calls sockets.new))
+        (option_map S.number result) }
+    ensures his { IfSome result (λ stream. WhereTold
+        (IsHis (listening_port it.old.at) it.old.owner (S.number stream))
+        (S.calls sockets.new)) }
+{
+    look(alloc, sockets, it);
+    let ended = it.ended.take();
+    let Some(standing) = it.standing.take() else {
+        return ended;
+    };
+    close_older(sockets, ended);
+    Some(standing)
+}
+
+/// Closes a connection, where there is one.
+fn close_older<S: SocketCalls>(sockets: &mut S, older: Option<S::Waiting>)
+    ensures { S.calls sockets.new
+        ≡ with_socket_calls (closing (option_map S.number older)) (S.calls sockets.old) }
+{
+    if let Some(older) = older {
+        sockets.close(older);
     }
 }
 
-fn mark(newcomers: &mut [Newcomer], his: &[&[u8]]) {
-    for newcomer in newcomers.iter_mut() {
-        if is_among(his, newcomer.peer) {
-            newcomer.is_his = true;
-        }
-    }
-}
-
-impl DataPort {
-    /// A port of a session whose control connection that user owns.
-    pub fn new(port: u16, listener: TcpListener, owner: Option<u32>) -> DataPort {
-        DataPort {
-            port,
-            listener,
-            owner,
-            open: None,
-            shut: None,
-        }
-    }
-
-    pub fn port(&self) -> u16 {
-        self.port
-    }
-
-    /// Keeps a connection by what its peer has done: one that is broken, or whose peer speaks, is closed.
-    fn keep(&mut self, stream: TcpStream) {
-        match stream.peek(&mut [0]) {
-            Ok(0) => self.shut = Some(stream),
-            Err(e) if is_for_now(&e) => self.open = Some(stream),
-            // Where only a daemon speaks, a peer that does is no client.
-            Ok(_) | Err(_) => drop(stream),
-        }
-    }
-
-    /// Takes the first of the connections that wait.
-    fn newcomers(&self, alloc: Global) -> Newcomers {
-        let mut made = Vec::new(alloc);
-        let mut are_all = false;
-        for _ in 0..MOST_AT_ONCE {
-            // The room comes first, so that nobody is lost who could not be kept.
-            if made.try_reserve(1).is_err() {
-                break;
-            }
-            let (stream, peer) = match self.listener.accept() {
-                Ok((stream, SocketAddr::V4(peer))) => (stream, peer),
-                Ok(_) => break,
-                Err(e) => {
-                    are_all = is_for_now(&e);
-                    break;
-                }
-            };
-            let _ = made.push(Newcomer {
-                stream,
-                peer,
-                is_his: false,
-            });
-        }
-        Newcomers { made, are_all }
-    }
-
-    /// Keeps those of the newcomers that are the session's user's, and where he is not known all of them; the others are closed.
-    fn admit(&mut self, newcomers: Vec<Newcomer>) {
-        for Newcomer {
-            stream,
-            peer: _,
-            is_his,
-        } in newcomers {
-            if is_his || self.owner.is_none() {
-                self.keep(stream);
-            }
-        }
-    }
-
-    /// Takes all connections that wait.
-    fn gather<F: FileExt + Drop>(&mut self, alloc: Global, sockets: &SocketFile<F>) {
-        if let Some(stream) = self.open.take() {
-            self.keep(stream);
-        }
-        let ours = SocketAddrV4::new(Ipv4Addr::LOCALHOST, self.port);
-        for _ in 0..MOST_READINGS {
-            let Newcomers { mut made, are_all } = self.newcomers(alloc);
-            if made.is_empty() {
-                return;
-            }
-            if let Some(user) = self.owner {
-                mark_those_of(alloc, user, ours, sockets, made.as_mut_slice());
-            }
-            self.admit(made);
-            if are_all {
-                return;
-            }
-        }
-    }
-
-    /// Closes the connections that their peers have ended.
-    pub fn forget_ended<F: FileExt + Drop>(&mut self, alloc: Global, sockets: &SocketFile<F>) {
-        self.gather(alloc, sockets);
-        self.shut = None;
-    }
-
-    /// The connection that a frame takes; the others are closed.
-    pub fn taken<F: FileExt + Drop>(
-        &mut self,
-        alloc: Global,
-        sockets: &SocketFile<F>,
-    ) -> Option<TcpStream> {
-        self.gather(alloc, sockets);
-        let shut = self.shut.take();
-        self.open.take().or(shut)
-    }
+/// Closes the port, and the connections that it keeps.
+pub fn end<S: SocketCalls>(sockets: &mut S, it: DataPort<S::Listener, S::Waiting>)
+    ensures { S.calls sockets.new ≡ with_socket_calls (ending_of (port_view S.number it))
+        (S.calls sockets.old) }
+{
+    let DataPort {
+        at,
+        standing,
+        ended,
+        ..
+    } = it;
+    close_older(sockets, standing);
+    close_older(sockets, ended);
+    sockets.end_listening(at);
 }

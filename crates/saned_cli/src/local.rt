@@ -1,40 +1,41 @@
-ghost use Rattle.std.specs.Prelude.{◌≡◌, ◌≤◌, ◌<◌, ◌==◌, ◌↔◌, ◌⊎◌, if◌then◌else◌, length, is_some, [], IfOk, IfErr, IsTrue};
+ghost use Rattle.std.specs.Prelude.{◌≡◌, ◌≤◌, ◌==◌, ◌↔◌, ◌⊎◌, if◌then◌else◌, is_some, [], None, Some, IfOk, IfErr, IfSome, IsTrue};
+ghost use Rattle.std.specs.Option.{option_map};
 ghost use Rattle.std.specs.IoError.{error_kind};
-ghost use Rattle.saned_serve.specs.ConnectionTraces.{MovesWithin, after_read, after_write, IsTrace};
-ghost use Rattle.saned_serve.specs.ListenerTraces.{with_notice};
-ghost use Rattle.saned_serve.specs.ListenerTraces.Notice.{Asked, Port, Forgot, Dialed, Shut, Back};
+ghost use Rattle.saned_serve.specs.ConnectionTraces.{MovesWithin, IsTrace};
+ghost use Rattle.saned_serve.specs.ListenerTraces.{IsForgotten, with_notice};
+ghost use Rattle.saned_serve.specs.ListenerTraces.Notice.{Asked, Port, Dialed, Shut, Back};
+ghost use Rattle.saned_cli.specs.NetViews.{Accepts, DialsFrame, TakesOrCloses, Forgets, IsBoundAt, IsForFrame, OpensPort, ShutsPort};
+ghost use Rattle.saned_cli.specs.Inside.{HasAccepted, HasListened};
+ghost use Rattle.socket_calls.specs.SocketCall.{listening_port};
 
 use crate::data_port::DataPort;
 use crate::data_ports::PortRange;
+use crate::kept_ports::{end_at, forget_at, taken_at};
 use crate::pace::Pace;
-use crate::socket_file::{SOCKET_TABLE, SocketFile};
-use mio::net::{TcpListener, TcpStream};
+use crate::table_reading::owner_of_peer;
 use saned_serve::{Got, Listeners, Socket};
+use socket_calls::{Arrival, ListeningAt, SocketCalls};
 use std::alloc::Global;
-use std::fs::Files;
 use std::io;
 use std::io::{ErrorKind, Read, Write};
-use std::net::{Ipv4Addr, Net, SocketAddr};
-use std::os::unix::fs::FileExt;
+use std::marker::Model;
 use std::rc::Rc;
 use std::time::Clock;
 
 /// As many data ports as there are sessions.
 const MOST_PORTS: usize = 8;
 
-/// Connections on 127.0.0.1 that never wait for a peer. Where nothing moves for long each turn naps; while bytes move the
-/// system is asked for a new connection in one accept of sixteen.
+/// Connections on 127.0.0.1 that never wait for a peer. If nothing moves for long each turn naps. While bytes move the system is
+/// asked for a new connection in one accept of sixteen, and in the next behind a look at a data port: a stranger who dials one
+/// without end makes turns long.
 #[derive(Drop)]
-pub struct LocalNet<R: Net + Clock + Files + Drop>
-where
-    R::File: FileExt,
-{
+pub struct LocalNet<S: SocketCalls + Drop, R: Clock + Drop> {
     alloc: Global,
-    control: TcpListener,
-    data: Vec<DataPort>,
+    sockets: S,
+    control: ListeningAt<S::Listener>,
+    data_ports: Vec<DataPort<S::Listener, S::Waiting>>,
     /// The ports of which data ports are; any that is free, where none are named.
-    ports: Option<PortRange>,
-    sockets: SocketFile<R::File>,
+    range: Option<PortRange>,
     /// The user who owns the control connection that came last, where the system tells him.
     owner: Option<u32>,
     pace: Rc<Pace<R>>,
@@ -42,17 +43,13 @@ where
 
 /// A connection on 127.0.0.1 whose calls never wait, but for the naps of a net at rest.
 #[derive(Drop)]
-pub struct LocalSocket<R: Clock + Drop> {
-    stream: TcpStream,
+pub struct LocalSocket<C, R: Clock + Drop> {
+    conn: C,
     pace: Rc<Pace<R>>,
 }
 
-fn listen(rt: &impl Net, port: u16) -> io::Result<TcpListener> {
-    TcpListener::bind(rt, SocketAddr::from((Ipv4Addr::LOCALHOST, port)))
-}
-
 /// Whether a call that failed may be made again.
-pub fn is_for_now(e: &io::Error) -> bool
+fn is_for_now(e: &io::Error) -> bool
     ensures { IsTrue result ↔ (error_kind e.now ≡ ErrorKind.WouldBlock)
         ⊎ (error_kind e.now ≡ ErrorKind.Interrupted) }
 {
@@ -60,74 +57,106 @@ pub fn is_for_now(e: &io::Error) -> bool
 }
 
 /// The first of these ports that is free; of all, where none are named.
-fn listen_within(rt: &impl Net, ports: Option<PortRange>) -> io::Result<TcpListener> {
-    let Some(PortRange { first, last }) = ports else {
-        return listen(rt, 0);
+fn listen_within<S: SocketCalls>(
+    sockets: &mut S,
+    range: Option<PortRange>,
+) -> io::Result<ListeningAt<S::Listener>>
+    ensures { HasListened (S.calls sockets.old) (S.calls sockets.new) }
+{
+    let Some(PortRange { first, last }) = range else {
+        return sockets.listen(0);
     };
     for port in first..last {
-        if let Ok(listener) = listen(rt, port) {
+        if let Ok(listener) = sockets.listen(port) {
             return Ok(listener);
         }
     }
-    listen(rt, last)
+    sockets.listen(last)
 }
 
-impl<R: Net + Clock + Files + Drop> LocalNet<R>
-where
-    R::File: FileExt,
+/// The next connection that waits at a listener.
+fn next_comer<S: SocketCalls>(
+    sockets: &mut S,
+    at: &ListeningAt<S::Listener>,
+) -> Option<Arrival<S::Waiting>>
+    ensures { HasAccepted S.number (listening_port at.now) (S.calls sockets.old) result
+        (S.calls sockets.new) }
 {
-    /// Listens at that port, or where it is 0 at any that is free.
-    pub fn bind(rt: R, alloc: Global, port: u16) -> io::Result<LocalNet<R>> {
-        LocalNet::bind_with_table(rt, alloc, port, SOCKET_TABLE)
+    match sockets.accept(at) {
+        Ok(comer) => comer,
+        Err(_) => None,
     }
+}
 
-    /// The same, where the system tells its sockets in that file.
-    pub fn bind_with_table(
-        rt: R,
-        alloc: Global,
-        port: u16,
-        table: &str,
-    ) -> io::Result<LocalNet<R>> {
-        let data = Vec::with_capacity(alloc, MOST_PORTS)?;
-        let control = listen(&rt, port)?;
-        let sockets = SocketFile::open(&rt, alloc, table);
+/// The connection, taken. Where there is no memory for its share of the pace it is closed.
+fn socket_of<S: SocketCalls, R: Clock + Drop>(
+    sockets: &mut S,
+    pace: &Rc<Pace<R>>,
+    stream: S::Waiting,
+) -> Option<LocalSocket<S::Conn, R>>
+    ensures { TakesOrCloses (S.calls sockets.old) (S.calls sockets.new) (Some (S.number stream))
+        (option_map (λ socket. S.taken_number socket.conn) result) }
+{
+    match Rc::clone(pace) {
+        Ok(pace) => {
+            let conn = sockets.take(stream);
+            Some(LocalSocket { conn, pace })
+        }
+        Err(_) => {
+            sockets.close(stream);
+            None
+        }
+    }
+}
+
+impl<S: SocketCalls + Drop, R: Clock + Drop> Model for LocalNet<S, R> {
+    ghost use Rattle.std.specs.Prelude.{map};
+    ghost use Rattle.socket_calls.specs.SocketCall.{listening_port};
+    ghost use Rattle.saned_cli.specs.Guarding.{EachKeepsHis, port_view};
+    ghost use Rattle.saned_cli.specs.NetViews.{NetView};
+
+    ghost Value = { NetView };
+
+    ghost view = { λ n. record { calls = S.calls n.sockets; control = listening_port n.control; owner = n.owner; ports = map (port_view S.number) n.data_ports.items } };
+
+    ghost invariant = { λ n. EachKeepsHis (S.calls n.sockets) (map (port_view S.number) n.data_ports.items) };
+}
+
+impl<S: SocketCalls + Drop, R: Clock + Drop> LocalNet<S, R> {
+    /// Listens at that port, or where it is 0 at any that is free, and rests by that clock.
+    pub fn bind(mut sockets: S, rt: R, alloc: Global, port: u16) -> io::Result<LocalNet<S, R>>
+        /// One listener is asked for at the port of control connections, and there is no data port yet.
+        ensures { IfOk result (IsBoundAt port (S.calls sockets)) }
+    {
+        let data_ports = Vec::with_capacity(alloc, MOST_PORTS)?;
+        let control = sockets.listen(port)?;
         let pace = Pace::new(alloc, rt)?;
         Ok(LocalNet {
             alloc,
-            control,
-            data,
-            ports: None,
             sockets,
+            control,
+            data_ports,
+            range: None,
             owner: None,
             pace,
         })
     }
 
     /// With data ports of these alone, where some are named.
-    pub fn with_data_ports(mut self, ports: Option<PortRange>) -> LocalNet<R> {
-        self.ports = ports;
+    pub fn with_data_ports(mut self, range: Option<PortRange>) -> LocalNet<S, R>
+        /// That data ports are named changes nothing else.
+        ensures { result ≡ self }
+    {
+        self.range = range;
         self
     }
 
     /// The port of control connections.
-    pub fn port(&self) -> io::Result<u16> {
-        Ok(self.control.local_addr()?.port())
-    }
-
-    fn place(&self, port: u16) -> Option<usize> {
-        self.data.iter().position(|it| it.port() == port)
-    }
-}
-
-/// The user who owns the other end of a connection, where the system tells him.
-fn owner_of<F: FileExt + Drop>(
-    sockets: &SocketFile<F>,
-    stream: &TcpStream,
-    peer: SocketAddr,
-) -> Option<u32> {
-    match (peer, stream.local_addr()) {
-        (SocketAddr::V4(peer), Ok(SocketAddr::V4(ours))) => sockets.owner_of(peer, ours),
-        _ => None,
+    pub fn port(&self) -> u16
+        /// The port that is told is the one of control connections.
+        ensures { result ≡ self.now.control }
+    {
+        self.control.port()
     }
 }
 
@@ -158,7 +187,7 @@ fn rest<R: Clock + Drop>(pace: &Rc<Pace<R>>) {
     pace.rest(Rc::strong_count(pace));
 }
 
-impl<R: Clock + Drop> LocalSocket<R> {
+impl<C, R: Clock + Drop> LocalSocket<C, R> {
     fn note(&self, got: Got) {
         match got {
             Got::Nothing => rest(&self.pace),
@@ -167,83 +196,112 @@ impl<R: Clock + Drop> LocalSocket<R> {
     }
 }
 
-impl<R: Clock + Drop> Socket for LocalSocket<R> {
+impl<C: Read + Write, R: Clock + Drop> Socket for LocalSocket<C, R> {
     fn read(&mut self, buf: &mut [u8]) -> Got {
-        let got = how(self.stream.read(buf), buf.len());
+        let got = how(self.conn.read(buf), buf.len());
         self.note(got);
         got
     }
 
     fn write(&mut self, buf: &[u8]) -> Got {
-        let got = how(self.stream.write(buf), buf.len());
+        let got = how(self.conn.write(buf), buf.len());
         self.note(got);
         got
     }
 }
 
-impl<R: Net + Clock + Files + Drop> Listeners for LocalNet<R>
-where
-    R::File: FileExt,
-{
-    type Conn = LocalSocket<R>;
+impl<S: SocketCalls + Drop, R: Clock + Drop> Listeners for LocalNet<S, R> {
+    type Conn = LocalSocket<S::Conn, R>;
 
-    fn accept(&mut self) -> Option<LocalSocket<R>> {
+    fn accept(&mut self) -> Option<LocalSocket<S::Conn, R>>
+        /// Behind the accept of a control connection a whole reading of the table of sockets is made for its two ends. The owner
+        /// is whom that reading names, or none if it names none.
+        ensures asked { Accepts self.old self.new
+            (option_map (λ socket. S.taken_number socket.conn) result) }
+        ensures told { None ≡ with_notice (Asked (is_some result)) None }
+        ensures fresh { IfSome result (λ _. IsTrace None []) }
+    {
+        self.owner = None;
         if self.pace.is_busy() {
             return None;
         }
-        match self.control.accept() {
-            Ok((stream, peer)) => {
-                self.pace.quicken();
-                self.owner = owner_of(&self.sockets, &stream, peer);
-                let pace = Rc::clone(&self.pace).ok()?;
-                Some(LocalSocket { stream, pace })
-            }
-            Err(_) => {
-                rest(&self.pace);
-                None
-            }
-        }
+        let Some(it) = next_comer(&mut self.sockets, &self.control) else {
+            rest(&self.pace);
+            return None;
+        };
+        self.pace.quicken();
+        self.owner = owner_of_peer(self.alloc, &mut self.sockets, it.peer, it.ours);
+        socket_of(&mut self.sockets, &self.pace, it.stream)
     }
 
     // `serve` asks for a session's data port next behind its control connection, as `Opens` of the journal has it: so the port
     // is of the user who owns the connection that came last.
-    fn open_data(&mut self) -> Option<u16> {
+    fn open_data(&mut self) -> Option<u16>
+        /// A data port is of the user who owns the control connection that came last.
+        ensures port { OpensPort self.old self.new result }
+        ensures told { None ≡ with_notice (Port result) None }
+    {
         let owner = self.owner.take();
-        let listener = listen_within(self.pace.runtime(), self.ports).ok()?;
-        let port = listener.local_addr().ok()?.port();
-        if self.data.len() < self.data.capacity() {
-            self.data
-                .push_reserved(DataPort::new(port, listener, owner));
-            return Some(port);
+        if self.data_ports.len() >= self.data_ports.capacity() {
+            return None;
         }
-        None
+        let Ok(at) = listen_within(&mut self.sockets, self.range) else {
+            return None;
+        };
+        let port = at.port();
+        self.data_ports.push_reserved(DataPort {
+            at,
+            owner,
+            standing: None,
+            ended: None,
+        });
+        Some(port)
     }
 
-    fn forget_ended(&mut self, port: u16) {
-        if let Some(at) = self.place(port) {
-            if let Some(data_port) = self.data.get_mut(at) {
-                data_port.forget_ended(self.alloc, &self.sockets);
-            }
-        }
+    fn forget_ended(&mut self, port: u16)
+        /// Where those that have ended at a port are forgotten, one look is made, and behind it the port keeps none that has
+        /// ended its side.
+        ensures left { Forgets port self.old self.new }
+        ensures told { IsForgotten port None None }
+    {
+        self.pace.look_next();
+        forget_at(self.alloc, &mut self.sockets, &mut self.data_ports, port);
     }
 
-    fn accept_data(&mut self, port: u16) -> Option<LocalSocket<R>> {
-        let at = self.place(port)?;
-        let stream = self.data.get_mut(at)?.taken(self.alloc, &self.sockets)?;
+    fn accept_data(&mut self, port: u16) -> Option<LocalSocket<S::Conn, R>>
+        /// If a port is of a user, a frame takes only a connection that came to that port and of which a later whole reading of
+        /// the table has a line of a socket of his. If it is of none, it takes any that came.
+        ensures his { IfSome result (λ socket. IsForFrame port self.old.ports
+            (S.taken_number socket.conn) self.new.calls) }
+        ensures told { None ≡ with_notice (Dialed port (is_some result)) None }
+        ensures fresh { IfSome result (λ _. IsTrace None []) }
+        /// Of those that are his a frame takes the newest that waited when it was looked at, and else the newest that had ended
+        /// its side. A look makes at most 512 accepts and one reading, and takes no other connection.
+        ensures newest { DialsFrame port self.old self.new
+            (option_map (λ socket. S.taken_number socket.conn) result) }
+    {
+        self.pace.look_next();
+        let Some(stream) = taken_at(self.alloc, &mut self.sockets, &mut self.data_ports, port)
+        else {
+            return None;
+        };
         self.pace.quicken();
-        let pace = Rc::clone(&self.pace).ok()?;
-        Some(LocalSocket { stream, pace })
+        socket_of(&mut self.sockets, &self.pace, stream)
     }
 
-    fn close_data(&mut self, port: u16) {
-        if let Some(at) = self.place(port) {
-            if at < self.data.len() {
-                let _ = self.data.swap_remove(at);
-            }
-        }
+    fn close_data(&mut self, port: u16)
+        /// A port that is closed is listened at no longer, and what it keeps is closed.
+        ensures shuts { ShutsPort port self.old self.new }
+        ensures told { None ≡ with_notice (Shut port) None }
+    {
+        end_at(&mut self.sockets, &mut self.data_ports, port);
     }
 
-    fn close(&mut self, conn: LocalSocket<R>) {
+    fn close(&mut self, conn: LocalSocket<S::Conn, R>)
+        /// Nothing else is done where a connection is handed back.
+        ensures same { self.new ≡ self.old }
+        ensures told { None ≡ with_notice (Back None) None }
+    {
         drop(conn);
     }
 }

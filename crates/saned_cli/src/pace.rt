@@ -40,16 +40,16 @@ impl<R: Drop> Pace<R> {
         Ok(Rc::new(alloc, pace)?)
     }
 
-    /// What the naps are made with.
-    pub fn runtime(&self) -> &R {
-        &self.rt
-    }
-
     /// Something moved.
     pub fn quicken(&self) {
         self.nap_micros.set(FIRST_NAP_MICROS);
         self.idle.set(0);
         self.has_moved.set(true);
+    }
+
+    /// The next accept is not left out, however fast bytes move.
+    pub fn look_next(&self) {
+        self.left_out.set(LEFT_OUT);
     }
 
     /// Whether an accept may be left out, since bytes move and not too many were.

@@ -4,12 +4,13 @@ ghost use Rattle.std.specs.Prelude.{◌≡◌, ◌≢◌, ◌<◌, ◌^◌, ◌�
 ghost use Rattle.std.specs.Net.Addr.{ipv4_octets};
 ghost use Rattle.std.specs.Net.Socket.{v4_ip, v4_port};
 ghost use Rattle.saned_cli.specs.SocketTable.{IsOwner, IsOwnedBy, end_text, held_lines, is_end_among, is_had, is_socket_to, is_in_field, is_socket_between, sockets_between};
+ghost use Rattle.saned_cli.specs.TableReadings.{own_end_text};
 ghost use Rattle.hex.specs.Hex.{encode_upper};
 
 use crate::daemon_words::plain_number_of;
 use crate::table_fields::field_at;
 use std::alloc::{AllocError, Global};
-use std::net::SocketAddrV4;
+use std::net::{Ipv4Addr, SocketAddrV4};
 use text_lines::first_line;
 
 /// The places of fields in a line: the socket's own end, its peer's, the user who owns it, and the number of its inode.
@@ -35,7 +36,7 @@ fn byte_digits(byte: u8) -> [u8; 2]
 }
 
 /// One end of a connection as the table writes it.
-fn end_text(end: SocketAddrV4) -> [u8; 13]
+pub fn end_text(end: SocketAddrV4) -> [u8; 13]
     ensures { result ≡ end_text end }
 {
     let [a, b, c, d] = end.ip().octets();
@@ -46,6 +47,13 @@ fn end_text(end: SocketAddrV4) -> [u8; 13]
     let [p3, p2] = byte_digits((end.port() / 256) as u8);
     let [p1, p0] = byte_digits((end.port() % 256) as u8);
     [d1, d0, c1, c0, b1, b0, a1, a0, b':', p3, p2, p1, p0]
+}
+
+/// 127.0.0.1 and that port as the table writes it.
+pub fn own_text(port: u16) -> [u8; 13]
+    ensures { result ≡ own_end_text port }
+{
+    end_text(SocketAddrV4::new(Ipv4Addr::LOCALHOST, port))
 }
 
 /// Whether a line is of a socket that has these ends, its own and its peer's.
@@ -94,7 +102,7 @@ fn only_between<'a>(own: &[u8], peer: &[u8], table: &'a [u8]) -> Option<&'a [u8]
 }
 
 /// The user who owns the socket of a line, where somebody has it still.
-fn owner_in(line: &[u8]) -> Option<u32>
+pub fn owner_in(line: &[u8]) -> Option<u32>
     ensures some { IfSome result (λ user. IsOwnedBy line.now user) }
     ensures none { IfNone result ((user : ℕ) → user < 2 ^ 32 → ¬ IsOwnedBy line.now user) }
 {
@@ -130,7 +138,7 @@ fn is_had(line: &[u8]) -> bool
 }
 
 /// Whether a line is of a socket of that user which has this peer's end.
-fn is_socket_to(peer: &[u8], user: &[u8], line: &[u8]) -> bool
+pub fn is_socket_to(peer: &[u8], user: &[u8], line: &[u8]) -> bool
     ensures { result ≡ is_socket_to peer.now user.now line.now }
 {
     field_at(line, PEER_END) == Some(peer) && field_at(line, USER) == Some(user) && is_had(line)
@@ -179,7 +187,7 @@ pub fn sockets_of<'a>(
     held_lines(alloc, &end_text(ours), user.as_str().as_bytes(), table)
 }
 
-fn has_own_end(own: &[u8], line: &[u8]) -> bool
+pub fn has_own_end(own: &[u8], line: &[u8]) -> bool
     ensures { result ≡ is_in_field 1 own.now line.now }
 {
     field_at(line, OWN_END) == Some(own)

@@ -2,10 +2,10 @@
 
 use dispatch::Registry;
 use md5_auth::Users;
-use saned_cli::{Got, Listeners, LocalNet, ServeEnd, Socket, serve};
+use saned_cli::{Got, Listeners, LocalNet, SOCKET_TABLE, ServeEnd, Socket, SystemSockets, serve};
 use saned_core::Daemon;
 use std::alloc::Global;
-use std::io::{Read, Write};
+use std::io::{self, Read, Write};
 use std::net::{Ipv4Addr, Shutdown, SocketAddr, TcpStream};
 use std::process::Abort;
 use std::test::Fail;
@@ -24,6 +24,19 @@ fn daemon(rt: &impl Abort, alloc: Global) -> Daemon {
     Daemon::new(registry, users, [0; 32])
 }
 
+/// Listeners over the system's own sockets.
+type SystemNet = LocalNet<SystemSockets<HostRuntime>, HostRuntime>;
+
+/// Listeners at that port, where the system's table of sockets is that file.
+fn bound(rt: HostRuntime, port: u16, table: &str) -> io::Result<SystemNet> {
+    LocalNet::bind(
+        SystemSockets::new(rt, rt.alloc(), table),
+        rt,
+        rt.alloc(),
+        port,
+    )
+}
+
 /// That port of this machine.
 fn at(port: u16) -> SocketAddr {
     SocketAddr::from((Ipv4Addr::LOCALHOST, port))
@@ -34,9 +47,9 @@ fn at(port: u16) -> SocketAddr {
 #[test]
 fn clients_on_loopback(rt: HostRuntime) -> Result<(), Fail> {
     let alloc = rt.alloc();
-    let mut net = LocalNet::bind(rt, alloc, 0)?;
-    let port = net.port()?;
-    assert!(rt; LocalNet::bind(rt, alloc, port).is_err());
+    let mut net = bound(rt, 0, SOCKET_TABLE)?;
+    let port = net.port();
+    assert!(rt; bound(rt, port, SOCKET_TABLE).is_err());
     let mut first = TcpStream::connect(&rt, at(port))?;
     first.write_all(SAID)?;
     drop(TcpStream::connect(&rt, at(port))?);
@@ -57,7 +70,7 @@ fn clients_on_loopback(rt: HostRuntime) -> Result<(), Fail> {
 fn expect_byte(
     rt: &impl Abort,
     alloc: Global,
-    net: &mut LocalNet<HostRuntime>,
+    net: &mut SystemNet,
     port: u16,
     client: &mut TcpStream,
 ) -> Result<(), Fail> {
@@ -75,7 +88,7 @@ fn expect_byte(
 /// One is left behind before a frame begins; then one came early and stands, and a stranger's ended behind it.
 #[test]
 fn connections_that_have_ended(rt: HostRuntime) -> Result<(), Fail> {
-    let mut net = LocalNet::bind(rt, rt.alloc(), 0)?;
+    let mut net = bound(rt, 0, SOCKET_TABLE)?;
     let port = net.open_data().expect(&rt, "a data port");
     drop(TcpStream::connect(&rt, at(port))?);
     net.forget_ended(port);
@@ -89,7 +102,7 @@ fn connections_that_have_ended(rt: HostRuntime) -> Result<(), Fail> {
 /// A client never speaks on a data connection, so that who does is none.
 #[test]
 fn connections_that_speak(rt: HostRuntime) -> Result<(), Fail> {
-    let mut net = LocalNet::bind(rt, rt.alloc(), 0)?;
+    let mut net = bound(rt, 0, SOCKET_TABLE)?;
     let port = net.open_data().expect(&rt, "a data port");
     let mut client = TcpStream::connect(&rt, at(port))?;
     let mut stranger = TcpStream::connect(&rt, at(port))?;
@@ -101,7 +114,7 @@ fn connections_that_speak(rt: HostRuntime) -> Result<(), Fail> {
 /// An older connection has no byte.
 #[test]
 fn newest_connection(rt: HostRuntime) -> Result<(), Fail> {
-    let mut net = LocalNet::bind(rt, rt.alloc(), 0)?;
+    let mut net = bound(rt, 0, SOCKET_TABLE)?;
     let port = net.open_data().expect(&rt, "a data port");
     let mut older = TcpStream::connect(&rt, at(port))?;
     let mut newer = TcpStream::connect(&rt, at(port))?;
@@ -115,7 +128,7 @@ fn newest_connection(rt: HostRuntime) -> Result<(), Fail> {
 /// SANE's own clients end their side of a data connection as soon as it is made.
 #[test]
 fn client_that_only_reads(rt: HostRuntime) -> Result<(), Fail> {
-    let mut net = LocalNet::bind(rt, rt.alloc(), 0)?;
+    let mut net = bound(rt, 0, SOCKET_TABLE)?;
     let port = net.open_data().expect(&rt, "a data port");
     let mut client = TcpStream::connect(&rt, at(port))?;
     client.shutdown(Shutdown::Write)?;
@@ -123,12 +136,8 @@ fn client_that_only_reads(rt: HostRuntime) -> Result<(), Fail> {
 }
 
 /// The client of a session's data port, behind its control connection, takes a byte.
-fn expect_client(
-    rt: HostRuntime,
-    net: &mut LocalNet<HostRuntime>,
-    end: &impl Abort,
-) -> Result<(), Fail> {
-    let _control = TcpStream::connect(&rt, at(net.port()?))?;
+fn expect_client(rt: HostRuntime, net: &mut SystemNet, end: &impl Abort) -> Result<(), Fail> {
+    let _control = TcpStream::connect(&rt, at(net.port()))?;
     let Some(control) = net.accept() else {
         panic!(end; "no control connection")
     };
@@ -142,8 +151,8 @@ fn expect_client(
 /// whoever comes is taken.
 #[test]
 fn client_of_the_same_user(rt: HostRuntime) -> Result<(), Fail> {
-    let mut net = LocalNet::bind(rt, rt.alloc(), 0)?;
+    let mut net = bound(rt, 0, SOCKET_TABLE)?;
     expect_client(rt, &mut net, &rt)?;
-    let mut blind = LocalNet::bind_with_table(rt, rt.alloc(), 0, "/no/such/table")?;
+    let mut blind = bound(rt, 0, "/no/such/table")?;
     expect_client(rt, &mut blind, &rt)
 }

@@ -1,6 +1,8 @@
 //! The system's table of sockets, as it is written, and who owns one; and ports that are named.
 
-use saned_cli::{Listeners, LocalNet, PortRange, is_among, owner_of, sockets_of};
+use saned_cli::{
+    Listeners, LocalNet, PortRange, SOCKET_TABLE, SystemSockets, is_among, owner_of, sockets_of,
+};
 use std::net::{Ipv4Addr, SocketAddr, SocketAddrV4, TcpListener};
 use std::test::Fail;
 
@@ -63,7 +65,8 @@ fn ports_that_are_named(rt: HostRuntime) -> Result<(), Fail> {
         first,
         last: first + 2,
     };
-    let mut net = LocalNet::bind(rt, rt.alloc(), 0)?.with_data_ports(Some(ports));
+    let sockets = SystemSockets::new(rt, rt.alloc(), SOCKET_TABLE);
+    let mut net = LocalNet::bind(sockets, rt, rt.alloc(), 0)?.with_data_ports(Some(ports));
     let Some(one) = net.open_data() else {
         return Ok(());
     };

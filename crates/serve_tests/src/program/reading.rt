@@ -1,38 +1,45 @@
-use config_pages::{Inputs, scanners, text_of};
+use config_pages::{HostInputs, Inputs, scanners, text_of};
 use device_api::Device;
 use dispatch::parse_config;
 use sane_fixed::ByteOrder;
 use saned_cli::{DaemonEnding, DaemonOptions, config_lines, read_options, users_of};
 use std::alloc::Global;
+use std::fs::File;
 use std::io::{self, ErrorKind};
 use std::process::Abort;
 use std::test::Fail;
 
 /// A text on standard input, and one in a file of that name.
+#[derive(Drop)]
 struct Texts {
     standard: &'static [u8],
     text: &'static [u8],
 }
 
 impl Inputs for Texts {
-    ghost use Rattle.std.specs.Prelude.{Some};
+    ghost use Rattle.std.specs.Prelude.{None, Some};
 
-    type Reader = &'static [u8];
+    type Page = File;
 
-    ghost standard_text = { λ texts. Some texts.standard.now };
+    ghost seen = { λ it. record {
+      texts = record { standard = Some it.standard.now; file = λ _. Some it.text.now };
+      calls = None;
+    } };
 
-    ghost file_text = { λ texts _. Some texts.text.now };
-
-    fn standard(&self) -> &'static [u8] {
-        self.standard
+    fn standard(&mut self, alloc: Global, most: u64) -> io::Result<Vec<u8>> {
+        text_of(alloc, self.standard, most)
     }
 
-    fn file(&self, path: &[u8]) -> io::Result<&'static [u8]> {
+    fn file(&mut self, alloc: Global, path: &[u8], most: u64) -> io::Result<Vec<u8>> {
         if path == b"file".as_slice() {
-            Ok(self.text)
+            text_of(alloc, self.text, most)
         } else {
             Err(io::Error::from(ErrorKind::NotFound))
         }
+    }
+
+    fn page(&mut self, _path: &[u8]) -> io::Result<File> {
+        Err(io::Error::from(ErrorKind::NotFound))
     }
 }
 
@@ -55,16 +62,17 @@ fn options(rt: &impl Abort, alloc: Global, words: &[&str]) -> DaemonOptions {
 #[test]
 fn the_files_that_are_named(rt: HostRuntime) {
     let alloc = rt.alloc();
+    let mut texts = TEXTS;
     let found = options(
         &rt,
         alloc,
         &["saned", "--config=-", "--users=file", "--seed=0"],
     );
-    let Ok(lines) = config_lines(alloc, &TEXTS, &found) else {
+    let Ok(lines) = config_lines(alloc, &mut texts, &found) else {
         panic!(&rt; "no lines")
     };
     assert!(&rt; lines.len() == 1 && lines.as_slice().iter().all(|line| line.index == 3));
-    let Ok(users) = users_of(alloc, &TEXTS, &found) else {
+    let Ok(users) = users_of(alloc, &mut texts, &found) else {
         panic!(&rt; "no users")
     };
     assert!(&rt; users.needs(b"flatbed") && !users.needs(b"hand"));
@@ -73,7 +81,7 @@ fn the_files_that_are_named(rt: HostRuntime) {
         alloc,
         &["saned", "--config=-", "--users=other", "--seed=0"],
     );
-    let read = users_of(alloc, &TEXTS, &other);
+    let read = users_of(alloc, &mut texts, &other);
     assert!(&rt; matches!(read, Err(DaemonEnding::CannotRead(_))));
 }
 
@@ -89,7 +97,8 @@ const NAMES: [&[u8]; 4] = [b"threepass:7", b"feeder:2", b"hand:0", b"flatbed:9"]
 #[test]
 fn scanners_of_the_lines(rt: HostRuntime) -> Result<(), Fail> {
     let lines = parse_config(rt.alloc(), FOUR)?;
-    let made = scanners(&rt, lines.as_slice(), ByteOrder::Big)?;
+    let mut inputs = HostInputs { rt: &rt };
+    let made = scanners(rt.alloc(), &mut inputs, lines.as_slice(), ByteOrder::Big)?;
     assert!(rt; made.len() == 4);
     for (scanner, name) in made.as_slice().iter().zip(NAMES) {
         assert!(rt; scanner.info().name.as_bytes() == name && scanner.at_rest());

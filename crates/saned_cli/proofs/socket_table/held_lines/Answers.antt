@@ -1,6 +1,5 @@
-use Rattle.std.proofs.Common.{◌≡◌, ◌++◌, List, ℕ, ap, append_assoc, sym, ◌∙◌}
+use Rattle.std.proofs.Common.{◌++◌, List, ℕ, ap, sym, ◌∙◌}
 use Rattle.std.specs.Prelude.{map}
-use Rattle.saned_cli.specs.SocketTable.{held_lines}
 use Rattle.saned_cli.proofs.SocketLines.{gone_on, held, not_held, ended}
 use Rattle.saned_cli.proofs.socket_table.held_lines.Goals as goal
 

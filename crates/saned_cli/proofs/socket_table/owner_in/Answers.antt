@@ -1,4 +1,4 @@
-use Rattle.std.proofs.Common.{◌≤◌, ◌^◌, ℕ, Option, arith, subst, sym, ◌∙◌}
+use Rattle.std.proofs.Common.{◌≤◌, ◌^◌, ℕ, Option, arith, subst, sym}
 use Rattle.std.specs.Prelude.{IfNone}
 use Rattle.saned_cli.proofs.SocketLines.{if_none_map, large_number, too_large}
 use Rattle.saned_cli.proofs.socket_table.owner_in.Goals as goal

@@ -1,4 +1,4 @@
-use Rattle.std.proofs.Common.{◌≡◌, [], ◌∷◌, sym, ◌∙◌}
+use Rattle.std.proofs.Common.{◌≡◌, [], ◌∷◌}
 use Rattle.saned_cli.specs.SocketTable.{end_text, sockets_between}
 use Rattle.saned_cli.proofs.SocketLines.{if_none_map, of_one_line}
 use Rattle.saned_cli.proofs.socket_table.owner_of.Goals as goal

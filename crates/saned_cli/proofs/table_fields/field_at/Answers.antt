@@ -1,4 +1,4 @@
-use Rattle.std.proofs.Common.{◌≡◌, ℕ, List, Option, Some, None, arith, sym, ap, ◌∙◌, option_map, Bor}
+use Rattle.std.proofs.Common.{◌≡◌, ℕ, List, Some, None, arith, sym, ap, ◌∙◌, option_map, Bor}
 use Rattle.std.specs.List.{slice_get}
 use Rattle.dispatch.specs.ConfigLines.{fields_of}
 use Rattle.saned_cli.proofs.SocketLines.{none_at, some_at, more_at}

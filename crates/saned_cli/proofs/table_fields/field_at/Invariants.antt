@@ -1,4 +1,4 @@
-use Rattle.std.proofs.Common.{◌≡◌, ℕ, List, drop}
+use Rattle.std.proofs.Common.{◌≡◌, drop}
 use Rattle.dispatch.specs.ConfigLines.{fields_of}
 use Rattle.saned_cli.proofs.table_fields.field_at.Given as goal
 

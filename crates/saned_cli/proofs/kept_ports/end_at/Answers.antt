@@ -1,0 +1,13 @@
+use Rattle.saned_cli.specs.Inside.EndsAmong.{EndsThere}
+use Rattle.saned_cli.proofs.NetLaws.{keeps_without, without_port}
+use Rattle.saned_cli.proofs.kept_ports.end_at.Goals as goal
+
+pub returns-clause-ends : goal.returns-clause-ends
+returns-clause-ends g c =
+    EndsThere _ (without_port g.S.SocketCalls.number c.args.port c.args.ports.now.items c.as_slice.result.now _ c.in-Some.at c.remove-it.result c.as_slice.ensures.value c.in-Some.ensures c.remove-it.ensures.value c.remove-it.ensures.items)
+    c.end.ensures
+
+pub returns-clause-keeps : goal.returns-clause-keeps
+returns-clause-keeps g c =
+    keeps_without _ _ _ _ _ _ (without_port g.S.SocketCalls.number c.args.port c.args.ports.now.items c.as_slice.result.now _ c.in-Some.at c.remove-it.result c.as_slice.ensures.value c.in-Some.ensures c.remove-it.ensures.value
+    c.remove-it.ensures.items) c.end.ensures c.requires
