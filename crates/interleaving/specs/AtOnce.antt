@@ -25,8 +25,9 @@ gives_records (Connect port) = true
 gives_records (Turn room step (byte ∷ bytes)) = true
 gives_records act = false
 
--- **waits for (`waits_for`)**: a move that reads replies waits for an act that gives some out, one that takes records
--- for one that gives some out or accepts a data connection, both for the opening of the session; any other for none.
+-- **waits for (`waits_for`)**: a move that reads replies waits for an act that gives some out. One that takes records
+-- waits for an act that gives some out or accepts a data connection. Both wait for the opening of the session, and
+-- other moves for nothing.
 abbrev pub waits_for : Traffic → SessionAction → Bool
 waits_for (Reads bytes) act = gives_replies act
 waits_for (Takes bytes) act = gives_records act
@@ -55,7 +56,7 @@ AreHeldUp seen owner (OfServer action ∷ past) = AreHeldUp seen owner past
 AreHeldUp seen owner (OfJob i move ∷ past) = AreHeldUp seen owner past × IsHeldUp owner i (seen move) past
 
 -- **moves at once (`MovesAtOnce`, `AreHeldUp`, `IsHeldUp`)**: an order of the same journals over connections that hand
--- on, in which each job moves as soon as it may: right behind its last move, or an act that its move waits for.
+-- on. In it each job moves as soon as it may: right behind its last move, or behind an act that its move waits for.
 pub record MovesAtOnce {M : Type 0} (seen : M → Traffic) (owner : Owner) (acts : List (JointAction M)) : Type 0 where
   pub new : List (JointAction M)
   pub same : HaveSameJournals new acts

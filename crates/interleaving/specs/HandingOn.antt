@@ -31,8 +31,8 @@ abbrev pub WasSaid : {M : Type 0} → (M → Traffic) → Owner → ℕ → List
 WasSaid seen owner i bytes past = (k : ℕ) × (owner k ≡ Some i)
     × IsFront (bytes_heard seen (job_journal i past) ++ bytes) (projection_of k (server_journal past)).said
 
--- what it takes of the data connection that it made last the daemon gave out, on the one that it accepted last for the
--- job's session, and it accepted as many as were made: so the other end of that connection is the daemon
+-- the daemon gave out what the job takes of its newest data connection, on the one that it accepted last for the job's
+-- session, and it accepted as many as were made: so the daemon is at the other end of that connection
 abbrev pub CameFromDaemon : {M : Type 0} → (M → Traffic) → Owner → ℕ → List ℕ → List (JointAction M) → Type 0
 CameFromDaemon seen owner i bytes past =
     (k : ℕ) × (owner k ≡ Some i)
@@ -49,10 +49,10 @@ IsHandedOn seen owner (OfServer (Of k act)) past = MayServe seen owner k act pas
 IsHandedOn seen owner (OfServer action) past = Unit {0}
 IsHandedOn seen owner (OfJob i move) past = MayMove seen owner i (seen move) past
 
--- **hand on (`HandsOn`, `Owner`, `HaveOneSession`)**: each session's control connection is a job's, and no job has two;
--- in the one order what a session is fed is, with all before it, a front of what its job has written, what a job reads
--- a front of the replies that were taken of the core for its session, or of the records since the data connection was
--- accepted, and one is accepted only where the job has made more.
+-- **hand on (`HandsOn`, `Owner`, `HaveOneSession`)**: each session's control connection is a job's, and no job has two.
+-- In the one order, all that a session was fed is a front of what its job has written. What a job reads is a front of
+-- the replies that were taken of the core for its session, or of the records since the data connection was accepted. A
+-- data connection is accepted only if the job has made more than were accepted.
 unfoldable pub HandsOn : {M : Type 0} → (M → Traffic) → Owner → List (JointAction M) → Type 0
 HandsOn seen owner [] = Unit {0}
 HandsOn seen owner (action ∷ past) = HandsOn seen owner past × IsHandedOn seen owner action past
@@ -64,8 +64,8 @@ abbrev pub IsHandedOnAmong : {M : Type 0} → (M → Traffic) → Owner → Join
 IsHandedOnAmong seen owner (OfServer (Of k act)) past = (owner k ≡ None) ⊎ MayServe seen owner k act past
 IsHandedOnAmong seen owner action past = IsHandedOn seen owner action past
 
--- **hand on among strangers (`HandsOnAmong`)**: a session that no job has is a stranger's: it may be opened, be fed
--- any bytes, be given a data connection and be lost; whatever has an owner is handed on as without strangers.
+-- **hand on among strangers (`HandsOnAmong`)**: a session that no job has is a stranger's. It may be opened, be fed any
+-- bytes, be given a data connection and be lost. Whatever has an owner is handed on as without strangers.
 unfoldable pub HandsOnAmong : {M : Type 0} → (M → Traffic) → Owner → List (JointAction M) → Type 0
 HandsOnAmong seen owner [] = Unit {0}
 HandsOnAmong seen owner (action ∷ past) = HandsOnAmong seen owner past × IsHandedOnAmong seen owner action past

@@ -7,9 +7,9 @@ use Rattle.saned_serve.specs.Journal.{LoopAction}
 use Rattle.saned_serve.specs.Journal.LoopAction.{Of}
 
 -- **traffic (`Traffic`, `bytes_sent`, `bytes_heard`, `bytes_taken`, `connections_made`, `connections_accepted`)**: what
--- a move does on its job's connections: bytes are written to the control connection, or read of it, a data connection
--- is made, bytes are read of the one that was made last, or nothing of that; what comes of it over a journal; and how
--- many data connections a session was given.
+-- a move does on its job's connections. It writes bytes to the control connection, or reads some of it, or makes a data
+-- connection, or reads bytes of the newest one, or does none of that. Then what all moves of a journal do, and how many
+-- data connections a session was given.
 pub data Traffic : Type 0 where
   -- these bytes are written to the control connection
   Writes : (bytes : List ℕ) → Traffic

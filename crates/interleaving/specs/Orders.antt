@@ -12,8 +12,8 @@ use Rattle.interleaving.specs.HandingOn.{HandsOn, HaveOneSession, Owner}
 -- ---- acts of a server that give a job nothing
 
 -- **gives nothing (`GivesNothing`, `IsFreeOf`, `AllGiveNothing`)**: an act of the server that opens no session of the
--- job, accepts no data connection of it, and takes no reply and no record for it; and an act that is no move of the job
--- either.
+-- job, accepts no data connection of it, and takes no reply and no record for it. An act is free of the job if it is no
+-- move of the job either.
 --
 -- no byte and no connection is given to job i
 abbrev pub GivesNothing : Owner → ℕ → ℕ → SessionAction → Type 0
@@ -67,8 +67,9 @@ pub record HaveSameJournals {M : Type 0} (a b : List (JointAction M)) : Type 0 w
   pub server : server_journal a ≡ server_journal b
   pub jobs : (j : ℕ) → job_journal j a ≡ job_journal j b
 
--- **comes sooner (`ComesSooner`, `moves_among`, `others_among`)**: all moves of a job since then at once, and behind
--- them whatever else was done since, in its order: an interleaving of the same journals, over connections that hand on.
+-- **comes sooner (`ComesSooner`, `moves_among`, `others_among`)**: all moves of a job since then come at once. Behind
+-- them comes whatever else was done since, in its order. This interleaves the same journals, over connections that hand
+-- on.
 pub record ComesSooner {M : Type 0} (seen : M → Traffic) (owner : Owner) (i : ℕ)
     (since past : List (JointAction M)) : Type 0 where
   pub same : HaveSameJournals (others_among i since ++ (moves_among i since ++ past)) (since ++ past)
@@ -81,9 +82,9 @@ AllMayComeSooner M = (seen : M → Traffic) (owner : Owner) (i : ℕ) (since pas
 
 -- ---- what is on the way
 
--- **reads are fronts (`ReadsAreFronts`)**: of a session and its job: what was fed is a front of what was written, what
--- was read of the replies taken; no more data connections were accepted than made; where as many were, what was read of
--- the last is a front of its records, else nothing was read of it.
+-- **reads are fronts (`ReadsAreFronts`)**: of a session and its job. What was fed is a front of what was written, and
+-- what was read is a front of the replies taken. At most as many data connections were accepted as made. If as many
+-- were, what was read of the last one is a front of its records; else nothing was read of it.
 pub record ReadsAreFronts {M : Type 0} (seen : M → Traffic) (k i : ℕ) (past : List (JointAction M)) : Type 0 where
   pub requests : IsFront (projection_of k (server_journal past)).heard (bytes_sent seen (job_journal i past))
   pub replies : IsFront (bytes_heard seen (job_journal i past)) (projection_of k (server_journal past)).said

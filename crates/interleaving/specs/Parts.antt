@@ -18,9 +18,9 @@ IsControlHandedOn seen owner (OfServer (Of k act)) past = MayServe seen owner k 
 IsControlHandedOn seen owner (OfServer action) past = Unit {0}
 IsControlHandedOn seen owner (OfJob i move) past = MayHear seen owner i (seen move) past
 
--- **control connections hand on (`ControlHandsOn`, `ControlHandsOnAmong`)**: what a session is fed its job has written,
--- what a job hears the daemon said for its session, and a data connection is accepted for a session only where its job
--- has made one more; among strangers the server may do anything for a session that no job has.
+-- **control connections hand on (`ControlHandsOn`, `ControlHandsOnAmong`)**: a session is fed what its job has written,
+-- and a job hears what the daemon said for its session. A data connection is accepted for a session only if its job has
+-- made one more. Among strangers the server may do anything for a session that no job has.
 unfoldable pub ControlHandsOn : {M : Type 0} → (M → Traffic) → Owner → List (JointAction M) → Type 0
 ControlHandsOn seen owner [] = Unit {0}
 ControlHandsOn seen owner (action ∷ past) = ControlHandsOn seen owner past × IsControlHandedOn seen owner action past
@@ -41,8 +41,8 @@ abbrev pub MayTake : {M : Type 0} → (M → Traffic) → Owner → ℕ → Traf
 MayTake seen owner i (Takes bytes) past = CameFromDaemon seen owner i bytes past
 MayTake seen owner i other past = Unit {0}
 
--- **the other end is the daemon (`DataIsFromDaemon`, `CameFromDaemon`)**: all that jobs take of their data connections
--- the daemon gave out on those that it accepted for their sessions; no other that listens at such a port has one.
+-- **the other end is the daemon (`DataIsFromDaemon`, `CameFromDaemon`)**: the daemon gave out all that jobs take of
+-- their data connections, on those that it accepted for their sessions. No other listener at such a port has one.
 unfoldable pub DataIsFromDaemon : {M : Type 0} → (M → Traffic) → Owner → List (JointAction M) → Type 0
 DataIsFromDaemon seen owner [] = Unit {0}
 DataIsFromDaemon seen owner (OfServer action ∷ past) = DataIsFromDaemon seen owner past

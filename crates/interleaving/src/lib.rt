@@ -9,31 +9,31 @@ ghost use Rattle.interleaving.specs.Parts.{AnotherMayListen, HandsOnInParts, Han
 
 #[tactic(none)]
 pub fn moves_may_come_sooner<M>()
-    /// A move that comes just behind an act which gives its job nothing, no byte and no connection, may come just
-    /// before it.
+    /// An act may give a job nothing, no byte and no connection. A move of the job that comes just behind such an act may come
+    /// just before it.
     ensures { MovesMayComeSooner M }
 {}
 
 #[tactic(none)]
 pub fn all_may_come_sooner<M>()
-    /// From where the server gives a job nothing more on, the job may do at once all that it will yet do: each
-    /// journal is the same, and connections hand on as before.
+    /// Once the server gives a job nothing more, the job may do at once all that it will yet do. Each journal is the same, and
+    /// connections hand on as before.
     ensures { AllMayComeSooner M }
 {}
 
 /// Each job may move as soon as connections allow.
 #[tactic(none)]
 pub fn each_moves_at_once<M>()
-    /// Of every such order there is another, of the same journals and over connections that hand on, in which each job
-    /// moves as soon as it may: right behind its own last move, or an act that its move waits for.
+    /// For every such order there is another, of the same journals and over connections that hand on, in which each job moves as
+    /// soon as it may: right behind its own last move, or behind an act that its move waits for.
     ensures { EachMovesAtOnce M }
 {}
 
 /// Over connections that hand on, in every order, what was read of a job's connections is a front of what was given to them.
 #[tactic(none)]
 pub fn reads_were_written<M>()
-    /// In every such order what was read of each connection of a job is a front of what was given to it, and a data
-    /// connection that is not accepted yet gave nothing.
+    /// In every such order what was read of each connection of a job is a front of what was given to it. A data connection that
+    /// is not accepted yet gave nothing.
     ensures { ReadsWereWritten M }
 {}
 
@@ -44,7 +44,7 @@ pub fn orders_are_as_good_among_strangers<M>()
     ensures moves { MovesMayComeSoonerAmong M }
     /// So may all moves of a job from where the server gives it nothing more on.
     ensures all { AllMayComeSoonerAmong M }
-    /// What was read of each connection of a job is a front of what was given to it, whatever strangers say.
+    /// A job reads of each connection a front of what was given to it, whatever strangers say.
     ensures reads { ReadsWereWrittenAmong M }
 {}
 
@@ -62,8 +62,8 @@ pub fn strangers_are_apart<M>()
 /// That connections hand on is what is said of the control connections, and that each data connection's other end is the daemon.
 #[tactic(none)]
 pub fn connections_hand_on_in_parts<M>()
-    /// That connections hand on is two things: what the control connections do, and that the other end of each data
-    /// connection is the daemon.
+    /// Connections hand on in two parts: by what the control connections do, and since the other end of each data connection is
+    /// the daemon.
     ensures parts { HandsOnInParts M }
     /// So it is among strangers.
     ensures among { HandsOnInPartsAmong M }

@@ -1,6 +1,6 @@
 -- Behind the loss of a data connection no frame flows on it, so a turn gives no byte.
 use Rattle.std.specs.Option.{option_and_then}
-use Rattle.std.proofs.Common.{◌≡◌, ◌≢◌, ◌∙◌, ◌⊎◌, inl, inr, ℕ, Bool, true, false, Option, Some, None, List, [], ◌∷◌, length, take, drop, refl, sym, ap, subst, arith}
+use Rattle.std.proofs.Common.{◌≡◌, ◌≢◌, ◌∙◌, ◌⊎◌, inl, inr, ℕ, true, false, Option, Some, None, List, [], ◌∷◌, length, take, drop, refl, sym, ap, subst}
 use Rattle.device_api.specs.State.{DeviceState}
 use Rattle.saned_requests.specs.declared.session.Session.{Session}
 use Rattle.saned_core.specs.declared.session_slot.DataStep.{DataStep}

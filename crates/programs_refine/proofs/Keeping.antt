@@ -14,6 +14,7 @@ use Rattle.scan_job.specs.declared.outcome.Outcome.TheVariants.{Done, Ended}
 use Rattle.scan_job.specs.declared.outcome.Why.TheVariants as whys
 use Rattle.client_replies.specs.ProtocolStates.{is_running, wanted_port}
 use Rattle.client_replies.specs.declared.progress.Progress.{Progress}
+use Rattle.frame_join.proofs.GivenKept.{whole_front}
 use Rattle.net_client.specs.ClientStates.{ClientState}
 use Rattle.net_jobs.specs.JobSteps.{files_by_steps, given_by_steps}
 use Rattle.interleaving.specs.Interleavings.{job_journal}
@@ -185,7 +186,7 @@ stopped_by right h v acts i job led at x =
     let text = given_by_steps (job_journal i acts) in
     record {
       stops = x;
-      not_whole = λ whole. (let told = k.file.whole text x.files.file whole in let clash : Ended statuses.IoError whys.Lost ≡ Done told.0 = sym x.lost ∙ told.2 in cc);
+      not_whole = λ whole. (let told = k.file.whole text (length text) x.files.file (whole_front text whole) in let clash : Ended statuses.IoError whys.Lost ≡ Done told.0 = sym x.lost ∙ told.2 in cc);
       pages = λ n bytes at. page_kept h v i job p turned text n bytes x.files at (k.pages (n + 1));
     }
 

@@ -6,6 +6,7 @@ use Rattle.page_sources.specs.SourceView.{source_state}
 use Rattle.device_api.specs.State.{DeviceState}
 use Rattle.scan_job.specs.declared.job.Job.{Job}
 use Rattle.client_replies.specs.ProtocolStates.{is_running}
+use Rattle.frame_join.proofs.GivenKept.{holds_not_whole}
 use Rattle.net_client.specs.ClientStates.{ClientState}
 use Rattle.net_jobs.specs.JobSteps.{files_by_steps, given_by_steps}
 use Rattle.netpbm.specs.Pnm.{IsWhole}
@@ -62,7 +63,7 @@ kept_by u v acts i job last p is x =
       is_of = is;
       outcome = subst (IsOutcome u i) x.outcome (p.outcomes i e x.at);
       statuses = λ status why ended. p.statuses i e status why x.at (x.outcome ∙ ended);
-      short = λ undone whole. p.short i e x.text x.at (ap is_done x.outcome ∙ undone) x.files.file whole;
+      short = λ undone. holds_not_whole x.text (p.short i e x.text x.at (ap is_done x.outcome ∙ undone) x.files.file);
       scanned = λ reports scan done. p.scans i e reports x.text x.at (task ∙ scan) (x.outcome ∙ done) x.files.file;
       pages = λ k bytes at. p.pages i k e bytes x.at (let low = slice_get_within x.finished k bytes at in let count = x.files.count in omega (arith, low, count)) (x.files.each k bytes at);
       count = λ count reports batch done. p.batches i count e reports x.at (task ∙ batch) (x.outcome ∙ done);
@@ -75,7 +76,7 @@ stopped_by u v acts i job p is x =
     record {
       stops = x;
       is_of = is;
-      not_whole = λ whole. p.short i e (given_by_steps (job_journal i acts)) x.at (ap is_done x.lost) x.files.file whole;
+      not_whole = holds_not_whole (given_by_steps (job_journal i acts)) (p.short i e (given_by_steps (job_journal i acts)) x.at (ap is_done x.lost) x.files.file);
       pages = λ k bytes at. p.pages i k e bytes x.at (let low = slice_get_within turned k bytes at in let count = x.files.count in omega (arith, low, count)) (x.files.each k bytes at);
     }
 

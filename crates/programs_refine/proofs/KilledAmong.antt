@@ -1,5 +1,5 @@
 -- A run in which a stranger speaks, and the loop of one job is killed within a step.
-use Rattle.std.proofs.Common.{◌≡◌, ◌∙◌, inl, inr, ℕ, zero, suc, false, true, Some, None, List, [], ◌∷◌, All, slice_get, refl, sym, ap, subst, arith}
+use Rattle.std.proofs.Common.{◌≡◌, ◌∙◌, ℕ, zero, suc, false, true, Some, None, List, [], ◌∷◌, All, slice_get, refl, ap, subst}
 use Rattle.std.proofs.lemmas.List.Elements.{All-from_recursion}
 use Rattle.rand_chacha.specs.ChaCha.{ChaCha}
 use Rattle.md5_auth.specs.declared.users.Entry.{Entry}
@@ -27,12 +27,12 @@ use Rattle.md5_auth.specs.Challenges.{HasGiven}
 
 -- ---- of two jobs
 
-two_jobs : (one two job : Job) (i : ℕ) (P : ℕ → Job → Type 0) → slice_get (one ∷ two ∷ []) i ≡ Some job → P 0 one → P 1 two → P i job
+pub two_jobs : (one two job : Job) (i : ℕ) (P : ℕ → Job → Type 0) → slice_get (one ∷ two ∷ []) i ≡ Some job → P 0 one → P 1 two → P i job
 two_jobs one two job zero P e p q = let same : Some one ≡ Some job = e in let is : one ≡ job = cc in subst (P 0) is p
 two_jobs one two job (suc zero) P e p q = let same : Some two ≡ Some job = e in let is : two ≡ job = cc in subst (P 1) is q
 two_jobs one two job (suc (suc i)) P e p q = absurd (let clash : None ≡ Some job = e in cc)
 
-abbrev first_of : ClientState → ClientState → ℕ → ClientState
+abbrev pub first_of : ClientState → ClientState → ℕ → ClientState
 first_of c b zero = c
 first_of c b (suc i) = b
 
@@ -77,7 +77,7 @@ killed_run one two c b registry users strings stream port byte new newer count m
     )
 
 -- what a world takes of devices and jobs it takes of these
-killed_is_fit : (devices : List DeviceState) (one two : Job) (users : List Entry) (strings : StringSize) (stream : ChaCha) (seed : List ℕ) → HasGiven seed 0 stream → HaveOwnNames devices → All HasLimits devices → IsFitJob one → IsFitJob two → AreFit devices (one ∷ two ∷ []) (new_core (fresh_table devices) users strings stream)
+pub killed_is_fit : (devices : List DeviceState) (one two : Job) (users : List Entry) (strings : StringSize) (stream : ChaCha) (seed : List ℕ) → HasGiven seed 0 stream → HaveOwnNames devices → All HasLimits devices → IsFitJob one → IsFitJob two → AreFit devices (one ∷ two ∷ []) (new_core (fresh_table devices) users strings stream)
 killed_is_fit devices one two users strings stream seed seeded names limits fit fitter = record { daemon = record { registry = refl; slots = refl; opened = refl }; seed = seed; seeded = seeded; names = names; limits = limits; fit = All-from_recursion (λ (j : Job). IsFitJob j) (one ∷ two ∷ []) (fit, (fitter, tt)) }
 
 pub killed_told : ProgramsTellEachAmongStrangers → KilledAmongIsTold

@@ -27,4 +27,7 @@ pub mod WorkedRuns
 mod StrangerComes
 mod ToldAmong
 mod KilledAmong
+mod KilledBeside
+mod AnyLoops
 mod LedInto
+mod Interleaved

@@ -302,7 +302,7 @@ went_same v i acts other last e same = subst (λ (l : List JobStep). WentOut (Is
 files_same : (v : WorldCore) (i : ℕ) (acts other : Acts) (s : StopsAlike v i other) → job_journal i other ≡ job_journal i acts → HasFilesOf (files_by_steps (job_journal i acts)) (given_by_steps (job_journal i acts)) s.endpoint
 files_same v i acts other s same = subst (λ (l : List JobStep). HasFilesOf (files_by_steps l) (given_by_steps l) s.endpoint) same s.files
 
-ends_same : (h : History) (v : WorldCore) (i : ℕ) (job : Job) (acts other : Acts) (last : ClientState) → job_journal i other ≡ job_journal i acts → LoopIsKept h v i job other last → LoopIsKept h v i job acts last
+pub ends_same : (h : History) (v : WorldCore) (i : ℕ) (job : Job) (acts other : Acts) (last : ClientState) → job_journal i other ≡ job_journal i acts → LoopIsKept h v i job other last → LoopIsKept h v i job acts last
 ends_same h v i job acts other last same k =
     let e = k.ends in
     record {
@@ -313,7 +313,7 @@ ends_same h v i job acts other last same k =
       count = k.count;
     }
 
-stops_same : (h : History) (v : WorldCore) (i : ℕ) (job : Job) (acts other : Acts) → job_journal i other ≡ job_journal i acts → StoppedIsKept h v i job other → StoppedIsKept h v i job acts
+pub stops_same : (h : History) (v : WorldCore) (i : ℕ) (job : Job) (acts other : Acts) → job_journal i other ≡ job_journal i acts → StoppedIsKept h v i job other → StoppedIsKept h v i job acts
 stops_same h v i job acts other same k =
     let p = k.stops.endpoint in
     record {

@@ -1,7 +1,7 @@
 -- All acts may come in an order in which no job makes a step behind the end of its session, and none takes bytes of a data connection
 -- behind its loss: the one in which each job moves as soon as connections allow.
 use Rattle.std.specs.Prelude.{◌<◌, ◌≤◌, ◌&&◌}
-use Rattle.std.proofs.Common.{◌≡◌, ◌≢◌, ◌∙◌, ◌⊎◌, inl, inr, ℕ, ◌+◌, Bool, true, false, Option, Some, List, [], ◌∷◌, length, slice_get, refl, sym, ap, subst, arith}
+use Rattle.std.proofs.Common.{◌≡◌, ◌≢◌, ◌∙◌, ◌⊎◌, inl, inr, ℕ, ◌+◌, Bool, true, false, Some, List, [], ◌∷◌, length, slice_get, refl, sym, ap, subst, arith}
 use Rattle.saned_core.specs.declared.session_slot.Fed.{Fed}
 use Rattle.saned_core.specs.DaemonLimits.{HasDaemonLimits}
 use Rattle.saned_core.specs.DaemonStates.{Core}
@@ -12,16 +12,16 @@ use Rattle.net_jobs.specs.JobJournal.{JobMove}
 use Rattle.net_jobs.specs.JobJournal.JobMove.{Writes, Fails, Hears as HearsReplies, Resumes, Prepares, Dials, Takes, Gives, Loses}
 use Rattle.net_jobs.specs.JobSteps.{JobStep, StepLeads, StepsLead}
 use Rattle.saned_serve.specs.SessionActions.{ActsOn, SessionAction}
-use Rattle.saned_serve.specs.SessionActions.SessionAction.{Opens, Hears, Feed, Forgets, Take, Says, Looks, Misses, Connect, Turn, Shows, Lose, HangsUp, Leaves}
+use Rattle.saned_serve.specs.SessionActions.SessionAction.{Opens, Feed, Connect, Turn, Leaves}
 use Rattle.saned_serve.specs.Journal.{DaemonRuns, IsJournal, LoopAction, MayDo, SessionProjection, has_stopped, projection_of}
-use Rattle.saned_serve.specs.Journal.LoopAction.{Of, Full, Waits, Refuses, Turned, Stops}
+use Rattle.saned_serve.specs.Journal.LoopAction.{Of}
 use Rattle.saned_serve.specs.JournalSummary.{IsInJournal}
 use Rattle.saned_serve.proofs.ActionSteps.{stands_for}
 use Rattle.saned_serve.proofs.Openings.{below_count}
 use Rattle.in_flight.proofs.Slots.{decide}
 use Rattle.interleaving.specs.Interleavings.{Traffic, connections_accepted, connections_made, job_journal, made_with, server_journal}
 use Rattle.interleaving.specs.Interleavings.JointAction.{OfJob, OfServer}
-use Rattle.interleaving.specs.Interleavings.Traffic.{Writes as WritesBytes, Reads as ReadsBytes, Dials as MakesConnection, Takes as TakesBytes, NoTraffic}
+use Rattle.interleaving.specs.Interleavings.Traffic.{Reads as ReadsBytes, Dials as MakesConnection, Takes as TakesBytes, NoTraffic}
 use Rattle.interleaving.specs.AtOnce.{AreHeldUp, IsHeldUp, gives_records, is_owned, waits_for, waits_for_action}
 use Rattle.interleaving.specs.HandingOn.{HandsOnAmong, HaveOneSession, MayMove, Owner}
 use Rattle.interleaving.specs.Orders.{HaveSameJournals}

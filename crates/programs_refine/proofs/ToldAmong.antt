@@ -1,13 +1,12 @@
 -- What a world promises of jobs among strangers, of the programs.
-use Rattle.std.proofs.Common.{◌≡◌, ◌∙◌, ℕ, Bool, true, false, Some, None, List, [], ◌∷◌, ◌++◌, slice_get, refl, sym, ap, subst}
+use Rattle.std.proofs.Common.{◌≡◌, ℕ, Bool, true, false, Some, None, List, [], ◌∷◌, ◌++◌, refl, sym, ap, subst, length}
 use Rattle.page_sources.specs.SourceView.{source_state}
 use Rattle.netpbm.specs.Pnm.{IsWhole}
 use Rattle.device_api.specs.State.{DeviceState}
 use Rattle.dispatch.specs.Table.{fresh_table}
 use Rattle.scan_job.specs.declared.job.Job.{Job}
-use Rattle.scan_job.specs.declared.outcome.Outcome.{Outcome}
-use Rattle.scan_job.specs.declared.outcome.Outcome.TheVariants.{Done}
 use Rattle.client_replies.specs.ProtocolStates.{is_running}
+use Rattle.frame_join.proofs.GivenKept.{whole_front}
 use Rattle.net_client.specs.ClientStates.{ClientState}
 use Rattle.net_jobs.specs.JobSteps.{given_by_steps}
 use Rattle.saned_core.specs.DaemonStates.{Core}
@@ -20,7 +19,7 @@ use Rattle.strangers.specs.Together.{AllIsKeptAmongStrangers, JointEvent, events
 use Rattle.scan_world.specs.Histories.{History, LedTo, of_jobs}
 use Rattle.scan_world.specs.Laws.{AllIsRight}
 use Rattle.scan_world.proofs.Elsewhere.{elsewhere, unnamed}
-use Rattle.programs_refine.specs.AmongStrangers.{LeadsAmong, RunAmongStrangers}
+use Rattle.programs_refine.specs.AmongStrangers.{LeadsAmong}
 use Rattle.programs_refine.specs.Keeping.{AreFit, LoopIsKept, StoppedIsKept}
 use Rattle.programs_refine.specs.KeepingAmong.{AreKnown, stranger_acts}
 use Rattle.programs_refine.specs.Programs.{Acts, IsWorldOf}
@@ -102,7 +101,7 @@ kept_completes_none h v i job acts last each stopped undone whole = by (is_runni
     by false over =
         let x = each over in
         let went = undone_went_out _ _ _ _ _ (λ done. never_both (is_done last.outcome) done.1 undone) x.ends.went_out in
-        let told = x.file.whole x.ends.text refl (subst IsWhole (sym went) whole) in
+        let told = x.file.whole x.ends.text (length x.ends.text) refl (whole_front x.ends.text (subst IsWhole (sym went) whole)) in
         never_both (is_done last.outcome) (ap is_done told.2) undone
 
 pub none_whole : NoneIsToldWhole

@@ -97,10 +97,10 @@ pub record AreAWorldAmong (source : Source → SourceState) (jobs : List Job) (o
       → StopsAlike v i acts
 
 -- **come to a world among strangers (`ComeToAWorldAmong`, `AreAWorldAmong`, `HasDaemonAmong`, `LeadsAmong`,
--- `AreOfStrangers`)**: from the new world of that daemon and these jobs events of connections and acts of strangers,
--- each for a session that no job has, lead to a world whose daemon is the server's, but for replies that are on their
--- way; from there losses alone lead to where each job that is over has the outcome that its loop has, and its files are
--- what went out, and each job that runs has lost its connection, and its files are what went out.
+-- `AreOfStrangers`)**: from the new world of that daemon and these jobs, events of connections and acts of strangers,
+-- each for a session that no job has, lead to a world whose daemon is the server's, but for replies on their way. From
+-- there losses alone lead to a world in which each job that is over has the outcome that its loop has, and each job
+-- that runs has lost its connection. The files are what went out.
 pub record ComeToAWorldAmong (source : Source → SourceState) (jobs : List Job) (owner : Owner) (d : Core) (acts : Acts)
     (end : Core) (last : ℕ → ClientState) : Type 0 where
   pub w : WorldCore

@@ -48,9 +48,9 @@ history_of devices seed jobs d events =
     record { devices = devices; users = d.users; seed = seed; jobs = jobs; events = of_jobs events }
 
 -- **is kept (`LoopIsKept`, `StoppedIsKept`, `AllLoopsAreKept`)**: what a world promises of the outcome, the files and
--- the count of pages of a job, of what its loop came to, by a history of such events that led to a world where it is
--- so; and of a job that was stopped while it ran, that no whole file went out but of pages that were turned, and each
--- of these is kept.
+-- the count of pages of a job holds of what its loop came to, by a history of such events that led to a world where it
+-- is so. Of a job that was stopped while it ran, no whole file went out but of pages that were turned, and each of
+-- these is kept.
 --
 -- a world's promise on the outcome and the files of a job, said of what its loop came to; memory ran out where it did
 -- in the world
@@ -63,7 +63,7 @@ pub record LoopIsKept (h : History) (v : WorldCore) (i : ℕ) (job : Job) (acts 
       → PageIsKept h v i job ends.endpoint.out_of_memory (length ends.finished) (k + 1) (Some bytes)
   pub count : CountIsKept h v i job last.outcome (length ends.finished)
 
--- of a job whose loop was stopped while it ran, as one that is killed: what went out of its file is no whole file, and
+-- a job whose loop was stopped while it ran, as one that is killed: what went out of its file is no whole file, and
 -- each page that was turned is kept
 pub record StoppedIsKept (h : History) (v : WorldCore) (i : ℕ) (job : Job) (acts : Acts) : Type 0 where
   pub stops : StopsAlike v i acts

@@ -76,8 +76,8 @@ pub record AreKnown (sources : ℕ → PageSources) (other : Job) (devices : Lis
   pub have : HaveSourcesAt sources devices
   pub unnamed : (k : ℕ) → name_at (map info_of_state devices) k ≢ Some other.device
 
--- in a world of those a job that wants the data connection of a frame has none that flows, and no reply comes to a job
--- before the request that it answers was taken, whatever connections and strangers did
+-- in a world of those, a job that wants the data connection of a frame has none that flows, and a reply comes to a job
+-- only after the request that it answers was taken, whatever connections and strangers did
 abbrev pub WorldsKeepTurnAmongStrangers : Type 0
 WorldsKeepTurnAmongStrangers =
     (sources : ℕ → PageSources) (other : Job) (devices : List DeviceState) (jobs : List Job) (d : Core) (w : WorldCore)
@@ -86,9 +86,9 @@ WorldsKeepTurnAmongStrangers =
 
 -- **kept of loops among strangers (`AllLoopsAreKeptAmong`, `LoopIsKeptAmong`, `StoppedIsKeptAmong`)**: events of
 -- connections and acts of strangers led from the new world of that daemon and these jobs to one in which all is kept
--- that is promised of jobs among strangers; and by what that world stands for each job whose loop is over has an
--- outcome by the model, no whole file where it is not done, the picture of its start where it is a scan that is done,
--- and finished pages of its starts; each that was stopped has no whole file but of such pages.
+-- that is promised of jobs among strangers. By what that world stands for, each job whose loop is over has an outcome
+-- by the model, no whole file if it is not done, the picture of its start if it is a scan that is done, and finished
+-- pages of its starts. Each that was stopped has no whole file but of such pages.
 pub record AllLoopsAreKeptAmong (sources : ℕ → PageSources) (other : Job) (devices : List DeviceState)
     (jobs : List Job) (owner : Owner) (d : Core) (acts : Acts) (last : ℕ → ClientState) : Type 0 where
   pub w : WorldCore
@@ -136,8 +136,8 @@ stranger_acts port byte =
     ∷ OfServer (Of 0 (Hears (Moved 1) 4096 (byte ∷ [])))
     ∷ OfServer (Of 0 (Take 4096 [])) ∷ OfServer (Of 0 (Opens port)) ∷ []
 
--- **a stranger comes (`StrangerComesIsARun`, `StrangerComesIsKept`)**: that is a run among strangers beside any one job
--- that its loop takes, and none without them; and where a world takes devices and job, all of that is kept of it.
+-- **a stranger comes (`StrangerComesIsARun`, `StrangerComesIsKept`)**: beside any one job that its loop takes, that is
+-- a run among strangers, and without them none. If a world takes devices and job, all of that is kept of it.
 abbrev pub StrangerComesIsARun : Type 0
 StrangerComesIsARun =
     (job : Job) (c : ClientState) (registry : Table) (users : List Entry) (strings : StringSize) (stream : ChaCha)

@@ -20,8 +20,8 @@ use Rattle.interleaving.specs.Parts.{ControlHandsOn, DataIsFromDaemon}
 use Rattle.programs_refine.specs.StepTraffic.{traffic_of}
 use Rattle.programs_refine.specs.Programs.{Acts, HasOpenedNone, OwnersAreJobs, RunOverConnections}
 
--- **led into (`LoopLeads`, `Interleaves`)**: a job's loop came from a new client by these steps to this one; acts in
--- which the journal of a server that has served is one, and such steps of each job are the others.
+-- **led into (`LoopLeads`, `Interleaves`)**: a job's loop came from a new client by these steps to this one. Acts
+-- interleave if the journal of a server that has served is one part of them, and such steps of each job are the others.
 pub record LoopLeads (job : Job) (steps : List JobStep) (last : ClientState) : Type 0 where
   pub first : ClientState
   pub fresh : IsNewClient job first

@@ -10,3 +10,5 @@ pub mod KeepingAmong
 pub mod StoppedAmong
 pub mod ToldAmong
 pub mod ToldOfEach
+pub mod KilledAlone
+pub mod BesideAnyLoops

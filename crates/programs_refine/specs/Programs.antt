@@ -113,7 +113,7 @@ pub record AreAWorld (source : Source → SourceState) (jobs : List Job) (w : Wo
 
 -- **run over connections (`RunOverConnections`)**: a daemon that has opened no session yet, jobs of which a batch has 1
 -- to 16 pages, the loop of each from a new client on, the journal of the server, and connections that hand on what they
--- are given: each control connection is a job's (`OwnersAreJobs`, `ControlHandsOn`), and the other end of each data
+-- are given. Each control connection is a job's (`OwnersAreJobs`, `ControlHandsOn`), and the other end of each data
 -- connection is the daemon (`DataIsFromDaemon`).
 pub record RunOverConnections (jobs : List Job) (owner : Owner) (d : Core) (acts : Acts)
     (last : ℕ → ClientState) : Type 0 where
@@ -135,11 +135,11 @@ pub record IsWorldOf (d : Core) (jobs : List Job) (w : WorldCore) : Type 0 where
   pub endpoints : AreNew jobs w.endpoints
 
 -- **come to a world (`ComeToAWorld`, `AreAWorld`, `EndsAlike`, `StopsAlike`, `HasDaemonOf`)**: from the new world of
--- that daemon and these jobs events of connections lead to a world whose daemon is the server's, but for replies that
--- are on their way; from there losses alone (`AreLosses`) lead to where each job that is over has the outcome that its
--- loop has, and its files are what went out (`WentOut`, `HasFilesOf`): those of the finished pages and the one under
--- way, or, of a batch that is done with its last page (`IsDoneBatch`), all of finished pages; and each job that runs
--- has lost its connection, and its files are what went out.
+-- that daemon and these jobs, events of connections lead to a world whose daemon is the server's, but for replies on
+-- their way. From there losses alone (`AreLosses`) lead to a world in which each job that is over has the outcome that
+-- its loop has, and each job that runs has lost its connection. The files are what went out (`WentOut`, `HasFilesOf`):
+-- those of the finished pages and the one under way, or, of a batch that is done with its last page (`IsDoneBatch`),
+-- all of finished pages.
 pub record ComeToAWorld (source : Source → SourceState) (jobs : List Job) (d : Core) (acts : Acts) (end : Core)
     (last : ℕ → ClientState) : Type 0 where
   pub w : WorldCore

@@ -50,8 +50,8 @@ pub record RunOfAnyLoopsAmong (jobs : List Job) (owner : Owner) (d : Core) (whol
   pub hands_on : ControlHandsOnAmong traffic_of owner acts
   pub from_daemon : DataIsFromDaemon traffic_of owner acts
 
--- **kept of whole loops among strangers (`WholeLoopsAreKeptAmong`)**: what is kept of loops among strangers, of each
--- that did whole steps, by one world that events of connections and acts of strangers led to.
+-- **kept of whole loops among strangers (`WholeLoopsAreKeptAmong`)**: each loop that did whole steps keeps what loops
+-- among strangers keep, by one world that events of connections and acts of strangers led to.
 pub record WholeLoopsAreKeptAmong (sources : ℕ → PageSources) (other : Job) (devices : List DeviceState)
     (jobs : List Job) (owner : Owner) (d : Core) (whole : ℕ → Bool) (acts : Acts)
     (last : ℕ → ClientState) : Type 0 where
@@ -107,9 +107,9 @@ abbrev pub lost_or_killed : ClientState → ClientState → ℕ → ClientState
 lost_or_killed lost killed zero = lost_client lost
 lost_or_killed lost killed (suc i) = killed
 
--- **one is killed among strangers (`KilledAmongIsARun`, `KilledAmongIsKept`)**: that is such a run beside any two jobs
--- that loops take, and none of whole loops, whatever they came to; and where a world takes devices and jobs, all of
--- that is kept of the first.
+-- **one is killed among strangers (`KilledAmongIsARun`, `KilledAmongIsKept`)**: beside any two jobs that loops take,
+-- that is such a run, and no run of whole loops, whatever they came to. If a world takes devices and jobs, all of that
+-- is kept of the first.
 abbrev pub KilledAmongIsARun : Type 0
 KilledAmongIsARun =
     (one two : Job) (c b : ClientState) (registry : Table) (users : List Entry) (strings : StringSize) (stream : ChaCha)

@@ -20,9 +20,10 @@ use Rattle.programs_refine.specs.Programs.{Acts, HasOpenedNone, OwnersAreJobs}
 use Rattle.programs_refine.specs.WorldHistory.{AreOfConnections}
 use Rattle.programs_refine.specs.Keeping.{AreFit, LoopIsKept, StoppedIsKept, history_of}
 
--- **stops within (`StopsWithin`, `LoopsLeadOrStop`)**: a loop whose last move was that a piece came, behind which it
--- did nothing more for its job but that some bytes of the file went out, or none: its output failed, it was killed, or
--- it had no memory for what it was to tell. Up to that piece it did whole steps.
+-- **stops within (`StopsWithin`, `LoopsLeadOrStop`)**: a loop whose last move was that a piece came. Behind it some
+-- bytes of the file went out, or none, and the loop did nothing more for its job: its output failed, or it was killed.
+-- Up to that piece it did whole steps. A loop that has no memory for what it is to tell is none of these, as it still
+-- writes CLOSE and EXIT (`LoopsLeadOrNot`).
 pub record StopsWithin (first : ClientState) (steps : List JobStep) (last : ClientState) : Type 0 where
   pub step : JobStep
   pub before : List JobStep

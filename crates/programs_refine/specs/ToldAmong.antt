@@ -36,9 +36,9 @@ joint_history devices seed jobs d events =
     record { devices = devices; users = d.users; seed = seed; jobs = jobs; events = events }
 
 -- **told among strangers (`AllLoopsAreToldAmong`, `LoopIsKept`, `StoppedIsKept`)**: events of connections and acts of
--- strangers, each for a session that no job has, led to a world; and by that history of both each job whose loop is
--- over has all that a world promises of its outcome, files, pages and count, and each that was stopped no whole file
--- but of pages that were turned, and each of these is kept.
+-- strangers, each for a session that no job has, led to a world. By that history each job whose loop is over has all
+-- that a world promises of its outcome, files, pages and count. Each that was stopped has no whole file but of pages
+-- that were turned, and each of these is kept.
 pub record AllLoopsAreToldAmong (devices : List DeviceState) (jobs : List Job) (owner : Owner) (d : Core) (acts : Acts)
     (last : ℕ → ClientState) : Type 0 where
   pub seed : List ℕ

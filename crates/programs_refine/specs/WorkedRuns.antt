@@ -21,12 +21,15 @@ use Rattle.saned_core.specs.declared.session_slot.Fed.TheVariants.{Starved}
 use Rattle.saned_core.specs.DaemonStates.{Core}
 use Rattle.saned_serve.specs.declared.sockets.Got.TheVariants.{Moved}
 use Rattle.saned_serve.specs.SessionActions.SessionAction.{Connect, Feed, Hears, Lose, Opens, Take, Turn}
-use Rattle.saned_serve.specs.Journal.LoopAction.{Of}
+use Rattle.saned_serve.specs.Journal.LoopAction.{Of, Stops}
+use Rattle.saned_serve.specs.Serving.{DaemonAndListeners, ServeLimits}
+use Rattle.saned_serve.specs.declared.serving.ServeEnd.TheVariants as endings
 use Rattle.interleaving.specs.Interleavings.JointAction.{OfJob, OfServer}
 use Rattle.interleaving.specs.AmongStrangers.{owned_by_none}
 use Rattle.interleaving.specs.HandingOn.{HandsOn, Owner}
 use Rattle.event_world.specs.Worlds.{IsFitJob}
 use Rattle.programs_refine.specs.Keeping.{AllLoopsAreKept, AreFit}
+use Rattle.programs_refine.specs.LedInto.{Interleaves}
 use Rattle.programs_refine.specs.StepTraffic.{traffic_of}
 use Rattle.programs_refine.specs.Programs.{Acts, RunOverConnections}
 use Rattle.md5_auth.specs.Challenges.{HasGiven}
@@ -70,9 +73,10 @@ abbrev pub lost_client : ClientState → ClientState
 lost_client c = after_client_end statuses.IoError whys.Lost c
 
 -- **small runs (`LostAtOnceIsARun`, `StarvedIsARun`, `starved_acts`, `NewIsFit`, `StarvedIsKept`)**: of any one job
--- that its loop takes, beside any new daemon: its connection is lost before it wrote anything; or it writes its first
--- request, the daemon opens its session, is fed the first byte and runs out of memory, and the job finds its connection
--- lost. Both are runs over connections; and of the second, where a world takes devices and job, the loop is kept.
+-- that its loop takes, beside any new daemon. In the first its connection is lost before it wrote anything. In the
+-- second it writes its first request, the daemon opens its session, is fed the first byte and runs out of memory, and
+-- the job finds its connection lost. Both are runs over connections. If a world takes devices and job, the loop of the
+-- second is kept.
 abbrev pub LostAtOnceIsARun : Type 0
 LostAtOnceIsARun =
     (job : Job) (c : ClientState) (registry : Table) (users : List Entry) (strings : StringSize) (stream : ChaCha)
@@ -118,3 +122,31 @@ LostMayBringMore =
     (port room byte : ℕ) → HandsOn traffic_of owned_by_first (OfJob 0 (takes_byte byte) ∷ OfServer (Of 0 Lose)
     ∷ OfServer (Of 0 (Turn room (Bytes 1) (byte ∷ []))) ∷ OfServer (Of 0 (Connect port))
     ∷ OfJob 0 (makes_connection port) ∷ OfServer (Of 0 (Opens port)) ∷ [])
+
+-- ---- a server that takes no turn
+
+-- such a daemon, and listeners that tell nothing
+abbrev pub new_server : Table → List Entry → StringSize → ChaCha → DaemonAndListeners
+new_server registry users strings stream =
+    record { daemon = new_core registry users strings stream; listeners = None }
+
+-- it stops, and the job finds its connection lost; the newest first
+abbrev pub stopped_acts : Acts
+stopped_acts = OfJob 0 loses ∷ OfServer Stops ∷ []
+
+-- **a server without memory (`StoppedInterleaves`, `stopped_acts`, `new_server`)**: the journal of a server that had no
+-- memory for a turn says that all turns are over. It interleaves with the loop of any one job that a loop takes, which
+-- finds its connection lost. That is a run over connections.
+abbrev pub StoppedInterleaves : Type 0
+StoppedInterleaves =
+    (limits : ServeLimits) (job : Job) (c : ClientState) (registry : Table) (users : List Entry) (strings : StringSize)
+    (stream : ChaCha) → IsNewClient job c
+    → Interleaves limits (new_server registry users strings stream) (new_server registry users strings stream)
+    endings.NoMem (job ∷ []) stopped_acts (λ i. lost_client c)
+
+abbrev pub StoppedIsARun : Type 0
+StoppedIsARun =
+    (limits : ServeLimits) (job : Job) (c : ClientState) (registry : Table) (users : List Entry) (strings : StringSize)
+    (stream : ChaCha) → IsNewClient job c → HasCount job.task
+    → RunOverConnections (job ∷ []) owned_by_none (new_core registry users strings stream) stopped_acts
+    (λ i. lost_client c)

@@ -7,9 +7,9 @@ use strangers::all_is_kept_among_strangers;
 
 #[tactic(none)]
 pub fn programs_are_a_world_among_strangers()
-    /// Where strangers speak to the server as well, events of connections and acts of strangers, each for a session
-    /// that no job has, lead to a world whose daemon is the server's, but for replies that are on their way; and from
-    /// there losses alone to where each job that is over is as its loop has it.
+    /// If strangers speak to the server as well, events of connections and acts of strangers, each for a session that no job has,
+    /// lead to a world whose daemon is the server's, but for replies on their way. From there losses alone lead to a world in
+    /// which each job that is over is as its loop has it.
     /// Carried by: `programs_are_a_world_among_strangers`: `ComeToAWorldAmong`, `HasDaemonAmong`
     ensures { ProgramsAreAWorldAmongStrangers }
 {}
@@ -18,17 +18,17 @@ pub fn programs_are_a_world_among_strangers()
 pub fn runs_are_among_strangers()
     /// A run over connections is one among strangers, in which none speaks.
     ensures over_connections { RunsAreAmongStrangers }
-    /// Acts in which the journal of a server that has served from its first session on and loops of jobs, whose batches
-    /// have 1 to 16 pages, are interleaved are one, with what is assumed of connections: that the control connections
-    /// hand on among strangers, and that the other end of each data connection is the daemon.
+    /// Take acts in which the journal of a server that has served from its first session on and loops of jobs, whose batches have
+    /// 1 to 16 pages, are interleaved. They are such a run if the control connections hand on among strangers, and the other end
+    /// of each data connection is the daemon.
     ensures led { LoopsLeadIntoRunsAmong }
 {}
 
 /// What that law asks of worlds is so.
 #[tactic(none)]
 pub fn worlds_keep_turn_among_strangers()
-    /// What that law asks of worlds is so among strangers: a job that wants the data connection of a frame has none
-    /// that flows, and no reply comes to a job before the request that it answers was taken.
+    /// Worlds among strangers meet what that law asks: a job that wants the data connection of a frame has none that flows, and
+    /// no reply comes to a job before the request that it answers was taken.
     ensures { WorldsKeepTurnAmongStrangers }
 {
     all_is_kept_among_strangers();
@@ -37,12 +37,12 @@ pub fn worlds_keep_turn_among_strangers()
 /// What is promised of jobs among strangers, in the model's words, holds of what their loops come to.
 #[tactic(none)]
 pub fn programs_keep_among_strangers()
-    /// So where strangers speak to the server, a job whose loop is over has an outcome by the model: a scan that is
-    /// done the picture of its start, where the sources of its device are steady; one that is not no whole file.
+    /// So if strangers speak to the server, a job whose loop is over has an outcome by the model. A scan that is done has the
+    /// picture of its start, if the sources of its device are steady. One that is not done has no whole file.
     /// Carried by: `programs_keep_among_strangers`: `LoopIsKeptAmong`
     ///
-    /// Of a job that is stopped while it runs no whole file went out but of pages that were turned, each of which is
-    /// that of its start, where its sources are steady.
+    /// A job that is stopped while it runs let no whole file out but of pages that were turned. Each of these is that of its
+    /// start, if its sources are steady.
     /// Carried by: `programs_keep_among_strangers`: `StoppedIsKeptAmong`
     ensures { ProgramsKeepAmongStrangers }
 {

@@ -4,8 +4,8 @@ ghost use Rattle.programs_refine.specs.LedInto.{BatchDoneLeads, BatchEndedLeads,
 
 #[tactic(none)]
 pub fn loops_lead<L>()
-    /// What `run_job` and `run_batch` ensure is a loop of that job: where it is Done, or told as its client ended, from
-    /// a new client on, by steps with which its files went out.
+    /// `run_job` and `run_batch` ensure a loop of that job if it is Done, or told as its client ended: from a new client on, by
+    /// steps with which its files went out.
     ensures done { DoneLeads L }
     ensures ended { EndedLeads L }
     ensures batch_done { BatchDoneLeads L }
@@ -17,8 +17,8 @@ pub fn loops_lead<L>()
 
 #[tactic(none)]
 pub fn loops_lead_into_runs()
-    /// Acts in which the journal of a server that has served from its first session on and such loops of jobs, whose
-    /// batches have 1 to 16 pages, are interleaved are a run, with what is assumed of connections: that the control
-    /// connections hand on, and that the other end of each data connection is the daemon.
+    /// Take acts in which the journal of a server that has served from its first session on and such loops of jobs, whose batches
+    /// have 1 to 16 pages, are interleaved. They are a run if the control connections hand on, and the other end of each data
+    /// connection is the daemon.
     ensures { LoopsLeadIntoRuns }
 {}

@@ -19,16 +19,19 @@ pub use among_strangers::{
 pub use led_into::{loops_lead, loops_lead_into_runs};
 use scan_world::all_is_right;
 pub use stopped_loops::{
-    no_other_is_told_whole, one_may_be_killed_among_strangers, programs_keep_each,
-    programs_keep_each_among_strangers, programs_tell_each_among_strangers,
-    stopped_loops_complete_none, the_other_is_kept_among_strangers,
-    the_other_is_told_among_strangers,
+    no_other_is_told_whole, one_may_be_killed, one_may_be_killed_among_strangers,
+    one_may_do_anything, programs_keep_each, programs_keep_each_among_strangers,
+    programs_tell_each_among_strangers, programs_tell_each_beside_any, stopped_loops_complete_none,
+    the_other_is_kept, the_other_is_kept_among_strangers, the_other_is_told_among_strangers,
 };
 pub use told_among::{
     a_run_among_strangers_is_told, devices_are_known, none_is_told_whole,
     programs_keep_all_among_strangers,
 };
-pub use worked_runs::{a_lost_connection_may_bring_more, a_run_is_kept, there_are_runs};
+pub use worked_runs::{
+    a_lost_connection_may_bring_more, a_run_is_kept, a_stopped_server_is_interleaved,
+    there_are_runs,
+};
 use world_refines::{a_new_world_refines, a_run_refines};
 
 /// Whatever a server and any number of jobs' loops did over connections, in one order, some events of connections lead the new world
@@ -36,13 +39,13 @@ use world_refines::{a_new_world_refines, a_run_refines};
 /// has the premises.
 #[tactic(none)]
 pub fn programs_are_a_world()
-    /// Whatever a server and jobs did so, some events of connections lead the new world of that daemon and these jobs
-    /// to where its daemon is the server's, but for replies that are on their way to their jobs.
+    /// Whatever a server and jobs did so, some events of connections lead the new world of that daemon and these jobs to a world
+    /// whose daemon is the server's, but for replies on their way to their jobs.
     /// Carried by: `programs_are_a_world`: `ComeToAWorld`, `HasDaemonOf`
     ///
-    /// From there losses of control connections alone, of jobs that are connected for that where they were not, lead
-    /// on to where each job that is over has the outcome that its loop has, and its files, of finished pages and the
-    /// one under way, are what went out.
+    /// From there losses of control connections alone, of jobs that are connected for that if they were not, lead to a world in
+    /// which each job that is over has the outcome that its loop has. Its files, of finished pages and the one under way, are
+    /// what went out.
     /// Carried by: `programs_are_a_world`: `AreAWorld`, `AreLosses`, `EndsAlike`
     ensures { ProgramsAreAWorld }
 {}
@@ -72,13 +75,13 @@ pub fn worlds_hear_in_turn()
 /// its file is what a world promises of a file.
 #[tactic(none)]
 pub fn programs_keep_all()
-    /// So of each job whose loop is over holds what a world promises of its outcome and files, by a history that led to
-    /// such a world: done, the picture that its settings mean on the page of its start, where the pages that came are
-    /// steady; else a status and a cause, and no whole file.
+    /// So each job whose loop is over has what a world promises of its outcome and files, by a history that led to such a world:
+    /// if it is done, the picture that its settings mean on the page of its start, as far as the pages that came are steady; else
+    /// a status and a cause, and no whole file.
     /// Carried by: `programs_keep_all`: `LoopIsKept`
     ///
-    /// Of a job that is stopped while it runs, as one that is killed between two steps of its loop, no whole file went
-    /// out but those of a batch's pages that were turned, and each of these is kept.
+    /// A job that is stopped while it runs, as one that is killed between two steps of its loop, let no whole file out but those
+    /// of a batch's pages that were turned. Each of these is kept.
     /// Carried by: `programs_keep_all`: `StoppedIsKept`
     ensures { ProgramsKeepAll }
 {

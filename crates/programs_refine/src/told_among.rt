@@ -8,8 +8,8 @@ use strangers::all_is_kept_among_strangers;
 /// THE HEADLINE, OF LOOPS AMONG STRANGERS, as a world tells it.
 #[tactic(none)]
 pub fn programs_keep_all_among_strangers()
-    /// Of each job whose loop is over holds all that a world promises of its outcome and files, by a history of events and
-    /// strangers' acts: done, the picture that its settings mean on the page of its start, where the pages that came are
+    /// Each job whose loop is over has all that a world promises of its outcome and files, by a history of events and strangers'
+    /// acts: if it is done, the picture that its settings mean on the page of its start, as far as the pages that came are
     /// steady; else a status, what explains it, and no whole file.
     /// Carried by: `programs_keep_all_among_strangers`: `AllLoopsAreToldAmong`, `LoopIsKept`
     ///
@@ -30,7 +30,7 @@ pub fn none_is_told_whole()
 
 #[tactic(none)]
 pub fn a_run_among_strangers_is_told()
-    /// Of the run in which a stranger comes all of that is told, over any devices of which a world is made.
+    /// All of that is told of the run in which a stranger comes, over any devices of which a world is made.
     ensures { StrangerComesIsTold }
 {
     programs_keep_all_among_strangers();

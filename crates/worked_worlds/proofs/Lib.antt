@@ -1,2 +1,6 @@
+mod GrayDots
+mod HandShow
 mod Trays
+mod TwoFlatbeds
 mod Worked
+mod ThreePages

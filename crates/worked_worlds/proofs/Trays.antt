@@ -6,7 +6,6 @@ use Rattle.page_picture.specs.Meaning.{meaning_of}
 use Rattle.page_picture.specs.Page.{PageView}
 use Rattle.page_picture.specs.Source.{SourceState}
 use Rattle.page_picture.specs.declared.scene.DeviceKind.TheVariants.{Feeder}
-use Rattle.sane_fixed.specs.declared.byte_order.ByteOrder.TheVariants.{Little}
 use Rattle.device_api.specs.State.{DeviceState, feeds}
 use Rattle.device_api.specs.Values.{defaults}
 use Rattle.scan_job.specs.declared.job.Job.{Job}
@@ -28,15 +27,15 @@ use Rattle.worked_worlds.proofs.Worked.{Came, IsOther, Moved, at_there, came_off
 
 -- ---- a feeder of its own
 
-only_job : (job other : Job) (j : ℕ) → slice_get (job ∷ []) j ≡ Some other → j ≡ 0
+pub only_job : (job other : Job) (j : ℕ) → slice_get (job ∷ []) j ≡ Some other → j ≡ 0
 only_job job other zero at = refl
 only_job job other (suc j) at = absurd (let clash : None ≡ Some other = at in cc)
 
-is_fed : (name : List ℕ) (pages : List PageView) → feeds (feeder_with name pages) ≡ true
+pub is_fed : (name : List ℕ) (pages : List PageView) → feeds (feeder_with name pages) ≡ true
 unfolding defaults
 is_fed name pages = refl
 
-abbrev own_tray : (name : List ℕ) (pages : List PageView) (users : List Entry) (seed : List ℕ) (job : Job) (new : WorldCore) (c : Came (feeder_with name pages ∷ []) users seed job new) → name ≡ job.device → OwnTray (history_of (feeder_with name pages ∷ []) users seed job new c) 0 job
+abbrev pub own_tray : (name : List ℕ) (pages : List PageView) (users : List Entry) (seed : List ℕ) (job : Job) (new : WorldCore) (c : Came (feeder_with name pages ∷ []) users seed job new) → name ≡ job.device → OwnTray (history_of (feeder_with name pages ∷ []) users seed job new c) 0 job
 own_tray name pages users seed job new c named = record {
   device = feeder_with name pages;
   is_there = (0, omega arith, refl);

@@ -57,7 +57,7 @@ pub record Moved (devices : List DeviceState) (users : List Entry) (seed : List 
   pub came : Came devices users seed job new
   pub whole : (name : List ℕ) → In (Unplug name) came.events → ⊥
 
-quiet_in : (ms : List Event) (e : Event) → AllByRecursion LoadsNothing ms → In e ms → LoadsNothing e
+pub quiet_in : (ms : List Event) (e : Event) → AllByRecursion LoadsNothing ms → In e ms → LoadsNothing e
 quiet_in [] e all among = absurd among
 quiet_in (m ∷ ms) e all (inl same) = subst LoadsNothing (sym same) all.0
 quiet_in (m ∷ ms) e all (inr among) = quiet_in ms e all.1 among

@@ -1,2 +1,4 @@
+pub mod DotFiles
+pub mod HandTable
 pub mod Inside
 pub mod Worked

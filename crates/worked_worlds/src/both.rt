@@ -27,9 +27,9 @@ pub fn scan_both_surely(
     ensures first_file { IfOk result (λ files. IsFedScanOf first job files.0.items) }
     /// The second file is of the picture that they mean on the second page.
     ensures second_file { IfOk result (λ files. IsFedScanOf second job files.1.items) }
-    /// There are both for a batch of two that names the feeder, whose settings can be in force there and mean a picture on
-    /// each page, and whose password is right, if a line of the users names its backend; but where memory ran out, or
-    /// the session of the job broke off, which its next move told.
+    /// There are both for a batch of two that names the feeder, if its settings can be in force there and mean a picture on each
+    /// page, and its password is right if a line of the users names its backend. Else memory ran out, or the session of the job
+    /// broke off, which its next move told.
     /// Carried by: `err` of `scan_both_surely`: `IsPlainBatch`, `HasBrokenOff`
     ensures err { IfErr result (λ why. IsPlainBatch name first second users job
         → (why ≡ NoFile.NoMem)

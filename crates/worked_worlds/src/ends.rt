@@ -68,17 +68,27 @@ pub(crate) enum End {
     Other,
 }
 
-/// How it ended, or stands.
+/// How the one job ended, or stands.
 pub(crate) fn end_of(world: &World) -> End
     ensures done { let w = seen_world ⟦<Box<dyn Device> as Device>⟧.state world.now.inner in
         result ≡ End.Done → (reports : Reports) × (outcome_at w 0 ≡ Some (Done reports)) }
     ensures other { let w = seen_world ⟦<Box<dyn Device> as Device>⟧.state world.now.inner in
-        result ≡ End.Other → IsOtherEnd w }
+        result ≡ End.Other → IsOtherEnd w 0 }
 {
-    if world.starved(0) {
+    end_at(world, 0)
+}
+
+/// How job i ended, or stands.
+pub(crate) fn end_at(world: &World, i: usize) -> End
+    ensures done { let w = seen_world ⟦<Box<dyn Device> as Device>⟧.state world.now.inner in
+        result ≡ End.Done → (reports : Reports) × (outcome_at w i ≡ Some (Done reports)) }
+    ensures other { let w = seen_world ⟦<Box<dyn Device> as Device>⟧.state world.now.inner in
+        result ≡ End.Other → IsOtherEnd w i }
+{
+    if world.starved(i) {
         return End::OutOfMemory;
     }
-    match world.outcome(0) {
+    match world.outcome(i) {
         Some(Outcome::Done(_)) => End::Done,
         Some(Outcome::Ended(Status::NoMem, Why::Memory)) => End::OutOfMemory,
         Some(_) | None => End::Other,

@@ -52,9 +52,9 @@ pub fn scan_surely(
 ) -> Result<Vec<u8>, NoFile>
     /// The file is of the picture that the job's settings mean on that very page.
     ensures ok { IfOk result (λ bytes. job.task ≡ tasks.Scan → IsScanOf page job bytes.items) }
-    /// There is one for a job that names the flatbed, whose settings can be in force there and mean a picture on its page,
-    /// and whose password is right, if a line of the users names its backend; but where memory ran out, or the session of the job
-    /// broke off, which its next move told.
+    /// There is one for a job that names the flatbed, if its settings can be in force there and mean a picture on its page, and
+    /// its password is right if a line of the users names its backend. Else memory ran out, or the session of the job broke off,
+    /// which its next move told.
     /// Carried by: `err` of `scan_surely`: `IsPlainScan`, `HasBrokenOff`
     ensures err { IfErr result (λ why. IsPlainScan name page users job → (why ≡ NoFile.NoMem)
         ⊎ ((why ≡ NoFile.BrokenOff) × HasBrokenOff (flatbed_with name page ∷ []) users job)) }

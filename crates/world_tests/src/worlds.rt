@@ -23,6 +23,7 @@ mod noise;
 mod records;
 mod sharing;
 mod strings;
+mod uses;
 
 /// A scanner, and its pages.
 #[derive(Clone, Copy)]
