@@ -19,7 +19,8 @@ use Rattle.scan_job.specs.declared.report.Reports.{Reports}
 -- ---- the beginning, and the ends that no message brings
 
 -- **begun, stopped (`initial_protocol`, `stopped_by`), outcomes alike (`EndAlike`)**: a new client; a job that runs and
--- ends by no message; the job runs, is done or has ended for both, with the same reports, status and why.
+-- ends by no message. Outcomes are alike where the job runs, is done or has ended for both, with the same reports,
+-- status and why.
 abbrev pub initial_protocol : List (List ℕ × List ℕ) → ProtocolState
 initial_protocol settings =
     record {

@@ -108,10 +108,10 @@ is_nil (f ∷ more) = false
 
 -- ---- a job that runs
 
--- **what both know (`Knows`), wait for (`WaitsAs`)**: reports alike in name, asked, given and info; the descriptors,
--- and the values told so far, each at an option whose value is to be told (`OnlyReadableHaveValues`); at most 1,024
--- options; the number of the file. For each thing that the client may wait for the model's own, with what is still to
--- come.
+-- **what both know (`Knows`), wait for (`WaitsAs`)**: reports alike in name, asked, given and info; the descriptors;
+-- the values told so far, each at an option whose value is to be told (`OnlyReadableHaveValues`); at most 1,024
+-- options; the number of the file. For each thing that the client may wait for there is the model's own, with what is
+-- still to come.
 pub record Knows (task : Task) (pages : List (List Frame)) (puts : List Report)
     (options : List (Descriptor × Option Value)) (file : ℕ)
     (reports : List words.AbstractReport) (devices : List ℕ) (known : List Descriptor)
@@ -184,8 +184,8 @@ pub record GetIsKnown (known : List (Descriptor × Option Value)) (n : ℕ) (kin
   pub kind_is : kind ≡ option.0.kind
   pub size_is : size ≡ option.0.size
 
--- **apt (`IsApt`, `SetIsKnown`, `GetIsKnown`)**: what the client keeps of its request is right: the answer to the
--- challenge, a value that a text reads as by the option's descriptor, the option's kind and size.
+-- **apt (`IsApt`, `SetIsKnown`, `GetIsKnown`)**: what the client keeps of its request is right. That is the answer to
+-- the challenge, the value that a text reads as by the option's descriptor, or the option's kind and size.
 abbrev pub IsApt : JobTarget → Progress → Notes → Type 0
 IsApt target (stages.Allowing resource answer) notes = answer_of resource target.password ≡ Some answer
 IsApt target (stages.Putting n kind name asked) notes = SetIsKnown notes.known n kind asked
@@ -217,10 +217,11 @@ OutcomeRefines place target job pages Running progress notes past m = KnowsAs ta
 OutcomeRefines place target job pages (Done reports) progress notes past m = DoneAs place target.task reports m
 OutcomeRefines place target job pages (Ended status why) progress notes past m = EndedAs status why m
 
--- **refines (`ClientRefines`)**: a protocol state of the client refines a client view of the model: the files (`Files`:
--- the frames of the page under way, and of the pages before it, whose join may be gone), and, where the job runs, what
--- both know and what both wait for; where it is done, the reports, the devices, the options shown; where it ended,
--- status and why. It is a relation: the model keeps the texts of settings, the client ports, kinds and its device word.
+-- **refines (`ClientRefines`)**: a protocol state of the client refines a client view of the model. They agree on the
+-- files (`Files`: the frames of the page under way, and of the pages before it, whose join may be gone). Where the job
+-- runs, they agree on what is known and waited for; where it is done, on the reports, the devices and the options
+-- shown; where it ended, on status and why. It is a relation: the model keeps the texts of settings, the client keeps
+-- ports, kinds and its device word.
 pub record ClientRefines (place : DeviceInfo → ℕ) (target : JobTarget) (job : model.AbstractJob)
     (pages : List (List Frame)) (protocol : ProtocolState) (m : model.ClientView) : Type 0 where
   pub files : Files pages protocol.history m.frames m.pages

@@ -18,9 +18,9 @@ use Rattle.system_model.specs.AbstractMessages as words
 use Rattle.system_model.specs.Devices.{abstract_info}
 
 -- **decoded reply (`DecodedReply`, `decoded_reply_at`)**: what a reply of the wire is to the model, by what the client
--- waits for: an answer; the word of AUTHORIZE, that goes before one; or that the password itself is asked for, for
--- which they have no word. A reply of another shape than what is awaited, or while none is, is an answer to what nobody
--- asked.
+-- waits for. It is an answer, or the word of AUTHORIZE, which goes before one, or a request for the password itself,
+-- for which the client has no word. A reply of another shape than the awaited one answers what nobody asked. So does a
+-- reply while none is awaited.
 pub data DecodedReply : Type 0 where
   Before : DecodedReply
   Says : (answer : words.AbstractReply) → DecodedReply

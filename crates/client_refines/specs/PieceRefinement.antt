@@ -65,8 +65,9 @@ Hearing job word h (Says answer) Holds = Holds (listening_after job word h (hear
 Hearing job word h Demands Holds = Holds (listening_after job word h (client_refusing h.client))
 
 -- **what a call hears and comes to (`HearingAll`, `HeedsAs`, `ReceivesPiece`, `TakesAs`)**: the client view goes from
--- reply to reply, and what it asks for each time is laid up; by the case of the client's contract how the client reads
--- then, and what was sent: of a piece of the control connection, of a data connection, and as a page's file is taken.
+-- reply to reply, and each time its requests are laid up. The case of the client's contract says how the client reads
+-- then, and what was sent. There is one relation for a piece of the control connection, one for a data connection, and
+-- one for the taking of a page's file.
 --
 -- what is so of it once it has heard these, one after another
 abbrev pub HearingAll : (DeviceInfo → ℕ) → JobTarget → model.AbstractJob → ProtocolState → List Reply
@@ -150,8 +151,8 @@ EndByteRefines place target job pages given past new m sent None =
 EndByteRefines place target job pages given past new m sent (Some status) =
     EndRecordRefines place target job pages given past new (finish_in m.stage job.task m status) sent
 
--- What comes of a piece: bytes of the frame, and of these more than it may have, behind which no more is read; an end
--- behind them; or out of memory behind a front of them. Of the file nothing more is given.
+-- What comes of a piece: bytes of the frame, or more than the frame may have, so that no more is read; or an end behind
+-- them; or out of memory behind a front of them. Nothing more of the file is given.
 pub data ReceivesPiece (place : DeviceInfo → ℕ) (job : model.AbstractJob) (pages : List (List Frame))
     (m : model.ClientView) (old : ClientState) (was : JoinHistory) (piece : List ℕ) (new : ClientState) : Type 0 where
   Goes : (given : List ℕ) (past : JoinHistory) → CarriesRecords old.phase new.phase piece given

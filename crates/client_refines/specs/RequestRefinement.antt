@@ -43,7 +43,7 @@ pub record IsSet (word : ℕ) (known : List Descriptor) (n : ℕ) (request_for :
   pub value_is : value ≡ wire_of request_for
 
 -- **the same requests (`IsRequest`, `AreRequests`, `AsksAt`)**: which request of the wire is which of the model, for a
--- client of that target and device word that knows these descriptors; for each thing waited for, what is asked as the
+-- client of that target and device word, with these descriptors. For each thing waited for: the request made as the
 -- wait begins, or later.
 abbrev pub IsRequest : JobTarget → ℕ → List Descriptor → Request → words.AbstractRequest → Type 0
 IsRequest target word known (requests.Init version user) words.Init = (version ≡ 16777219) × (user ≡ target.user)
@@ -63,8 +63,8 @@ IsRequest target word known (requests.Close device) words.Close = device ≡ wor
 IsRequest target word known requests.Exit words.Exit = Unit {0}
 IsRequest target word known q r = ⊥
 
--- **what a call spells (`ExpectedRequest`, `SpellsSent`, `SpellsSentAt`)**: what the model asks for, with the device
--- word and the descriptors of then; the bytes sent are spellings of such requests, one behind the other.
+-- **what a call spells (`ExpectedRequest`, `SpellsSent`, `SpellsSentAt`)**: the model's request, with the device word
+-- and the descriptors of that time. The bytes sent spell such requests, one behind the other.
 --
 -- what the model asks for as the client has that device word and knows these descriptors
 pub record ExpectedRequest : Type 0 where
@@ -85,8 +85,8 @@ abbrev pub request_list : Option Request → List Request
 request_list None = []
 request_list (Some q) = q ∷ []
 
--- What is asked for is asked for by both; but the reply to OPEN behind AUTHORIZE's word is asked for by AUTHORIZE, and
--- the START of a further page goes out as the page's file is taken.
+-- Both ask for the same. Two requests are made elsewhere: AUTHORIZE asks for the reply to OPEN that comes behind its
+-- word, and the START of a further page goes out as the page's file is taken.
 abbrev pub AsksAt : JobTarget → ℕ → List Descriptor → Progress → Option Request → List words.AbstractRequest → Type 0
 AsksAt target word known stages.Reopening q rs = q ≡ None
 AsksAt target word known stages.Turning q rs = (q ≡ None) × (rs ≡ words.Start ∷ [])

@@ -1,5 +1,5 @@
-//! A client and the client of the system model are one: what a client over the net makes of replies, and of the data of a
-//! frame, is what the model makes of their decoded reply.
+//! A client and the client of the system model are one. A client over the net makes of replies and frame data what the model
+//! makes of their decoded reply.
 #![tactic(auto)]
 
 mod frame_laws;

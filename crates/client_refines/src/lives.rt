@@ -12,13 +12,13 @@ pub fn jobs_stop_alike()
     ensures { JobsStopAlike }
 {}
 
-/// A client whose file is taken, or whose image connection is made, is read as before.
+/// A client reads as before when its file is taken, and when its image connection is made.
 pub fn pulls_and_links_are_unseen()
     ensures { PullsAndLinksAreUnseen }
 {}
 
-/// The calls that hear nothing, as the client's contracts tell them: it is made, and asks for its greeting; it is cancelled,
-/// and says farewell; a link that counts is lost; and its data connection is made.
+/// The calls that hear nothing, as the client's contracts tell them: the client is made, and asks for its greeting; it is
+/// cancelled, and says farewell; it loses a link that counts; its data connection is made.
 pub fn calls_are_alike()
     ensures made { NewClientsAreAlike }
     ensures cancelled { CancelsAreAlike }
@@ -26,8 +26,8 @@ pub fn calls_are_alike()
     ensures connected { ConnectionsAreUnseen }
 {}
 
-/// A job is done for the client just where it is for the client view that it reads as, with the same reports, and has ended just
-/// where it has, with the same status and why.
+/// A job is done for the client just where the client view that it reads as is done, with the same reports. It has ended just
+/// where the view has, with the same status and why.
 pub fn outcomes_are_alike()
     /// It is done, or has ended, just where that client view is or has, with the same reports, status and why.
     ensures { OutcomesAreAlike }

@@ -37,8 +37,8 @@ is_running (Ended status why) = false
 -- ---- how a job goes on
 
 -- **protocol state (`ProtocolState`, `HistoryFits`)**: the outcome, what is waited for and known, and the history of
--- the join; which histories fit what is waited for: where a scan is done its frames show a picture, and a job that
--- ended has no whole file.
+-- the join. A history fits what is waited for: the frames of a scan that is done show a picture, and a job that ended
+-- has no whole file.
 --
 -- The protocol state so far, and what was told to the join and given of the file under way.
 pub record ProtocolState : Type 0 where

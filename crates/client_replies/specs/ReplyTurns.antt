@@ -252,9 +252,9 @@ abbrev pub begun_by : Option JoinFault → ℕ → Next
 begun_by None port = Wait (stages.Imaging port false)
 begun_by (Some fault) port = stop_unjoined fault
 
--- **heard (`turn_after_reply`)**: what a reply makes of a job, one function for each reply and each thing waited for:
--- it waits on, it is done, or it ends with a status and why. The tests come in this order: a resource where none may
--- be, the status, the value's shape.
+-- **heard (`turn_after_reply`)**: what a reply makes of a job, one function for each reply and each thing waited for.
+-- The job waits on, is done, or ends with a status and why. The tests come in this order: a resource where none may be,
+-- the status, the value's shape.
 --
 -- what a reply makes of a job that does not wait for the parameters of a frame
 abbrev pub turn_after_reply : JobTarget → Progress → Notes → Reply → Turn

@@ -1,5 +1,5 @@
-//! The model of a client of a scanner over the net, on messages: what a job comes to by each reply and at the end of a frame,
-//! and what it asks for (SANE Standard 1.06, the network protocol chapter). Nothing here speaks of bytes on a connection.
+//! The model of a client of a scanner over the net, on messages: what each reply and each end of a frame makes of a job, and what
+//! the job asks for (SANE Standard 1.06, the network protocol chapter). Nothing here speaks of bytes on a connection.
 #![tactic(auto)]
 
 mod asking;

@@ -21,7 +21,7 @@ pub record HasRoom (entries : ℕ) : Type 0 where
 abbrev pub IsStep : Bounds → ℤ → Type 0
 IsStep range word = (k : ℕ) × (word ≡ (range.min +ℤ (pos k *ℤ range.quant)))
 
--- **admitted (`AdmittedByRange`)**: a range admits min + k * quant, k from 0 on, up to max, and where quant is 0 all of
--- min to max; a list admits its entries; no constraint admits everything.
+-- **admitted (`AdmittedByRange`)**: a range admits min + k * quant up to max, for k from 0 on. A range with quant 0
+-- admits everything from min to max. A list admits its entries. No constraint admits everything.
 abbrev pub AdmittedByRange : Bounds → ℤ → Type 0
 AdmittedByRange range word = (word ≤ℤ range.max) × (((range.quant ≡ pos 0) × (range.min ≤ℤ word)) ⊎ IsStep range word)

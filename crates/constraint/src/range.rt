@@ -77,10 +77,9 @@ impl Range {
 
     /// The admitted word nearest to `word`, of two the greater, and whether it differs from `word`.
     pub fn nearest_word(&self, word: i32) -> (i32, bool)
-        /// Of a range, and of a list, the nearest admitted word is given: no admitted word is closer, over all 32-bit
-        /// words.
+        /// A range and a list give the nearest admitted word: no admitted word is closer, over all 32-bit words.
         ///
-        /// Of two equally close ones it is the greater in a range, and the first listed in a list.
+        /// Of two equally close ones a range gives the greater, and a list the one that it lists first.
         ensures nearest { NearestInRange self.now word result.0 }
         /// Each is flagged exactly where it differs from what was asked.
         /// Carried by: `differs` of `Range::nearest_word`, `WordList::nearest_word`, `StringList::match_string`

@@ -123,9 +123,8 @@ impl StringList {
         Ok(StringList { entries })
     }
 
-    /// The place of the entry that the text is matched with, and whether the entry differs from the text:
-    /// that of the first equal entry, else that of the only one which begins with the text without
-    /// regard to ASCII case.
+    /// The place of the entry that matches the text, and whether the entry differs from the text. The first equal entry matches.
+    /// Without one, an entry that begins with the text matches if it is the only one, in upper or lower case (ASCII).
     pub fn match_string(&self, text: &[u8]) -> Option<(usize, bool)>
         /// A text is matched with its entry: the first equal one, else the only one that begins with it without
         /// regard to case.

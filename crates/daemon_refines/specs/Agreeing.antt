@@ -22,8 +22,8 @@ manner d word =
       infos = listed_infos d.registry;
     }
 
--- **agrees (`Agrees`)**: the replies spell what comes by the model; both go on or both end; the request context behind
--- shows the devices and the session that come; and where the session ends, what it held is given back as by the model.
+-- **agrees (`Agrees`)**: the replies spell what comes by the model. Both go on, or both end. The request context behind
+-- shows the devices and the session that come. A session that ends gives back what it held, as by the model.
 pub record Agrees (i : ℕ) (make : ℕ → Make) (m : Manner) (q : Asked) (comes : FullEffect) (said : RequestAnswer)
     (new : RequestContext) : Type 0 where
   pub says : SpellsSaid m q comes.told said

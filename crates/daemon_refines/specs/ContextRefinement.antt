@@ -46,9 +46,10 @@ abbrev pub abstract_device_as : Option ℕ → Setup → List PageView → ScanP
 abstract_device_as holder options tray phase =
     record { listed = true; holder = holder; options = options; tray = tray; phase = phase }
 
--- **seen (`abstract_device`, `tray_of`, `phase_at`)**: a scanner and who holds it, as a listed device of the model: its
--- options; the pages that starts at rest take, where the first of a feeder that scans is no more among them; at rest,
--- or the frame that ended last and those to come, or the frame that is read, what is left of it and those after it.
+-- **seen (`abstract_device`, `tray_of`, `phase_at`)**: a scanner and its holder, as a listed device of the model. It
+-- has its options, and the pages that starts at rest take; the first page of a feeder that scans is no longer among
+-- them. It is at rest, or has the frame that ended last and those to come, or the frame under way with what is left of
+-- it and those after it.
 abbrev pub abstract_device : Option ℕ → DeviceState → AbstractDevice
 abstract_device holder s = abstract_device_as holder s.setup (tray_of s) (phase_at (scan.place_of s))
 
@@ -148,11 +149,11 @@ IsAwaited held registry table None sent = sent ≡ None
 IsAwaited held registry table (Some a) None = ⊥
 IsAwaited held registry table (Some a) (Some sent) = Names a.name registry table sent.1 × (free_word held ≢ None)
 
--- **refines (`ContextRefines`, `TableRefines`)**: a request context is this session of client i, and these devices: the
--- words are the places of their leases, of four words; the frame and, of one that waits or streams, its word, whose
--- device is read; what is awaited, for which a word is free; each leased device is seen as held by client i, no two of
--- one place; a device in its place is seen as held by nobody, an unplugged one as not listed, and one that is out is
--- held by a word of this session or by another client.
+-- **refines (`ContextRefines`, `TableRefines`)**: a request context is this session of client i, and these devices. The
+-- session's four words are the places of its leases. It has the same frame, and of a frame that waits or streams the
+-- word, whose device is read. It awaits the same, and has a word free for that. Each leased device is seen as held by
+-- client i, no two of one place. A device in its place is seen as held by nobody, an unplugged one as not listed. A
+-- device that is out is held by a word of this session or by another client.
 pub record ContextRefines (i : ℕ) (make : ℕ → Make) (d : RequestContext) (table : ℕ → AbstractDevice)
     (s : AbstractSession) : Type 0 where
   pub words : (w : ℕ) → s.words w ≡ option_map (λ (l : Lease DeviceState). l.place) (held_by d.session.held w)

@@ -60,8 +60,8 @@ OpeningsRefine =
 
 -- ---- a piece for one of the sessions
 
--- **a daemon's session (`SessionRefines`, `CoreFed`, `SessionRefinesAs`)**: the session of a number shown, with the
--- table and the challenges that all share; what a piece for one, or another call, makes of it and of the others.
+-- **a daemon's session (`SessionRefines`, `CoreFed`, `SessionRefinesAs`)**: the session of a number is shown, with the
+-- table and the challenges that all share. A piece for it, or another call, makes this of it and of the others.
 --
 -- the session of that number is this one of client i
 pub record SessionRefines (i : ℕ) (make : ℕ → Make) (core : Core) (n : ℕ) (table : ℕ → AbstractDevice)

@@ -25,8 +25,8 @@ EndRecordIs status (TurnsNamed name) = name ≡ status
 EndRecordIs status (TurnsFault fault) = status ≡ code.IoError
 EndRecordIs status _ = ⊥
 
--- **what a read is (`IsTurnOf`, `SendsAs`, `StreamServed`)**: the action that a read of the device is: bytes, the end,
--- a status named or a failure; the record that it sends; and that the request context behind it is shown again.
+-- **what a read is (`IsTurnOf`, `SendsAs`, `StreamServed`)**: the action that a read of the device is (bytes, the end,
+-- a named status or a failure), and the record that it sends. The request context behind it is shown again.
 abbrev pub IsTurnOf : Result ℕ Status → List ℕ → Action → Type 0
 IsTurnOf (Ok n) window action = action ≡ Turns (take n window)
 IsTurnOf (Err status) window action = EndRecordIs status action

@@ -9,9 +9,9 @@ use Rattle.system_model.specs.Daemon.{FailureCounts}
 use Rattle.system_model.specs.Actions.{Action, TurnsFault}
 
 -- **failed (`IsFailureOf`, `IsFailureIn`, `FailedAt`, `IsCounted`, `IsTurnCounted`, `IsCountedAt`)**: a failure by the
--- model is one of the device: the source of its first page, one that can fail, did so in this very call, and the
--- model's two numbers are its counts before and behind it; so did that of the device of a word, which the session held
--- before and holds behind; of a START, and of a turn.
+-- model is one of the device. The source of its first page can fail and did so in this very call. The model's two
+-- numbers are its counts before and behind the call. The same is said of the device of a word that the session held
+-- before and holds behind, of a START, and of a turn.
 --
 -- where a pass is read, bytes of it are still to be given, and no option ends it
 abbrev pub HasBytesLeft : DeviceState → Phase → Type 0

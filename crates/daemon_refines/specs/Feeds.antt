@@ -55,9 +55,9 @@ pub data ServesRequest (i : ℕ) (make : ℕ → Make) (users : List Entry) (d :
       said ≡ One (refused_control code.Inval kind value) → new ≡ d → t ≡ table → u ≡ s
       → ServesRequest i make users d table s q said new t u
 
--- **fed (`ServesRequests`, `SessionContinues`, `EndsSession`, `IsFed`)**: requests one after another, each a call by
--- the model or a SET of another type, and the request context shown behind each; that the session goes on behind them;
--- or that it ended, with all given back, behind them or behind one more.
+-- **fed (`ServesRequests`, `SessionContinues`, `EndsSession`, `IsFed`)**: requests come one after another. Each is a
+-- call by the model or a SET of another type, and the request context is shown behind each. The session goes on behind
+-- them, or it ended behind them or behind one more, with all given back.
 abbrev pub ServesRequests : ℕ → (ℕ → Make) → List Entry → RequestContext → (ℕ → AbstractDevice) → AbstractSession
     → List Asked → RequestContext → (ℕ → AbstractDevice) → AbstractSession → Type 0
 ServesRequests i make users d table s [] new t u = (new ≡ d) × (t ≡ table) × (u ≡ s)

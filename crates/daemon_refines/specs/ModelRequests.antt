@@ -68,9 +68,9 @@ IsCallBy users d table None sent q call x = IsFreeCall users d table q call x
 IsCallBy users d table (Some awaited) None q call x = ⊥
 IsCallBy users d table (Some awaited) (Some (sent, place)) q call x = IsAwaitedCall users awaited sent place q call x
 
--- **call of a request (`IsCall`)**: the request as the model has it, at its word and its place: of an INIT of the
--- daemon's major, of a SET whose value is of its option's type, of an OPEN with whether a users line names its backend,
--- of an AUTHORIZE with whether it is allowed.
+-- **call of a request (`IsCall`)**: the request as the model has it, at its word and its place: an INIT of the daemon's
+-- major; a SET whose value is of its option's type; an OPEN, and whether a users line names its backend; an AUTHORIZE,
+-- and whether it is allowed.
 abbrev pub IsCall : List Entry → RequestContext → (ℕ → AbstractDevice) → AbstractSession → Asked → AddressedRequest
     → (ℕ → Environment) → Type 0
 IsCall users d table s q call x = IsCallBy users d table d.session.awaited s.awaited q call x

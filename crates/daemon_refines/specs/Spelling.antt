@@ -28,7 +28,7 @@ use Rattle.system_model.specs.AbstractMessages.{Gave, Shaped, Begun, Acked, Refu
 use Rattle.system_model.specs.Devices.{abstract_info}
 
 -- what a reply has beside the answer: the port for data, how string values are sent, the least free word, the byte
--- order and the descriptors of the device that the request's word stands for, and the devices that are listed
+-- order and descriptors of the device of the request's word, and the devices that are listed
 pub record Manner : Type 0 where
   pub port : ℕ
   pub strings : StringSize
@@ -70,9 +70,9 @@ abbrev pub OpensBackend : Asked → List ℕ → Type 0
 OpensBackend (requests.Open name) backend = IsBackendOf name backend
 OpensBackend _ backend = ⊥
 
--- **spells (`Spells`, `SpellsSaid`)**: the reply of the wire that is this answer of the model, for the request that was
--- asked: the value with its type, the descriptors, the parameters, the port and the byte order, the least free word,
--- the backend and the challenge; a refusal with its status. AUTHORIZE is one answer and two replies.
+-- **spells (`Spells`, `SpellsSaid`)**: the reply of the wire that is this answer of the model to the request that was
+-- asked. It has the value with its type, the descriptors, the parameters, the port and the byte order, the least free
+-- word, or the backend and the challenge; a refusal has its status. AUTHORIZE has one answer and two replies.
 abbrev pub Spells : Manner → Asked → AbstractReply → Wire → Type 0
 Spells m q Greeted r = r ≡ replies.Init code.Good own_version
 Spells m q (Listed places) r = r ≡ replies.GetDevices code.Good m.infos

@@ -11,9 +11,8 @@ use Rattle.system_model.specs.SystemStates.{with_entry}
 use Rattle.system_model.specs.Transitions.{with_page_laid_in, without_listing}
 use Rattle.daemon_refines.specs.ContextRefinement.{HasSource, IsMade, TableRefines, abstract_device}
 
--- **takes a page, is unplugged (`PageIsLaidIn`, `TableLoaded`, `TableUnplugged`)**: at rest and with room by the model,
--- and then the device with that page laid in; the device in its place so; a device that nobody holds, and that is then
--- listed no more.
+-- **takes a page, is unplugged (`PageIsLaidIn`, `TableLoaded`, `TableUnplugged`)**: a device at rest, with room by the
+-- model, has that page laid in; the device in its place has it so; a device that nobody holds is listed no more.
 --
 -- a device takes a page just where the model lets one be laid in, and is then as by the model
 pub record PageIsLaidIn (k : Make) (s : DeviceState) (source : SourceState) (holder : Option ℕ) : Type 0 where

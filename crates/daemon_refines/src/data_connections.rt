@@ -14,12 +14,12 @@ pub fn a_connection_follows_the_model()
 
 #[tactic(none)]
 pub fn a_turn_follows_the_model()
-    /// A turn of the data connection is an action that the model allows, and sends what that action sends: of a
-    /// device whose sources are steady the frame's own bytes, of another as many.
+    /// A turn of the data connection is an action that the model allows, and sends what that action sends. Of a device with
+    /// steady sources these are the frame's own bytes, of another as many.
     /// Carried by: `a_turn_follows_the_model`, `a_stream_follows_the_model`, `a_core_turn_refines`
     ///
-    /// Where a page source fails by the model, at a START or a turn, the one of the device that is asked did so in
-    /// that very call: it can fail, and its counts before and behind are the model's numbers.
+    /// If a page source fails by the model, at a START or a turn, the source of the device that is asked failed in that very
+    /// call. It can fail, and its counts before and behind the call are the model's numbers.
     /// Carried by: `counted` of `RequestServed`, `ServesRequest`, `StreamServed`, `CoreTurned`
     ensures { TurnsAgree }
 {}

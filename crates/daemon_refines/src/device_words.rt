@@ -21,8 +21,8 @@ pub fn a_get_follows_the_model()
 /// A SET of a value that is one of its option's type gives what the model gives. Another one is refused, and nothing changes.
 #[tactic(none)]
 pub fn a_set_follows_the_model()
-    /// Beside the model, which has no such words: an INIT of another major and a first request other than INIT end
-    /// the session, and a SET whose value is not of its option's type is refused.
+    /// The model has no such words: an INIT of another major ends the session, as does a first request other than INIT, and a SET
+    /// whose value is not of its option's type is refused.
     /// Carried by: `a_greeting_follows_the_model`, `a_set_follows_the_model`
     ensures of_its_type { SetAgrees }
     ensures of_another { SetRefuses }

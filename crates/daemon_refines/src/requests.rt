@@ -7,8 +7,8 @@ ghost use Rattle.daemon_refines.specs.ModelRequests.{RequestsAgree};
 
 #[tactic(none)]
 pub fn any_request_follows_the_model()
-    /// Any request of a session that was greeted is answered by the reply that spells what the model answers, a
-    /// string value as long as the session's are, and the request context behind it is read as what stands behind it.
+    /// Any request of a session that was greeted gets the reply that spells the model's answer, with string values as long as the
+    /// session's are. The request context behind it reads as what stands behind that answer.
     ensures { RequestsAgree }
 {}
 
@@ -28,8 +28,8 @@ pub fn others_are_left_alone()
     ensures by_a_device { DevicesLeave }
 {}
 
-/// A piece of bytes is a run of calls by the model: behind each the request context is shown again, and where the session ends in it, all
-/// that it holds is given back; also where memory runs out. Others are left what they hold.
+/// A piece of bytes is a run of calls by the model. Behind each call the request context is shown again. A session that ends in
+/// it gives back all that it holds, also where memory runs out. Others keep what they hold.
 #[tactic(none)]
 pub fn a_feed_follows_the_model()
     /// A piece of bytes is a run of such requests, also where the session ends in it or memory runs out.

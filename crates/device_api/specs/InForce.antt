@@ -25,7 +25,7 @@ number_named name descriptors = position_from (λ desc. bytes_eq desc.name name)
 abbrev pub may_be_set : Descriptor → Bool
 may_be_set desc = has_cap desc.caps.0 1 && not (has_cap desc.caps.0 32)
 
--- the value that is given for a text: none where the option may not be set, or the text does not read, or no value is
+-- the value that is given for a text: none if the option may not be set, if the text does not read, or if no value is
 -- near
 abbrev pub given_for : Descriptor → List ℕ → Option (Value × Value)
 given_for desc text =
@@ -56,9 +56,9 @@ force s (setting ∷ settings) =
     option_and_then (λ first.
     option_map (λ more. (more.0, first ∷ more.1)) (force first.setup settings)) (placement s setting)
 
--- **settings in force (`in_force`)**: a fold over settings from the defaults of the kind: each name finds its option
--- among the descriptors in force, its text is read as that option's value, and the nearest admitted value is put in;
--- none at the first that fails.
+-- **settings in force (`in_force`)**: a fold over settings from the defaults of the kind. Each name finds its option
+-- among the descriptors in force, its text is read as that option's value, and the nearest admitted value is put in.
+-- The first that fails gives none.
 abbrev pub in_force : DeviceKind → ByteOrder → List (List ℕ × List ℕ) → Option (Setup × List Placement)
 in_force k order settings = force (defaults k order) settings
 

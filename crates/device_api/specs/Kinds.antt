@@ -1,5 +1,5 @@
--- What a kind of scanner is: its names, its greatest resolution, whether it is a feeder, and its tray: what a start
--- leaves of it, what a page that is laid in makes of it, and how many pages it can have.
+-- A kind of scanner: its names, its greatest resolution, whether it is a feeder, and its tray. The tray says what a
+-- start leaves of it, what it is with a page laid in, and how many pages it can have.
 use Rattle.std.specs.Prelude.{ℕ, ◌≡◌, ◌≤◌, List, [], ◌∷◌, ◌++◌, Bool, true, false, ltb, length, codes}
 use Rattle.page_picture.specs.Page.{PageView}
 use Rattle.page_picture.specs.declared.scene.DeviceKind.{DeviceKind}

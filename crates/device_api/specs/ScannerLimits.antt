@@ -20,8 +20,8 @@ pub record IsBetween (low high : ℕ) (word : ℤ) : Type 0 where
 abbrev pub IsOnBed : Length → Type 0
 IsOnBed length = IsBetween 0 (200 * 65536) length.0
 
--- **limits of a scanner (`IsAllowed`, `HasLimits`)**: its options keep within their constraints; each of its pages is
--- one, and where its source is steady the page's samples have 16 bits; a feeder has at most 16, any other scanner one.
+-- **limits of a scanner (`IsAllowed`, `HasLimits`)**: its options keep within their constraints. Each of its pages is a
+-- page, and the samples of one with a steady source have 16 bits. A feeder has at most 16 pages, any other scanner one.
 pub record IsAllowed (s : Setup) : Type 0 where
   pub limits : IsSetup s
   pub resolution : s.scene.resolution ≤ greatest_resolution s.scene.kind

@@ -36,9 +36,9 @@ abbrev pub held_from : SourceState → HeldPage
 held_from source =
     record { page = source.page; steady = source.steady; infallible = source.infallible; failures = source.failures }
 
--- **state of a scanner (`DeviceState`, `HeldPage`, `Phase`)**: what it is, its setup, its pages, each with whether its
--- source is steady, whether that can fail at all (`infallible`) and how often it did, and where a scan is: at rest
--- (after a cancelled scan or not), between passes, or reading a pass with so many bytes given.
+-- **state of a scanner (`DeviceState`, `HeldPage`, `Phase`)**: what it is, its setup, its pages, and where a scan is.
+-- Of each page: whether its source is steady, whether that can fail at all (`infallible`), and how often it did. A scan
+-- is at rest (after a cancelled scan or not), between passes, or reading a pass with so many bytes given.
 --
 -- What a device is to its callers. Its kind is that of the setup's scene; that, the byte order and the info never
 -- change. The first page is the one that is scanned, or that a start would scan. A scanner that is no feeder has one
@@ -160,8 +160,8 @@ with_defaults s = record s { setup = defaults s.setup.scene.kind s.setup.order; 
 abbrev pub after_reset : DeviceState → DeviceState
 after_reset s = with_defaults (after_cancel s)
 
--- **what a load makes (`takes_page`, `after_load`)**: a page is taken at rest, and by a feeder while it has fewer than
--- 16; a feeder's new page is its last, another's takes the place of the one it had.
+-- **what a load makes (`takes_page`, `after_load`)**: a device takes a page at rest, a feeder only while it has fewer
+-- than 16. A feeder's new page is its last. Another device's new page takes the place of its old one.
 abbrev pub takes_page : DeviceState → Bool
 takes_page s = is_at_rest s.phase && (not (feeds s) || nat_lt (length s.pages) tray_room)
 
@@ -225,8 +225,8 @@ StartsIn (AtRest _) old result new = StartsOn old.pages old result new
 StartsIn (Between _) old result new = StartsOn old.pages old result new
 StartsIn (Reading _ _) old result new = (result ≡ Err DeviceBusy) × (new ≡ old)
 
--- **starts, reads (`Starts`, `Reads`)**: what a start and a read may answer and leave, by the phase, then by whether
--- there is a page, then by what `read-return-value` says, then by the answer.
+-- **starts, reads (`Starts`, `Reads`)**: what a start and a read may answer and leave. The phase decides first, then
+-- whether there is a page, then `read-return-value`, then the answer.
 abbrev pub Starts : DeviceState → Result Unit Status → DeviceState → Type 0
 Starts old result new = StartsIn old.phase old result new
 

@@ -153,9 +153,9 @@ abbrev pub get_result : Setup → Option ScanOption → Result Value Status
 get_result s None = Err Inval
 get_result s (Some o) = Ok (option_value s o)
 
--- **what a get and a set answer (`option_got`, `option_set`, `setup_after`, `device_info_of`)**: the value of an option
--- that is active and may be read; the nearest admitted value of one that is active and may be set, with INEXACT,
--- RELOAD_OPTIONS and RELOAD_PARAMS.
+-- **what a get and a set answer (`option_got`, `option_set`, `setup_after`, `device_info_of`)**: a get answers the
+-- value of an option that is active and may be read. A set answers the nearest admitted value of one that is active and
+-- may be set, with INEXACT, RELOAD_OPTIONS and RELOAD_PARAMS.
 unfoldable pub option_got : Setup → ℕ → Result Value Status
 option_got s n = get_result s (option_to_get s n)
 

@@ -11,8 +11,8 @@ use std::alloc::Global;
 
 /// A scanner (SANE Standard 1.06, "The SANE Application Programmer Interface").
 ///
-/// A scanner is one plain state (what it is, what its options say, its pages, where a scan is), and each method of
-/// the trait `Device` is a step of it, each refusal in its order.
+/// A scanner is one plain state (what it is, its options, its pages, where a scan is). Each method of the trait `Device` is a
+/// step of that state, with each refusal in its order.
 /// Carried by: `Device`
 ///
 /// A device is kind, options, pages and a phase: at rest (after a cancelled scan or not), between passes, or reading
@@ -80,8 +80,8 @@ pub trait Device: Drop {
 
     /// What is told of a frame.
     fn params(&self) -> Params
-        /// `params` are those of the started frame until the next start or rest; at rest those of the first frame
-        /// that a start would give, with width, lines and bytes per line 0 where there is no picture or no page.
+        /// `params` are those of the started frame until the next start or rest. At rest they are those of the first frame that a
+        /// start would give; without a picture or page, their width, lines and bytes per line are 0.
         /// Carried by: `value` of `params`: `params_of`, `params_at`, `params_without`
         ensures value { result ≡ params_of (state self.now) }
         /// The limits hold in every state.
@@ -111,7 +111,7 @@ pub trait Device: Drop {
         /// lets, whichever is least.
         /// Carried by: `GivesBytes`
         ///
-        /// What was read is a prefix of the frame's payload, where the page's source is steady.
+        /// The bytes read are a prefix of the frame's payload, if the page's source is steady.
         /// Carried by: `bytes`, `after` of `GivesBytes`
         ///
         /// EOF comes at the frame's end and only there, or where `read-return-value` says so.
@@ -156,8 +156,8 @@ pub trait Device: Drop {
 
     /// Puts another page in.
     fn load(&mut self, page: Source) -> Result<(), Source>
-        /// `load` gives the new page back where the device is not at rest, or where a feeder has 16; else it drops
-        /// the old page, or lays the new one behind a feeder's others.
+        /// `load` gives the new page back if the device is not at rest, or if a feeder has 16 pages. Else it drops the old page,
+        /// or lays the new one behind a feeder's others.
         /// Carried by: `loaded`, `refused`, `ok`, `err` of `load`
         ensures loaded { takes_page (state self.old) ≡ true → IsOk result }
         ensures refused { takes_page (state self.old) ≡ false → result ≡ Err page }

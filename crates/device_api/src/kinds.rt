@@ -7,7 +7,7 @@ use page_picture::DeviceKind;
 
 /// The model that a scanner of this kind tells.
 pub fn model_name(kind: DeviceKind) -> &'static [u8]
-    /// What a scanner of a kind is called, and whether it is a feeder, is by definition.
+    /// The definition says what a scanner of a kind is called, and whether it is a feeder.
     /// Carried by: `model_name`, `class_name`, `is_feeder`
     ensures { result.now ≡ model_of kind }
 {

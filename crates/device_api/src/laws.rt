@@ -60,7 +60,7 @@ pub fn a_refused_start_takes_no_page()
 
 /// A law: what a set gave, a get gives.
 pub fn what_is_set_is_read()
-    /// What is set is read, and no other option changes.
+    /// A get reads what was set, and no other option changes.
     /// Carried by: `what_is_set_is_read`, `a_set_changes_one_option`, `get_option`
     ensures { (s : Setup) (n : ℕ) (asked given : Value) (info : Info) → option_set s n asked
         ≡ Ok (given, info) → option_got (setup_after s n given) n ≡ Ok given }

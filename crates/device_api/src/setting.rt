@@ -204,11 +204,10 @@ fn info(inexact: bool, options: bool, params: bool) -> Info
     Info(inexact + (options + params))
 }
 
-/// Puts the admitted value nearest to `value` into option `n`, and answers it and what became of it:
-/// `INEXACT` where it differs from `value`, `RELOAD_OPTIONS` where a descriptor changed, `RELOAD_PARAMS`
-/// where the parameters of a scan depend on the option. Refuses: `Inval` where there is no such option, it
-/// is inactive or cannot be set, the value does not fit, or no text is matched; then `NoMem`. A refused
-/// call changes nothing.
+/// Puts the admitted value nearest to `value` into option `n`. Answers that value and its info: `INEXACT` if it differs from
+/// `value`, `RELOAD_OPTIONS` if a descriptor changed, `RELOAD_PARAMS` if the parameters of a scan depend on the option. Refuses:
+/// `Inval` if there is no such option, it is inactive or cannot be set, the value does not fit, or no text is matched; then
+/// `NoMem`. A refused call changes nothing.
 #[tactic(auto, unfolding(crate::specs::Values::option_set))]
 pub fn set_option(
     alloc: Global,

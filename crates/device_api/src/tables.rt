@@ -19,8 +19,8 @@ const BED: i32 = 200 * MM;
 
 const MM: i32 = 65536;
 
-/// Whether the option has a meaning at present: the common gamma table but at depth 16, those of the three channels in color
-/// at depth 8, and the order of passes in color.
+/// Whether the option has a meaning at present. The common gamma table has one except at depth 16. Those of the three channels
+/// have one in color at depth 8. The order of passes has one in color.
 pub fn is_active(setup: &Setup, option: ScanOption) -> bool
     ensures { result ≡ is_active setup.now option }
 {

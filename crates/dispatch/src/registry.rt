@@ -121,11 +121,11 @@ impl<D: Device> Registry<D> {
 }
 
 impl<D: Device> Registry<D> {
-    /// The device is cancelled, and its place is in again. A lease that is not of this registry is dropped with its device,
-    /// and changes nothing: one whose place is not out, or has another name than its device.
+    /// The device is cancelled, and its place is in again. A lease that is not of this registry changes nothing and is dropped
+    /// with its device. Such a lease is one whose place is not out, or has another name than its device.
     pub fn give_back(&mut self, lease: Lease<D>)
-        /// `give_back`, the only call that takes a lease back, cancels its device and puts it into its place, where
-        /// that place is out and has the device's name: where the lease is of the table.
+        /// `give_back`, the only call that takes a lease back, cancels its device and puts it into its place if the lease is of
+        /// the table: that place is out and has the device's name.
         /// Carried by: `Registry::give_back`; `given_back` of `leases_are_kept`
         ///
         /// Any other lease changes nothing.

@@ -12,8 +12,8 @@ use std::alloc::Global;
 use std::marker::Model;
 use virtual_scanner::VirtualScanner;
 
-/// A flatbed: gray and color of 1, 8 and 16 bits a sample, 1 to 1,200 dots per inch, a window of up to 200 by 200 mm,
-/// a gamma table for all channels and one for each, and options by which a frontend is tried (sane-test(5)). Contracts see a `DeviceState`.
+/// A flatbed: gray and color of 1, 8 and 16 bits a sample, 1 to 1,200 dots per inch, a window of up to 200 by 200 mm, a gamma
+/// table for all channels and one for each, and options to try a frontend with (sane-test(5)). Contracts see a `DeviceState`.
 #[derive(Drop)]
 pub struct Flatbed {
     scanner: VirtualScanner,

@@ -12,8 +12,8 @@ use std::alloc::Global;
 use std::marker::Model;
 use virtual_scanner::VirtualScanner;
 
-/// A hand scanner: gray of 1 and 8 bits and color of 8 bits a sample, 75, 100, 150 or 300 dots per inch, 110 mm wide, as
-/// many lines as the page has, which it tells at the end alone. Contracts see a `DeviceState`.
+/// A hand scanner: gray of 1 and 8 bits and color of 8 bits a sample, 75, 100, 150 or 300 dots per inch, 110 mm wide. It scans as
+/// many lines as the page has, and tells their number only at the end. Contracts see a `DeviceState`.
 #[derive(Drop)]
 pub struct HandScanner {
     scanner: VirtualScanner,

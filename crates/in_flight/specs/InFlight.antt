@@ -20,10 +20,9 @@ pub record SlotDiffersInFlight (undelivered : List ℕ) (x y : Option (SessionSl
   pub input : (s : Session DeviceState) → session_in x ≡ Some s → input_in y ≡ input_in x
   pub replies : replies_in y ≡ undelivered ++ replies_in x
 
--- **differs in flight (`DiffersInFlight`, `SlotDiffersInFlight`)**: the table, the users, how strings are sent, the
--- challenges and the count of sessions are the same; each session is the same, and so is what came of its next request;
--- its replies in the other daemon are the bytes in flight and behind them those of the one. Both are within a daemon's
--- limits.
+-- **differs in flight (`DiffersInFlight`, `SlotDiffersInFlight`)**: both daemons have the same table, users, string
+-- form, challenges, count of sessions, sessions, and bytes of next requests. The other daemon's replies are the bytes
+-- in flight and, behind them, those of the one. Both are within a daemon's limits.
 --
 -- the bytes in flight, by the number of their session
 pub record DiffersInFlight (undelivered : ℕ → List ℕ) (d e : Core) : Type 0 where

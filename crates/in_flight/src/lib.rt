@@ -1,5 +1,4 @@
-//! Bytes in flight are seen at neither end: not the replies that a daemon has given out, nor the requests that a client has
-//! written.
+//! Neither end sees bytes in flight: not the replies that a daemon has given out, nor the requests that a client has written.
 #![tactic(auto)]
 
 ghost use Rattle.in_flight.specs.FreePlaces.{FewerThanEightLeaveAPlace};
@@ -45,8 +44,8 @@ pub fn feeds_are_alike()
 
 #[tactic(none)]
 pub fn data_connections_are_alike()
-    /// A frame is where it is in both, and its data connection is made and lost alike; whatever a turn does to the
-    /// one it can do to the other, with the same record.
+    /// A frame is at the same place in both daemons, and its data connection is made and lost alike. Each turn of the one can be
+    /// a turn of the other, with the same record.
     /// Carried by: `data_connections_are_alike`, `turns_are_alike`
     ensures frame { FramesAreAlike }
     ensures made { DataConnectionsAreAlike }
@@ -73,8 +72,8 @@ pub fn fewer_than_eight_leave_a_place()
 
 #[tactic(none)]
 pub fn requests_are_unseen()
-    /// A client of whose requests some are in flight stands for the same histories, and makes the same of replies, of
-    /// records and of the file of a page that is taken; they stay in front of those that are to go out.
+    /// A client with requests in flight stands for the same histories. It makes the same of replies, of records and of a page's
+    /// file that is taken. The requests stay in front of those that are to go out.
     ensures past { HistoriesAreAlike }
     ensures replies { HeardRepliesAreAlike }
     ensures records { TakenRecordsAreAlike }

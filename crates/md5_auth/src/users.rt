@@ -5,7 +5,7 @@ use std::alloc::Global;
 use std::marker::Model;
 use text_lines::first_line;
 
-/// A line of a users file: who may use which backend with which password.
+/// A line of a users file: a user, a backend, and the password for it.
 #[derive(Drop)]
 pub struct Entry {
     pub user: Text,

@@ -44,8 +44,8 @@ pub record SpellsWords (k : Kind) (text : List ℕ) (words : List ℤ) : Type 0 
   pub some : 1 ≤ length pieces
   pub each : SpellsEach k pieces words
 
--- **reads (`ReadsAsValue`, `read_value`)**: `yes` and `no` for a flag; an optional `-` and 1 to 10 digits for an
--- integer; a decimal text for a fixed number; numbers joined by commas for a vector; any text for a string.
+-- **reads (`ReadsAsValue`, `read_value`)**: a flag reads `yes` and `no`; an integer an optional `-` and 1 to 10 digits;
+-- a fixed number a decimal text; a vector numbers joined by commas; a string any text.
 --
 -- the text reads as that value of the option; how many words there may be is a matter of what fits
 abbrev pub ReadsAsValue : Descriptor → List ℕ → Value → Type 0

@@ -1,4 +1,4 @@
-//! Options by their descriptors: which values fit one, which is put, and how they read and show as text.
+//! Options by their descriptors: which values fit one, which is put, and how values read and show as text.
 #![tactic(auto)]
 
 mod descriptor;

@@ -11,8 +11,8 @@ use crate::value::{Value, Words};
 use sane_fixed::{Fixed, Kind, Status, Text};
 use std::alloc::Global;
 
-/// Whether the value is of the option's kind and size: as many words as the size says, and a text that
-/// leaves room for a NUL where the option has no list of texts.
+/// Whether the value is of the option's kind and size. It has as many words as the size says. A text leaves room for a NUL,
+/// unless the option has a list of texts.
 pub fn fits(desc: &Descriptor, value: &Value) -> bool
     /// `fits` says whether a value has an option's kind and size.
     /// Carried by: `fits`

@@ -14,7 +14,7 @@ use std::alloc::Global;
 /// The text of the value, which reads as the value where it fits: `yes` or `no`, a number, numbers joined
 /// by commas, or the text itself. The only error is out of memory.
 pub fn show_text(alloc: Global, desc: &Descriptor, value: &Value) -> Result<Text, NoMem>
-    /// What `show_text` writes of a value that fits reads as that value.
+    /// `show_text` writes a value that fits as a text that reads as that value.
     /// Carried by: `reads` of `show_text`
     ensures reads { Fits desc.now value.now
         → IfOk result (λ text. read_value desc.now text ≡ Some value.now) }

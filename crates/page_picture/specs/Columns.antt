@@ -4,8 +4,7 @@ use Rattle.page_picture.specs.Extent.{left_of, across}
 use Rattle.page_picture.specs.declared.scene.Scene.{Scene}
 
 -- **columns (`Columns`, `column_at`, `IsRun`)**: which column of the page each column of a line shows, by the window's
--- first dot and the two resolutions; they are a run where they lie on the page one beside the other, at its own dots
--- per inch.
+-- first dot and the two resolutions. They are a run if they lie on the page side by side, at its own dots per inch.
 pub record Columns : Type 0 where
   pub left : ℕ
   pub dpi : ℕ

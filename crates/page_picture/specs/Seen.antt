@@ -17,7 +17,7 @@ column_seen scene dpi x = (left_of scene + x) * dpi / scene.resolution
 abbrev pub row_seen : Scene → ℕ → ℕ → ℕ
 row_seen scene dpi y = (top_of scene + y) * dpi / scene.resolution
 
--- **seen (`seen_at`)**: the page's samples at column floor((left + x) * N / r) and row floor((top + y) * N / r), N the
--- page's dots per inch and r the resolution; white off the page.
+-- **seen (`seen_at`)**: the page's samples at column floor((left + x) * N / r) and row floor((top + y) * N / r), with N
+-- the page's dots per inch and r the resolution. Off the page it is white.
 abbrev pub seen_at : PageView → Scene → ℕ → ℕ → ℕ → ℕ
 seen_at page_view scene x y k = dot_at page_view (column_seen scene page_view.dpi x) (row_seen scene page_view.dpi y) k

@@ -116,8 +116,8 @@ pub record ShowsColors (a b c : Frame) (p : Picture) : Type 0 where
   pub third_shows : ShowsColor a.order c p third true
 
 -- **frames show a picture (`ShowsFrames`)**: the list of frames is one GRAY or RGB frame, or RED, GREEN and BLUE once
--- each in any order, of equal width, lines, depth and byte order, the last flag on the last alone, each payload with
--- whole lines; and each sample of the picture stands at its place: with B bytes a line and c channels, sample (x, y, k)
+-- each in any order, of equal width, lines, depth and byte order. The last alone has the last flag, and each payload
+-- has whole lines. Each sample of the picture stands at its place: with B bytes a line and c channels, sample (x, y, k)
 -- is the byte y * B + c * x + k at depth 8, the two bytes from y * B + 2 (c * x + k) in the byte order at depth 16, and
 -- bit 7 - x mod 8 of byte y * B + floor(x / 8) at depth 1.
 abbrev pub ShowsFrames : List Frame → Picture → Type 0

@@ -11,10 +11,10 @@ use Rattle.page_picture.specs.declared.sources.SourceFault.{SourceFault}
 -- **page source (`SourceState`, `SourceAndBytes`, `GivesRow`, `GivesRowBytes`, `ChannelBytes`, `GivesChannel`,
 -- `Rewinds`)**: a page, how many of its rows were given since the last rewind, whether the source is steady (it gives
 -- the page's rows at each pass), whether it is infallible (it can never fail), and how often it failed. A call of
--- `next_row` gives the next row, which is the page's where the source is steady, or none after the last, or fails; a
--- failure is counted, or the count stands at its greatest. A call of `next_bytes` gives the upper byte of each of the
--- next row's samples, from a place on, or does nothing, or fails; a call of `next_channel` gives the bytes of those of
--- one channel alone.
+-- `next_row` gives the next row, or none after the last, or fails. A steady source gives the page's row. A failure is
+-- counted, unless the count stands at its greatest. A call of `next_bytes` gives the upper byte of each of the next
+-- row's samples, from a place on, or does nothing, or fails. A call of `next_channel` gives the bytes of one channel
+-- alone.
 pub record SourceState : Type 0 where
   pub page : PageView
   pub given : ℕ
@@ -65,7 +65,7 @@ pub record SourceAndBytes : Type 0 where
 abbrev pub source_and_bytes : SourceState → List ℕ → SourceAndBytes
 source_and_bytes source bytes = record { source = source; bytes = bytes }
 
--- the upper bytes of the next row, or nothing where the page gives none or no row is left, or a failure
+-- the upper bytes of the next row; or nothing, if the page gives none or no row is left; or a failure
 abbrev pub GivesRowBytes : Mode → ℕ → SourceAndBytes → Result Bool SourceFault → SourceAndBytes → Type 0
 GivesRowBytes mode first was (Ok true) now = GivesNextBytes mode first was.source now.source now.bytes
 GivesRowBytes mode first was (Ok false) now = (now.source ≡ was.source) × (now.bytes ≡ was.bytes)
@@ -81,7 +81,7 @@ abbrev pub sample_byte : SampleBytes → (ℕ → ℕ) → ℕ → ℕ
 sample_byte Upper at j = at j / 256
 sample_byte Both at j = if j % 2 == 0 then at (j / 2) / 256 else at (j / 2) % 256
 
--- bytes of one channel of a row: which of each sample, and from which place on
+-- bytes of one channel of a row: which byte of each sample, and from which place on
 pub record ChannelBytes : Type 0 where
   pub which : SampleBytes
   pub channel : ℕ
@@ -94,7 +94,7 @@ pub record GivesNextChannel (of : ChannelBytes) (old new : SourceState) (bytes :
   pub shows : old.steady ≡ true → (j : ℕ) → j < length bytes
       → slice_index bytes j ≡ sample_byte of.which (λ x. page_sample_at old.page (of.first + x) old.given of.channel) j
 
--- the bytes of one channel of the next row, or nothing where the page gives none or no row is left, or a failure
+-- the bytes of one channel of the next row; or nothing, if the page gives none or no row is left; or a failure
 abbrev pub GivesChannel : ChannelBytes → SourceAndBytes → Result Bool SourceFault → SourceAndBytes → Type 0
 GivesChannel of was (Ok true) now = GivesNextChannel of was.source now.source now.bytes
 GivesChannel of was (Ok false) now = (now.source ≡ was.source) × (now.bytes ≡ was.bytes)

@@ -3,9 +3,9 @@ use Rattle.std.specs.Prelude.{ℕ, ◌+◌, ◌*◌, ◌/◌, ◌==◌, nat_lt, 
 use Rattle.page_picture.specs.declared.scene.Mode.{Mode}
 use Rattle.page_picture.specs.declared.scene.Mode.TheVariants.{Gray, Color}
 
--- **tone (`brightness`, `tone`, `in_channel`)**: in gray floor((299 R + 587 G + 114 B) / 1000), in color the channel's
--- own; depth 16 keeps it, depth 8 gives the gamma table's entry at its upper byte, depth 1 gives 1 (black) where that
--- is below 128. In color at depth 8 the channel's own table has the entry for that.
+-- **tone (`brightness`, `tone`, `in_channel`)**: in gray the brightness is floor((299 R + 587 G + 114 B) / 1000), in
+-- color the channel's own value. Depth 16 keeps it. Depth 8 gives the gamma table's entry at its upper byte. Depth 1
+-- gives 1 (black) if that is below 128. In color at depth 8 the channel's own table has the entry for that.
 --
 -- in gray the weighted sum of the three seen samples, in color the channel's own
 abbrev pub brightness : Mode → (ℕ → ℕ) → ℕ → ℕ

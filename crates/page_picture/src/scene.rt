@@ -22,8 +22,8 @@ pub enum Mode {
 
 /// What a picture depends on, besides the page.
 ///
-/// **scene**: what a picture depends on besides the page: the kind of device, mode, depth, resolution, the four lengths of
-/// the window, the gamma table, and a table for each of the three channels.
+/// **scene**: what a picture depends on besides the page: the kind of device, mode, depth, resolution, the four lengths of the
+/// window, the gamma table, and a table for each of the three channels.
 #[derive(Clone, Copy)]
 pub struct Scene {
     pub kind: DeviceKind,

@@ -69,8 +69,8 @@ pub trait ByteRows: PageSource {
     fn next_bytes(&mut self, mode: Mode, first: u32, bytes: &mut [u8]) -> Result<bool, SourceFault>
         requires { byte_place mode first 0 + length bytes.old
             ≤ byte_place mode (Self.source self.old).page.width 0 }
-        /// A page source that gives a row's upper bytes gives those of the next row's samples; where it gives none,
-        /// it has done nothing; when it gives none no clause says.
+        /// A page source that gives a row's upper bytes gives those of the next row's samples. One that gives none has done
+        /// nothing. The clauses do not say when it gives none.
         /// Carried by: `ByteRows`, at `MemoryPage`, `FailingPage`, `PnmPage`, `Source`
         ensures { GivesRowBytes mode first
             (source_and_bytes (Self.source self.old) bytes.old) result
@@ -89,8 +89,8 @@ pub trait ByteRows: PageSource {
         requires whole { length bytes.old % bytes_in which ≡ 0 }
         requires inside { bytes_in which * first + length bytes.old
             ≤ bytes_in which * (Self.source self.old).page.width }
-        /// A page source that gives the bytes of one channel of a row gives those of the next row's samples; where it
-        /// gives none, it has done nothing; when it gives none no clause says.
+        /// A page source that gives the bytes of one channel gives those of the next row's samples. One that gives none has done
+        /// nothing. The clauses do not say when it gives none.
         /// Carried by: `next_channel` of `ByteRows`, at `MemoryPage`, `FailingPage`, `PnmPage`, `Source`
         ensures { GivesChannel (record { which = which; channel = channel; first = first })
             (source_and_bytes (Self.source self.old) bytes.old) result

@@ -56,7 +56,7 @@ digit_in None = None
 abbrev pub number_end : ℕ → ℕ → List ℕ → Option (ℕ × List ℕ)
 number_end count v rest = if nat_le 1 count && nat_le count 10 then Some (v, rest) else None
 
--- the number of which so many digits, which stand for v, were read before these bytes, and what follows it
+-- the number that reads as v, of which so many digits stand before these bytes, and what follows it
 abbrev pub more_digits : ℕ → ℕ → List ℕ → Option (ℕ × List ℕ)
 more_digits count v [] = number_end count v []
 more_digits count v (b ∷ bytes) =
@@ -96,8 +96,8 @@ abbrev pub are_known : Option (List ℕ) → Bool
 are_known (Some _) = true
 are_known None = false
 
--- The reader is to blame: where it keeps its bytes, and the reads so far and one for each byte that is left are fewer
--- than 2^40, a call of it failed meanwhile.
+-- The reader is to blame: if it keeps its bytes, and the reads so far with one for each byte left are fewer than 2^40,
+-- a call of it failed meanwhile.
 abbrev pub FailsWithin : Bool → ℕ → List ℕ → ℕ → ℕ → Type 0
 FailsWithin kept reads left old new = kept ≡ true → reads + length left < 2 ^ 40 → old < new
 

@@ -25,8 +25,8 @@ pub record IsPageOf (p : Picture) (dpi : ℕ) (page_view : PageView) : Type 0 wh
   pub samples : (x y k : ℕ) → x < p.width → y < p.height → k < 3
       → page_sample_at page_view x y k ≡ p.at x y (file_channel p.channels k) * 65535 / p.greatest
 
--- **page file (`TellsPage`)**: a text of grays or colors that denotes a picture; the page has at each place floor(v *
--- 65535 / m) for a sample v of greatest value m, a gray for all three channels.
+-- **page file (`TellsPage`)**: a text of grays or colors that denotes a picture. The page has floor(v * 65535 / m) at
+-- each place, for a sample v of greatest value m. A gray stands for all three channels.
 pub record TellsPage (text : List ℕ) (dpi : ℕ) (page_view : PageView) : Type 0 where
   pub picture : Picture
   pub denotes : Denotes text picture
@@ -50,7 +50,7 @@ pub record BeginsPage (text : List ℕ) (h : Header) (raster : List ℕ) : Type 
   pub height_most : h.height ≤ 16384
 
 -- **page text (`IsPageText`)**: the text begins with the header of a page, has all its bytes and no more, and no sample
--- above the greatest, at 1 to 1,200 dots per inch; only there may memory be wanting.
+-- above the greatest, at 1 to 1,200 dots per inch. Memory may be wanting only there.
 pub record IsPageText (text : List ℕ) (dpi : ℕ) : Type 0 where
   pub dots : IsDpi dpi
   pub header : Header

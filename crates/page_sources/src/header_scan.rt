@@ -201,7 +201,7 @@ impl<R: Rereadable> HeaderScan<R> {
         }
     }
 
-    /// The header of a page file whose first two bytes, which tell the format, are read.
+    /// The header of a page file, behind its first two bytes, which tell the format.
     #[tactic(auto, unfolding(crate::specs::Inside::header_from, netpbm::specs::HeaderReading::end_at))]
     pub fn header(&mut self, format: PnmFormat) -> Result<Option<Header>, ReadFault>
         ensures same { self.new ≡ record self.old { at = self.new.at; faults = self.new.faults } }

@@ -132,8 +132,8 @@ impl<R: Rereadable> PnmPage<R> {
         ensures not_lost { IfOk result (λ source. source.is_lost ≡ false) }
         ensures fault { IfErr result (λ refused. R.is_kept reader ≡ true
             → HasOpenFault refused.0 (R.text reader) dpi) }
-        /// Over a reader that keeps its bytes it answers that it cannot be read, and a row fails, only where a call
-        /// of the reader failed, or 2^40 reads do not go through the bytes twice.
+        /// Over a reader that keeps its bytes, it answers that it cannot be read only if a call of the reader failed, or 2^40
+        /// reads do not go through the bytes twice. A row fails only then.
         /// Carried by: `device` of `PnmPage::open`; `failed` of `next_row`, `next_bytes` and `next_channel`
         ensures device { IfErr result (λ refused. refused.0 ≡ OpenFault.Device → FailsByReader
             (R.is_kept reader) (R.text reader) (R.faults reader) (R.faults refused.1)) }

@@ -172,8 +172,8 @@ fn put_eight_grays(grays: [u16; 8], x: usize, row: &mut [u16])
     }
 }
 
-/// Writes the samples of a row of colors of two bytes each, of which 65,535 is the greatest; eight at once, since the bytes
-/// of one are turned in as many steps as those of eight.
+/// Writes the samples of a row of colors of two bytes each, whose greatest is 65,535. It writes eight at once, since turning the
+/// bytes of one takes as many steps as those of eight.
 fn write_words(bytes: &[u8], row: &mut [u16])
     requires { length bytes.now ≡ 2 * length row.old }
     ensures { (j : ℕ) → j < length row.old → slice_index row.new j

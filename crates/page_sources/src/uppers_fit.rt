@@ -36,8 +36,8 @@ fn all_within(most: u8, bytes: [u8; 16]) -> bool
     within
 }
 
-/// Whether no number of two bytes is above a greatest value whose lower byte is 255; those of eights by the greatest of each
-/// lane of bytes, which are not turned for that.
+/// Whether every number of two bytes is at most a greatest value whose lower byte is 255. It takes eights at once, by the
+/// greatest of each lane of bytes, which need no turning for that.
 pub fn uppers_fit(maxval: u32, bytes: &[u8], count: usize) -> bool
     requires two { 256 ≤ maxval }
     requires most { maxval < 65536 }

@@ -184,8 +184,8 @@ impl Fixed {
 
     /// The number's exact decimal. The only error is out of memory.
     pub fn to_text(self, alloc: Global) -> Result<Text, NoMem>
-        /// `Fixed::to_text` gives the exact decimal of a number, which reads as that number: no zeros but one before
-        /// the point, none last behind it, and no point where the number is whole.
+        /// `Fixed::to_text` gives the exact decimal of a number, which reads as that number. It has no leading zeros but a single
+        /// one before the point, no zeros last behind the point, and no point in a whole number.
         ensures exact { IfOk result (λ text. IsExactDecimal text self.0) }
         ensures reads { IfOk result (λ text. fixed_of text ≡ Some self.0) }
         // The same as a computation, for definitions that go on from it.

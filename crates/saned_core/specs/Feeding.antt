@@ -215,13 +215,13 @@ pub record KeepsOtherSessions (n : ℕ) (d e : Core) : Type 0 where
   pub slots : (m : ℕ) → m ≢ n → session_slot_of e.slots m ≡ session_slot_of d.slots m
   pub rest : e ≡ record d { slots = e.slots; registry = e.registry; stream = e.stream }
 
--- **feeds (`Feeds`)**: what a call of `feed` promises, in five facts. Where no session of that number goes on
--- (`HasNoSession`) it is `Over`, and the daemon as it was. Else some requests, whose spellings are the bytes that came
--- and then a rest, were answered one after another (`AnsweredSoFar`), and their replies' spellings stand behind those
--- that wait: more is wanted of the rest, and the session stands (`AnswersWhole`); or it is over, since no spelling
--- begins so, or one more request ends it, and its leases are given back (`EndsWithin`); or memory ran out, perhaps in
--- the midst of one more request, its leases are given back, and the replies are dropped (`FailsOutOfMemory`). Each
--- other session's slot is as it was, and all else of the daemon (`KeepsOtherSessions`).
+-- **feeds (`Feeds`)**: what a call of `feed` promises, in five facts. If no session of that number goes on
+-- (`HasNoSession`), it is `Over`, and the daemon as it was. Else some requests were answered one after another
+-- (`AnsweredSoFar`): the bytes that came are their spellings and then a rest, and their replies' spellings stand behind
+-- those that wait. Then more is wanted of the rest, and the session stands (`AnswersWhole`). Or it is over, since no
+-- spelling begins so, or one more request ends it, and its leases are given back (`EndsWithin`). Or memory ran out,
+-- perhaps in the midst of one more request, its leases are given back, and the replies are dropped
+-- (`FailsOutOfMemory`). Each other session's slot is as it was, and all else of the daemon (`KeepsOtherSessions`).
 pub record Feeds (n : ℕ) (d : Core) (piece : List ℕ) (fed : Fed) (e : Core) : Type 0 where
   pub idle : HasNoSession d n → (fed ≡ Over) × (e ≡ d)
   pub standing : fed ≡ Standing → AnswersWhole n d piece e

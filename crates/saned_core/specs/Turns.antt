@@ -67,8 +67,8 @@ abbrev pub TurnsSlots : ℕ → List (Option (SessionSlot DeviceState)) → Data
     → List ℕ → Type 0
 TurnsSlots n old step new buf = TurnsSessions (session_in (session_slot_of old n)) n old step new buf
 
--- **turns (`Turns`)**: one record of what one read gave, at most as much as the buffer has room for behind four bytes,
--- and 65,536; or the end record with the status that the read answered, or CANCELLED; or nothing.
+-- **turns (`Turns`)**: one record of what one read gave, at most 65,536 bytes and what the buffer has room for behind
+-- four bytes; or the end record with the status that the read answered, or CANCELLED; or nothing.
 --
 -- and of a daemon, of which nothing else changes
 pub record Turns (n : ℕ) (old : Core) (step : DataStep) (new : Core) (buf : List ℕ) : Type 0 where

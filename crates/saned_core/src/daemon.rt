@@ -136,12 +136,12 @@ impl<D: Device> Daemon<D> {
         lose_at(&mut self.sessions.slots, id.number)
     }
 
-    /// One turn of the data connection: one read of the device, of at most 65,536 bytes and what the buffer
-    /// has room for, is one record; a refusal of it is the end record.
+    /// One turn of the data connection. One read of the device, of at most 65,536 bytes and what the buffer has room for, is one
+    /// record. A refused read is the end record.
     pub fn data_turn(&mut self, id: SessionId, buf: &mut [u8]) -> DataStep
         requires { 8 ≤ length buf.old }
-        /// A turn of the data connection is one read of the device, straight into all of the caller's buffer behind
-        /// the record's head, but at most 65,536 bytes of it, or the end record.
+        /// A turn of the data connection is one read of the device, or the end record. It reads straight into the caller's buffer
+        /// behind the record's head, all of it but at most 65,536 bytes.
         /// Carried by: `Daemon::data_turn`: `Turns`
         ensures { Turns id.number (core D.state self.old) result (core D.state self.new) buf.new }
     {

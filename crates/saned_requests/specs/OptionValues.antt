@@ -71,7 +71,7 @@ asked_of desc (wire.Words words) = if length words * 4 == desc.size then words_a
 asked_of desc (wire.Bytes bytes) = bytes_asked desc.kind bytes
 
 -- **value asked for (`value_asked`), value in a reply (`sent_as`)**: the value of an option's type that words or bytes
--- ask for: as many words as it has, 0 or 1 for a flag, a text up to its first NUL; and a value as a reply has it, as
--- its text or filled up to its option's size.
+-- ask for: as many words as it has, 0 or 1 for a flag, a text up to its first NUL. A value in a reply is its text, or
+-- filled up to its option's size.
 abbrev pub value_asked : Descriptor → Kind → WireValue → Option Value
 value_asked desc kind value = if kind_code kind == kind_code desc.kind then asked_of desc value else None

@@ -439,8 +439,8 @@ abbrev pub OutOfMemoryBy : Bool → RequestContext → Request → RequestContex
 OutOfMemoryBy false d request new = ⊥
 OutOfMemoryBy true d request new = OutOfMemoryGreeted d d.session.awaited request new
 
--- **out of memory (`OutOfMemoryAt`)**: what is left out of memory, request by request: nothing was done; of OPEN
--- perhaps a challenge was drawn; of a SET perhaps it was made; of START the device is at rest.
+-- **out of memory (`OutOfMemoryAt`)**: what a request leaves when it runs out of memory: nothing was done, except that
+-- OPEN may have drawn a challenge, SET may have been made, and START leaves the device at rest.
 abbrev pub OutOfMemoryAt : RequestContext → Request → RequestContext → Type 0
 OutOfMemoryAt d request new = OutOfMemoryBy d.session.greeted d request new
 

@@ -12,9 +12,9 @@ ghost use Rattle.saned_requests.specs.LeaseLaws.{HoldsWell, IsElsewhere, IsIn, K
 ghost use Rattle.saned_requests.specs.RequestAnswers.{RequestContext, Answers, OutOfMemoryAt};
 ghost use Rattle.saned_requests.specs.Laws.{EndGivesBack};
 
-/// A request drops no lease: each stays with its device word, or its device is in its place of the table again, cancelled.
-/// What the words stand for are leases of the table with places of their own, and so are the leases of other sessions,
-/// before and after it, also where memory ran out for it.
+/// A request drops no lease. Each stays with its device word, or its device is in its place of the table again, cancelled. The
+/// words stand for leases of the table with places of their own, and so do those of other sessions, before and after the request,
+/// also where memory ran out for it.
 pub fn a_request_keeps_leases()
     /// A request keeps the session's leases in order.
     ensures answered { (users : List Entry) (d new : RequestContext)

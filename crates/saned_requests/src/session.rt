@@ -26,9 +26,9 @@ pub enum StringSize {
 
 /// A session that goes on.
 ///
-/// **session (`Session`)**: its port; whether it was greeted; what its four device words stand for, each a lease or
-/// nothing; the OPEN that awaits AUTHORIZE, if any; where its frame is: quiet, or waiting for a connection, streaming, of a
-/// device word, or to be ended.
+/// **session (`Session`)**: its port; whether it was greeted; what its four device words stand for, each a lease or nothing; the
+/// OPEN that awaits AUTHORIZE, if any; where its frame is. A frame is quiet, or waits for a connection, streams, or is to be
+/// ended; these three are of a device word.
 pub struct Session<D> {
     /// Where its data connections are accepted.
     pub port: u16,

@@ -34,9 +34,10 @@ Extends past journal = (since : List LoopAction) × (journal ≡ since ++ past)
 -- ---- a turn of one session's connections
 
 -- **goes, parts (`TurnPhase`, `SessionTurn`, `LinkMatches`, `JournalGoesOn`, `Attends`, `SendsRecords`,
--- `LeavesSession`, `hung_up`)**: a session's connections tell its projection, by how far its turn is; a step of one
--- session, from what its turn finds to what it leaves (daemon, listeners, connections), keeps that, whatever came
--- before, and touches no other session; its end hands back its data connection, where it has one, and leaves it.
+-- `LeavesSession`, `hung_up`)**: a session's connections tell its projection, by how far its turn is. A step of one
+-- session leads from what its turn finds to what it leaves (daemon, listeners, connections). It keeps that, whatever
+-- came before, and touches no other session. Its end hands back its data connection, if it has one, and leaves the
+-- session.
 pub data TurnPhase : Type 0 where
   -- it is over, or did not begin
   Fresh : TurnPhase
@@ -255,10 +256,10 @@ HadTurn journal l =
     × ((projection_of l.id.number journal).tended ≡ true)
 
 -- **stands, went on (`ServingState`, `LoopInvariant`, `WentOn`, `TookTurn`, `HasTakenTurns`)**: behind a journal, of
--- the daemon, the listeners and the slots: each slot has one session at most, each session one slot, its connections
--- tell its projection, those of the first slots had their turn, and as many slots are taken as sessions stand; the
--- journal goes on (`Extends`), and so many sessions left; or it goes on by ends alone (`Shuts`; `Closing`,
--- `Journal.antt`).
+-- the daemon, the listeners and the slots: each slot has one session at most, each session has one slot, its
+-- connections tell its projection, the sessions of the first slots had their turn, and as many slots are taken as
+-- sessions stand. The journal goes on (`Extends`), and so many sessions left. Or it goes on by ends alone (`Shuts`;
+-- `Closing`, `Journal.antt`).
 pub record ServingState (C : Type 0) : Type 0 where
   pub daemon : Core
   pub listeners : Option ListenerTrace

@@ -16,15 +16,15 @@ use Rattle.saned_serve.specs.SessionActions.SessionAction.{Connect, Turn, Shows,
 -- session's number; that eight sessions stand; an accept to which nobody came; a connection that is refused; the end of
 -- a turn, and of all turns. Each action has its place. An accept is asked for once a turn, and only while fewer than
 -- eight sessions stand (`MayAsk`, `open_sessions`). In a turn a control connection is read at most once, before it is
--- written, and written at most once; behind that one data connection at most is awaited, and one record at most offered
--- (`IsDataDue`). A control connection is read only where all replies taken are written and the daemon had no more; what
--- it brought, 1 to 4,096 bytes, is fed at once; only where a frame begins with that are the listeners asked to forget
--- what has ended at its port, before a reply is taken. Replies and records are taken only where what was taken before
--- is written, each write offers all that waits, and no record is taken behind the end record. A data connection is
--- awaited where a frame waits, at the session's own port. It is handed back only where its end record is written, or
--- the daemon was told its loss, or its session may be left; a session is left, its port closed and its control
--- connection handed back, only where that was found lost, or it is over, the daemon has no more replies and all are
--- written; both also once all turns are over.
+-- written, and written at most once. Behind that one data connection at most is awaited, and one record at most offered
+-- (`IsDataDue`). A control connection is read only when all replies taken are written and the daemon had no more. What
+-- it brought, 1 to 4,096 bytes, is fed at once. Only if a frame begins with that are the listeners asked to forget what
+-- has ended at its port, before a reply is taken. Replies and records are taken only when what was taken before is
+-- written, each write offers all that waits, and no record is taken behind the end record. A data connection is awaited
+-- if a frame waits, at the session's own port. It is handed back only when its end record is written, when the daemon
+-- was told its loss, or when its session may be left. A session is left only if its control connection was found lost,
+-- or if it is over, the daemon has no more replies and all are written. Then its port is closed and its control
+-- connection handed back. Both also come once all turns are over.
 pub data LoopAction : Type 0 where
   -- an act for the session of that number
   Of : (number : ℕ) (act : SessionAction) → LoopAction
@@ -66,8 +66,8 @@ pub record SessionProjection : Type 0 where
   pub last : Bool
   pub image : ConnectionTrace
   pub dropped : Bool
-  -- behind what was fed last in this turn the data had their part of it: of a data connection, a
-  -- record was offered or there was none; else none was awaited, or none came
+  -- the data had their part of this turn, behind what was fed last in it: of a data connection, a record was offered or
+  -- there was none; without one, none was awaited, or none came
   pub tended : Bool
 
 abbrev pub empty_projection : SessionProjection
@@ -201,14 +201,12 @@ IsFront front text = (rest : List ℕ) × (text ≡ front ++ rest)
 abbrev pub IsDataDue : SessionProjection → Type 0
 IsDataDue projection = (projection.visited ≡ true) × (projection.tended ≡ false)
 
--- each act has its place: in a turn a control connection is read at most once and then written at
--- most once, and then at most one record is offered to the data connection, or one is awaited; a
--- control connection is read only where the daemon has no reply for it that is not written, and
--- what it brought, 1 to 4,096 bytes, is fed at once; only where a frame begins with that are the
--- listeners asked to forget what has ended at the session's data port, before any reply is taken;
--- what is taken of the daemon is written whole before more is taken; and a data connection is
--- awaited at the session's own port. What a connection that is handed back was written is a front
--- of the session's replies, or of its records
+-- Each act has its place. In a turn a control connection is read at most once and then written at most once, and then
+-- at most one record is offered to the data connection, or one is awaited. A control connection is read only when every
+-- reply that the daemon has for it is written. What it brought, 1 to 4,096 bytes, is fed at once. Only if a frame
+-- begins with that are the listeners asked to forget what has ended at the session's data port, before any reply is
+-- taken. What is taken of the daemon is written whole before more is taken. A data connection is awaited at the
+-- session's own port. A connection that is handed back was written a front of the session's replies, or of its records.
 abbrev pub MayDo : SessionAction → SessionProjection → Bool → Type 0
 MayDo (Opens port) projection stopped = projection ≡ empty_projection
 MayDo (Hears got room bytes) projection stopped =
@@ -281,11 +279,11 @@ MayDo (Leaves port trace) projection stopped =
     × IsFront (trace_bytes_written projection.control) projection.said
     × (MayBeLeft projection ⊎ (stopped ≡ true))
 
--- **settled (`IsBehindItsTurn`)**: what the end of a turn asks of each session that stands: its connection was read or
--- written in this turn and is not known to be lost; where it is over the daemon gave replies when it was last asked;
--- behind what it was fed its data had their part (`tended`): of a data connection a record was offered or there was
--- none, else no frame waited or nobody came to its port; its data connection is not known to be lost, and the end
--- record not wholly written. A turn ends only where besides an accept was asked for in it, or eight sessions stood
+-- **settled (`IsBehindItsTurn`)**: what the end of a turn asks of each session that stands. Its connection was read or
+-- written in this turn and is not known to be lost. If it is over, the daemon gave replies when it was last asked.
+-- Behind what it was fed its data had their part (`tended`): of a data connection a record was offered or there was
+-- none; else no frame waited or nobody came to its port. Its data connection is not known to be lost, and the end
+-- record is not wholly written. A turn ends only if an accept was asked for in it, or eight sessions stood
 -- (`has_asked`).
 pub record IsBehindItsTurn (projection : SessionProjection) : Type 0 where
   pub visited : projection.visited ≡ true
@@ -321,8 +319,8 @@ has_asked (Turned ∷ past) = false
 has_asked (Stops ∷ past) = has_asked past
 
 -- **open sessions (`open_sessions`, `AreOpenSessions`)**: how many sessions stand, as a journal counts them: those that
--- were opened, less those that were left; and numbers, as many as that, among which each session that stands has its
--- own.
+-- were opened, less those that were left. There are that many numbers, and each session that stands has its own among
+-- them.
 abbrev pub open_sessions : List LoopAction → ℕ
 open_sessions [] = 0
 open_sessions (Of number act ∷ past) =
@@ -408,8 +406,8 @@ listener_trace_after [] listeners = listeners
 listener_trace_after (action ∷ past) listeners = listener_trace_step action (listener_trace_after past listeners)
 
 -- **leads (`JournalLeads`, `DaemonRuns`, `listener_trace_step`)**: a journal leads from one daemon and listener trace
--- to others: the daemon behind it is what its actions make of the one before, and the listener trace shows each action
--- that asks the listeners.
+-- to others. Its actions make the daemon behind it of the one before, and the listener trace shows each action that
+-- asks the listeners.
 pub record JournalLeads (d : Core) (before : Option ListenerTrace) (journal : List LoopAction) (e : Core)
     (after : Option ListenerTrace) : Type 0 where
   pub is_journal : IsJournal journal
@@ -442,8 +440,8 @@ after_tally Turned t = record {
 }
 after_tally Stops t = t
 
--- **tally (`tally_of`)**: how many sessions left in a journal, how many turns it has, and in how many of them, in a row
--- to the last, nothing moved: no connection came, no byte moved and none was found lost.
+-- **tally (`tally_of`)**: how many sessions left in a journal, how many turns it has, and how many turns in a row, up
+-- to the last, moved nothing: no connection came, no byte moved and none was found lost.
 abbrev pub tally_of : List LoopAction → Tally
 tally_of [] = record { left = 0; turns = 0; idle = 0; stir = false }
 tally_of (action ∷ past) = after_tally action (tally_of past)

@@ -3,8 +3,8 @@ use Rattle.std.specs.Prelude.{◌≡◌, ◌⊎◌, ℕ, Bool, Option, None, Som
 use Rattle.saned_serve.specs.ConnectionTraces.{ConnectionTrace}
 
 -- **listener trace (`Notice`, `ListenerTrace`, `with_notice`)**: all that the listeners were asked, the newest first: a
--- control connection, which came or did not; a data port, and which; connections of a data port that have ended to be
--- forgotten; a data connection at a port, which came or did not; a port closed; a connection handed back, with all its
+-- control connection, which came or did not; a data port, and which; to forget connections of a data port that have
+-- ended; a data connection at a port, which came or did not; a port closed; a connection handed back, with all its
 -- calls.
 pub data Notice : Type 0 where
   -- a control connection was asked for, and came or did not

@@ -11,9 +11,9 @@ use Rattle.saned_serve.specs.declared.serving.ServeEnd.TheVariants.{Sessions, Id
 abbrev pub most_turns : ℕ
 most_turns = 1099511627776
 
--- why the turns ended: as many sessions left as were to be served (0: no such end), and fewer than
--- a turn's slots more; or not yet as many, and nothing moved in as many turns in a row as were to
--- be waited; or not that either, and all turns were taken; or there was no memory, and no turn
+-- why the turns ended: as many sessions left as were to be served (0: no such end), and fewer than a turn's slots more;
+-- or fewer sessions left, and nothing moved in as many turns in a row as were to be waited; or neither, and all turns
+-- were taken; or there was no memory, and no turn
 abbrev pub LoopEndsBy : ServeEnd → ℕ → ℕ → List LoopAction → Type 0
 LoopEndsBy Sessions sessions waits turns =
     (0 < sessions)
@@ -51,8 +51,8 @@ pub record ServeLimits : Type 0 where
   pub idle_turns : ℕ
 
 -- **served (`HasServed`, `NothingIsOpen`, `LoopEndsBy`)**: what a whole run did: the journal of its turns, and behind
--- it nothing but data connections handed back and sessions left, until none stands. The journal of the turns tells why
--- they ended: as many sessions left as were to be served, fewer than eight more; or not yet so many, and nothing moved
+-- it only data connections handed back and sessions left, until none stands. The journal of the turns tells why they
+-- ended: as many sessions left as were to be served, fewer than eight more; or fewer sessions left, and nothing moved
 -- in so many turns in a row at last; or neither, and 2^40 turns were taken.
 pub record HasServed (limits : ServeLimits) (was now : DaemonAndListeners) (end : ServeEnd) : Type 0 where
   pub turns : List LoopAction

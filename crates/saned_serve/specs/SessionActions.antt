@@ -13,10 +13,10 @@ use Rattle.saned_core.specs.Turns.{Turns}
 use Rattle.saned_serve.specs.declared.sockets.Got.{Got}
 use Rattle.saned_serve.specs.ConnectionTraces.{ConnectionTrace, stirs}
 
--- **session action (`SessionAction`, `ActsOn`)**: what is done for one session: it is opened, its connection is read, a
--- piece is fed (and a frame that waits began with it or not), the listeners are asked to forget the connections at its
--- port that have ended, and tell so or do not, replies are taken, they are written, its frame is looked up, a data
--- connection does not come or comes, a record is taken, it is written, its loss is told, the data connection is handed
+-- **session action (`SessionAction`, `ActsOn`)**: what is done for one session. It is opened. Its connection is read,
+-- and a piece is fed (and a frame that waits began with it or not). The listeners are asked to forget the connections
+-- at its port that have ended, and tell so or do not. Replies are taken and written. Its frame is looked up. A data
+-- connection does not come or comes. A record is taken and written. Its loss is told, the data connection is handed
 -- back, the session is left. Each does to the daemon just what its method's contract says, or nothing.
 pub data SessionAction : Type 0 where
   -- a connection came, a data port was opened for it, and a session with that port

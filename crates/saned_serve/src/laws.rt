@@ -12,15 +12,14 @@ ghost use Rattle.saned_serve.specs.JournalSummary.{AreOpenSessions, IsInJournal,
 ghost use Rattle.saned_serve.specs.HeldLeases.{HoldsApart};
 ghost use Rattle.saned_serve.specs.Laws.{WasFedAll, NobodyActsAfterIt};
 
-/// What the places of the actions come to, for each session of a journal: it was fed nothing but what
-/// its control connection read, and once it is left all of that; what that connection was rid of
-/// is a front of the session's replies; what its data connection was rid of is a front of that
-/// one's records; and each session that was opened and does not stand was left, its control
-/// connection handed back with just those calls.
+/// What the places of the actions come to, for each session of a journal. It was fed only what its control connection read, and
+/// once it is left all of that. What that connection was rid of is a front of the session's replies. What its data connection was
+/// rid of is a front of that one's records. Each session that was opened and does not stand was left, its control connection
+/// handed back with just those calls.
 pub fn connections_tell_their_sessions()
-    /// So of each session: it was fed nothing but what its connection read, and once it is left all of that; what
-    /// that connection took is a front of its replies, and its data connection of that one's records; and it was
-    /// left, where it does not stand.
+    /// So of each session: it was fed only what its connection read, and once it is left all of that. What that connection took
+    /// is a front of its replies, and what its data connection took a front of that one's records. A session that does not stand
+    /// was left.
     ensures fed { (journal : List LoopAction) (id : ℕ)
         → IsJournal journal → IsFront (projection_of id journal).heard
         (trace_bytes_read (projection_of id journal).control) }
@@ -37,8 +36,8 @@ pub fn connections_tell_their_sessions()
 {}
 
 pub fn no_device_is_held_twice()
-    /// Two clients never hold one device: behind every front of a journal no two device words of its sessions stand
-    /// for one device, if none did before, as in a new daemon none do.
+    /// Two clients never hold one device: behind every front of a journal no two device words of its sessions stand for one
+    /// device, if none did before. In a new daemon none do.
     ensures new { (d : Core) → TableInvariant d.registry
         → d.slots ≡ None ∷ None ∷ None ∷ None ∷ None ∷ None ∷ None ∷ None ∷ [] → HoldsApart d }
     ensures behind { (d e : Core) (journal : List LoopAction)

@@ -66,8 +66,8 @@ fn has_begun(was_waiting: bool, is_waiting: bool) -> bool
     !was_waiting && is_waiting
 }
 
-/// Feeds a piece to the session. Where a frame begins with that, a connection at its data port that has ended was left
-/// behind by an earlier frame or a stranger: its client knows nothing of the frame before the answer to START is written.
+/// Feeds a piece to the session. When a frame begins with that, a connection at its data port that has ended was left behind by
+/// an earlier frame or a stranger: the client of this frame learns of it only by the answer to START.
 fn attend<D: Device, L: Listeners>(
     alloc: Global,
     daemon: &mut Daemon<D>,
@@ -129,7 +129,7 @@ fn fill_replies<D: Device, C: Socket>(daemon: &mut Daemon<D>, link: &mut Session
     }
 }
 
-/// One read of the control connection where no replies wait: those of a client that asks on and on and reads none would
+/// One read of the control connection when no replies wait. Else the replies to a client that asks on and on and reads none would
 /// pile up without end. Tells whether something moved.
 fn listen<D: Device, L: Listeners>(
     alloc: Global,

@@ -100,14 +100,13 @@ fn take_turns<D: Device, L: Listeners>(
     ServeEnd::Turns
 }
 
-/// Serves a daemon's sessions over connections that never wait. In a turn it accepts one connection, while fewer than
-/// eight sessions stand, and then, for each session, reads once and feeds that, but only where none of its replies wait,
-/// writes replies once, takes the data connection where a frame waits for one, and writes of one record; what a write did
-/// not take goes first in the next turn.
-/// A connection is closed once it is lost, or once its session is over and its replies are written, and its session
-/// counted then. It ends with the first turn after which so many sessions are counted (0: no such end), after so many turns
-/// in a row in which nothing moved, or after 2^40 turns, and hands every connection back. All memory of its own is taken
-/// before the first accept; `NoMem` comes only there, and then nothing was done.
+/// Serves a daemon's sessions over connections that never wait. In a turn it accepts one connection, while fewer than eight
+/// sessions stand. Then, for each session, it reads once and feeds that, if none of its replies wait; writes replies once; takes
+/// the data connection if a frame waits for one; and writes of one record. What a write did not take goes first in the next turn.
+/// It closes a connection once it is lost, or once its session is over and its replies are written, and then counts the session.
+/// It ends with the first turn after which so many sessions are counted (0: no such end), after so many turns in a row in which
+/// nothing moved, or after 2^40 turns, and hands every connection back. It takes all memory of its own before the first accept.
+/// `NoMem` comes only there, and then nothing was done.
 pub fn serve<D: Device, L: Listeners>(
     alloc: Global,
     daemon: &mut Daemon<D>,
@@ -121,17 +120,17 @@ pub fn serve<D: Device, L: Listeners>(
     /// The daemon behind it is what its calls make of the one before, and each connection's own list, as it is handed
     /// back, and the listeners' are what it has of them.
     ///
-    /// What a session's connection brings, 1 to 4,096 bytes, is fed to that session at once, whole and in order, and
-    /// the connection is read, into 4,096 bytes, only where the daemon's replies are all written.
+    /// A session is fed what its connection brings, 1 to 4,096 bytes, at once, whole and in order. The connection is read, into
+    /// 4,096 bytes, only when the daemon's replies are all written.
     ///
-    /// Each write offers all of the session's replies, or of its record, that wait, and nothing more is taken before;
-    /// a record is taken into 65,483 bytes, and none behind the end record.
+    /// Each write offers all that waits of the session's replies, or of its record, and nothing more is taken before. A record is
+    /// taken into 65,483 bytes, and none behind the end record.
     ///
     /// Listeners are asked to forget the connections that have ended at a port only where a frame begins with a
     /// piece, at its session's port and before a reply is taken.
     ///
-    /// A data connection is awaited where a frame waits, at the session's own port, and handed back where its end
-    /// record is written, where it was found lost, which the daemon was told, or with the session.
+    /// A data connection is awaited if a frame waits, at the session's own port. It is handed back when its end record is
+    /// written, when it was found lost and the daemon was told so, or with the session.
     ///
     /// A session is left, its port closed and its connection handed back, only where that connection was found lost,
     /// or the session is over and all its replies are written.
@@ -142,13 +141,13 @@ pub fn serve<D: Device, L: Listeners>(
     /// In a turn each connection is read at most once and then written at most once, and then one data connection is
     /// awaited or one record offered, at most.
     ///
-    /// A turn ends only where each session that stands was read or written in it, was not found lost, and, where it
-    /// is over, had a reply; where its data connection was offered a record or there was none; and where else no
-    /// frame waited, or nobody came to its port.
+    /// A turn ends only if each session that stands was read or written in it, was not found lost, and, if it is over, had a
+    /// reply. Its data connection was offered a record or there was none; without one, no frame waited, or nobody came to its
+    /// port.
     ///
-    /// The turns end where as many sessions left as were to be served, fewer than eight more; else where nothing
-    /// moved in as many turns in a row as were to be waited; else after 2^40. Behind them sessions are left and
-    /// connections handed back, until none stands, and nothing else.
+    /// The turns end when as many sessions left as were to be served, fewer than eight more; else when nothing moved in as many
+    /// turns in a row as were to be waited; else after 2^40. Behind them sessions are left and connections handed back, until
+    /// none stands, and nothing else is done.
     ensures served { HasServed (record { sessions = sessions; idle_turns = idle_turns })
         (lent D.state L.trace daemon.old net.old)
         (lent D.state L.trace daemon.new net.new) result }

@@ -21,8 +21,8 @@ use Rattle.scan_frames.specs.declared.setup.PassOrder.{PassOrder}
 use Rattle.scan_frames.specs.declared.setup.PassOrder.TheVariants.{Rgb, Rbg, Gbr, Grb, Brg, Bgr}
 
 -- **setup (`Setup`, `IsSetup`)**: what the options of a scanner say: the scene, the byte order, the order of passes,
--- the lost pixels of a line, the most bytes of a read, and what the first read of a frame answers in place of bytes;
--- and the limits of these.
+-- the lost pixels of a line, the most bytes of a read, and what the first read of a frame answers in place of bytes.
+-- `IsSetup` has the limits of these.
 pub record IsSetup (s : Setup) : Type 0 where
   pub depth : (s.scene.depth ≡ 1) ⊎ ((s.scene.depth ≡ 8) ⊎ (s.scene.depth ≡ 16))
   pub resolution_some : 1 ≤ s.scene.resolution

@@ -51,8 +51,8 @@ sum_from row i = 299 * slice_index row i + 587 * slice_index row (i + 1) + 114 *
 abbrev pub gray_in : List ℕ → ℕ → ℕ
 gray_in row place = sum_from row (3 * place) / 1000
 
--- **gray rows (`IsGrayDot`, `IsGrayRow`)**: a dot of a row is gray where its three samples are the same, and a row
--- where all its dots are; the gray of such a dot is its sample, so that none is summed.
+-- **gray rows (`IsGrayDot`, `IsGrayRow`)**: a dot is gray if its three samples are the same, and a row if all its dots
+-- are. The gray of such a dot is its sample, without any sum.
 abbrev pub IsGrayDot : List ℕ → ℕ → Type 0
 IsGrayDot row p = (slice_index row (3 * p + 1) ≡ slice_index row (3 * p))
     × (slice_index row (3 * p + 2) ≡ slice_index row (3 * p))
@@ -275,9 +275,9 @@ pub record PutsChannel (s : SourceState) (of : ChannelBytes) (count : ℕ) (t : 
   pub here : s.steady ≡ true → (j : ℕ) → j < bytes_in of.which * count
       → slice_index line j ≡ sample_byte of.which (λ x. page_sample_at s.page (of.first + x) s.given of.channel) j
 
--- **black bytes (`black`, `black_in`, `blacks_in`)**: one for an entry of a gamma table that is black at depth 1, which
--- is one below 128, and zero for any other; of eight bytes a byte, the leftmost as its most significant bit, with zeros
--- behind the last byte.
+-- **black bytes (`black`, `black_in`, `blacks_in`)**: one for an entry of a gamma table that is black at depth 1 (below
+-- 128), and zero for any other. Eight bytes make a byte, the leftmost its most significant bit, with zeros behind the
+-- last byte.
 abbrev pub black : ℕ → ℕ
 black v = if nat_lt v 128 then 1 else 0
 

@@ -18,11 +18,11 @@ use Rattle.scan_frames.specs.declared.faults.BeginFault.TheVariants.{NoPicture, 
 use Rattle.scan_frames.specs.declared.faults.ReadEnd.{ReadEnd}
 use Rattle.scan_frames.specs.declared.faults.ReadEnd.TheVariants.{End, SourceFailed as SourceFailedIn}
 
--- **a frame that is read (`FrameProgress`, `FrameAndSource`, `IsFrame`, `BeginsPass`, `ReadsFrame`)**: which pass, room
--- for a row and how many were taken (none behind the one that the last line shows), the last line that was made, as
--- long as some of it is left or the next line shows its row too (`IsLineNeeded`), and how many were made; of a setup
--- over a source in its state. A read gives the bytes that follow those given before, all that are left of the frame,
--- but no more than the buffer holds or the read limit lets; or the end, or the source's fault.
+-- **a frame that is read (`FrameProgress`, `FrameAndSource`, `IsFrame`, `BeginsPass`, `ReadsFrame`)**: which pass; room
+-- for a row, and how many rows were taken (none behind the one that the last line shows); the last line that was made,
+-- as long as some of it is left or the next line shows its row too (`IsLineNeeded`), and how many were made; of a setup
+-- over a source in its state. A read gives the bytes that follow those given before. It gives all that are left of the
+-- frame, but no more than the buffer holds or the read limit lets. Or it gives the end, or the source's fault.
 pub record FrameProgress : Type 0 where
   pub pass : ℕ
   -- which columns of the page its pixels show
@@ -51,8 +51,8 @@ row_of setup page y = row_seen setup.scene page.dpi y
 abbrev pub IsLineNeeded : Setup → PageView → FrameProgress → Type 0
 IsLineNeeded setup page f = (0 < f.left) ⊎ (row_of setup page (f.made - 1) ≡ row_of setup page f.made)
 
--- the frame of a setup, read from a source in this state: no row was taken behind the one that its last line shows, and
--- where the source is steady, that line, as long as it is needed, is the page's
+-- the frame of a setup, read from a source in this state: no row was taken behind the one that its last line shows. If
+-- the source is steady, that line is the page's, as long as it is needed
 pub record IsFrame (s : SourceState) (setup : Setup) (f : FrameProgress) : Type 0 where
   pub picture : has_picture setup s.page ≡ true
   pub columns : f.columns ≡ columns_of setup.scene s.page.width s.page.dpi

@@ -2,7 +2,7 @@
 use Rattle.std.specs.Prelude.{ℕ, ◌+◌, ◌*◌, ◌<◌, ◌≤◌, ◌≡◌, false, List, length, slice_index}
 use Rattle.page_picture.specs.Source.{SourceState, CountsFailure}
 
--- **rows taken (`TakesRows`, `StopsFailing`, `IsSeen`)**: rows are only taken forward; a call that fails is counted;
+-- **rows taken (`TakesRows`, `StopsFailing`, `IsSeen`)**: rows are taken only forward; a call that fails is counted;
 -- the row at hand holds what is seen at a height, on the page or off it.
 --
 -- rows were taken from the source, and nothing else happened

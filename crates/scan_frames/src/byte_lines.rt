@@ -95,8 +95,8 @@ fn put_gray_bits<S: ByteRows>(
     Ok(true)
 }
 
-/// The bytes of which channel of the page a line of a pass of one color shows as they are: at depth 8 where no table changes
-/// them, at depth 16 where the upper byte of a sample comes first.
+/// The channel of the page whose bytes a line of a pass of one color shows as they are: at depth 8 if no table changes them, at
+/// depth 16 if the upper byte of a sample comes first.
 fn channel_shown(setup: &Setup, pass: u32, tables: &[[u8; 256]; 3]) -> Option<(SampleBytes, u32)>
     ensures { IfSome result (λ shown. ShowsChannel setup.now pass tables.now shown.0 shown.1) }
 {
@@ -145,8 +145,8 @@ fn put_channel_bytes<S: ByteRows>(
     source.next_channel(which, channel, first, &mut line[..end])
 }
 
-/// Makes a line of the bytes of the next row, where it shows just these: its places lie one beside the other on the page,
-/// and in color no table changes them. False where it does not, or the source has none; nothing was done then.
+/// Makes a line of the bytes of the next row, if it shows just these: its places lie side by side on the page, and in color no
+/// table changes them. Otherwise, or if the source has none, it is false and nothing was done.
 pub fn byte_line<S: ByteRows>(
     source: &mut S,
     setup: &Setup,

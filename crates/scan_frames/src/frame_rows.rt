@@ -67,8 +67,8 @@ impl FrameRows {
     ///
     /// # Errors
     ///
-    /// `End` where all bytes were given. `SourceFailed` where the source does not give a row that these bytes show; the
-    /// frame can be read no more then, and nothing in the buffer counts.
+    /// `End` if all bytes were given. `SourceFailed` if the source does not give a row that these bytes show. Then the frame can
+    /// be read no more, and nothing in the buffer counts.
     pub fn read<S: ByteRows>(
         &mut self,
         source: &mut S,

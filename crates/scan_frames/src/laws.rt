@@ -13,8 +13,8 @@ pub fn frames_show_the_picture()
     ensures { FramesShowThePicture }
 {}
 
-/// The frames of a scan are those of its passes, from 0 to the last, in their order: so what is told of a pass and what is
-/// read in it is of the frame that stands in that place.
+/// The frames of a scan are those of its passes, from 0 to the last, in their order. So what is told of a pass, and what is read
+/// in it, is of the frame in that place.
 pub fn a_frame_for_each_pass()
     /// The frames are those of the passes, in their order.
     ensures count { (setup : SetupValue) (page : PageView)

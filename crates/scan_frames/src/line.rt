@@ -145,8 +145,8 @@ fn put_upper(samples: &[u16], line: &mut [u8])
     }
 }
 
-/// Puts the samples of all places in red, green and blue, a byte each; without a look-up where the tables change nothing
-/// and the places lie one beside the other from `first` on.
+/// Puts the samples of all places in red, green and blue, a byte each. It looks nothing up if the tables change nothing and the
+/// places lie side by side from `first` on.
 fn put_rgb(
     tables: &[[u8; 256]; 3],
     first: Option<u32>,

@@ -130,8 +130,7 @@ pub fn has_picture<S: PageSource>(source: &S, setup: &Setup) -> bool
 /// there is no picture.
 pub fn params<S: PageSource>(source: &S, setup: &Setup, pass: u32) -> Params
     requires { IsSetup setup.now }
-    /// What is told of a pass is what the definition has, with 0 for pixels, lines and bytes where there is no
-    /// picture.
+    /// A pass is told as the definition has it, with 0 for pixels, lines and bytes if there is no picture.
     /// Carried by: `params`, `params_without`, `has_picture`
     ensures { result ≡ params_at setup.now (S.source source.now).page pass }
 {

@@ -14,8 +14,8 @@ no_frame_left (f ∷ more) = false
 -- **frames that a join takes (`JoinTakes`, `TakesAll`)**: each is accepted behind those before it, all its bytes fit
 -- and are all of it, and the last makes the picture whole.
 --
--- **takes (`JoinTakes`, `TakesAll`)**: behind the frames that ended a join takes this one: it begins, no front of its
--- bytes is too long, all of them are full, none of them are not, and its last-frame flag stands just where no frame
+-- **takes (`JoinTakes`, `TakesAll`)**: behind the frames that ended a join takes this one. It begins, no front of its
+-- bytes is too long, all of them are full, a part of them is not, and its last-frame flag stands just when no frame
 -- follows.
 pub record JoinTakes (ended : List Frame) (f : Frame) (more : List Frame) : Type 0 where
   pub unjoined : is_joined ended ≡ false

@@ -17,9 +17,9 @@ IsPhaseOf (Reading pass given) setup page =
     × (setup.told ≢ None → given ≡ 0)
 
 -- **in a scan (`IsInScan`), place (`ScanPlace`, `place_of`)**: a phase that a scan of this setup on this page comes to:
--- passes counted up to the last, bytes up to their number, none where a status is told in their place, and a page while
--- a scan is under way. Where a scanner is in the list of a scan's frames: at rest; the frame that ended last and those
--- to be started; the frame that is read, its bytes not given yet, and the frames after it.
+-- passes counted up to the last, bytes up to their number, none if a status is told in their place, and a page while a
+-- scan is under way. A scanner's place in the list of a scan's frames: at rest; the frame that ended last and those to
+-- be started; the frame that is read, its bytes not given yet, and the frames after it.
 pub record IsInScan (s : DeviceState) : Type 0 where
   pub phase : IsPhaseOf s.phase s.setup (page_of s)
   pub page : is_at_rest s.phase ≡ false → s.pages ≢ []

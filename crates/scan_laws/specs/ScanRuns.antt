@@ -17,8 +17,8 @@ use Rattle.device_api.specs.State.Phase.{AtRest, Between, Reading}
 
 -- **a run of calls (`DeviceCall`, `ScanGoesOn`), a scan in one sentence (`ShowsOne`)**: any calls in which the scanner
 -- did not come to rest. There is one list of frames and one picture, the meaning of the first start's scene on its
--- page; the frames show it; whatever is called, what is told is of the frame started last, what was read since is a
--- front of its bytes, and its end comes behind the last of them, or where the options tell of it in place of the first.
+-- page, and the frames show it. Whatever is called, what is told is of the frame started last, and what was read since
+-- is a front of its bytes. Its end comes behind the last of them, or, if the options tell of it, in place of the first.
 --
 -- a call that may change a scanner, with what it answered; of a read also the buffer behind it
 pub data DeviceCall : Type 0 where
@@ -65,8 +65,8 @@ heard_in heard (call ∷ calls) = heard_in (heard_after heard call) calls
 abbrev pub IsFrontOf : List ℕ → List ℕ → Type 0
 IsFrontOf heard payload = (rest : List ℕ) × (heard ++ rest ≡ payload)
 
--- what was heard of the frame that was started last: while it is read a front of it, and behind its end all of it, or
--- none where the options tell of an end in place of its bytes
+-- what was heard of the frame that was started last: while it is read a front of it; behind its end all of it, or, if
+-- the options tell of an end in place of its bytes, none
 abbrev pub IsHeardIn : Phase → Option Status → List ℕ → Frame → Type 0
 IsHeardIn (AtRest _) told heard f = ⊥
 IsHeardIn (Between ended) told heard f = (heard ≡ f.payload) ⊎ ((told ≡ Some Eof) × (heard ≡ []))
@@ -86,8 +86,8 @@ pub record IsOfScan (frames : List Frame) (now : DeviceState) (heard : List ℕ)
   pub order : now.setup.order ≡ frame.order
   pub is_heard : IsHeardIn now.phase now.setup.told heard frame
 
--- A frame ended: all of its bytes were heard, or none where the options tell of an end in their place; and the scan
--- waits for its next frame, or it was the last and the scanner is at rest.
+-- A frame ended: all of its bytes were heard, or none if the options tell of an end in their place. The scan waits for
+-- its next frame, or it was the last and the scanner is at rest.
 pub record FrameIsHeard (frames : List Frame) (now after : DeviceState) (heard : List ℕ) : Type 0 where
   pub frame : Frame
   pub in_place : slice_get frames (last_started now.phase) ≡ Some frame

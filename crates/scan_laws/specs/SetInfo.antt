@@ -13,9 +13,8 @@ abbrev pub has_bit : Info → ℕ → Bool
 has_bit info bit = info.0 / bit % 2 == 1
 
 -- **what a set tells (`TellsOfSet`), what is nearest (`GivesNearest`, `PutAllNearest`)**: INEXACT stands just where the
--- value given differs, RELOAD_OPTIONS just where the descriptors changed; of an option that may be set the admitted
--- value nearest to the one asked for was given, and so for each setting of a job, from the options that those before it
--- left.
+-- value given differs, RELOAD_OPTIONS just where the descriptors changed. An option that may be set got the admitted
+-- value nearest to the one asked for. So did each setting of a job, from the options that those before it left.
 pub record TellsOfSet (s : Setup) (n : ℕ) (asked given : Value) (info : Info) : Type 0 where
   pub inexact : (has_bit info 1 ≡ true) ↔ (given ≢ asked)
   pub options : (has_bit info 2 ≡ true) ↔ (descriptors_of (setup_after s n given) ≢ descriptors_of s)

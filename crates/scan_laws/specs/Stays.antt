@@ -17,8 +17,8 @@ pub record LetsGo (s t : DeviceState) : Type 0 where
 -- **same scan (`IsSameScan`, `LetsGo`)**: the options and the pages are those of before, but for the count of failures;
 -- a feeder that is at rest let go of its first page.
 --
--- Only the phase and the count of failures may have changed, and a feeder may have let go of its first page: the
--- options, all other pages and their sources' steadiness have not.
+-- Only the phase and the count of failures may have changed, and a feeder may have let go of its first page. The
+-- options, all other pages and the steadiness of their sources stay.
 pub record IsSameScan (s t : DeviceState) : Type 0 where
   pub info : t.info ≡ s.info
   pub setup : t.setup ≡ s.setup

@@ -25,7 +25,7 @@ ghost use Rattle.scan_laws.specs.Laws.{RefusesOnlyWhereNoneIs, SettingsAreNeares
 /// What a set answers tells a client whether to ask for the descriptors again: they changed just where the bit
 /// RELOAD_OPTIONS stands.
 pub fn what_a_set_tells()
-    /// What a set answers tells whether the descriptors changed.
+    /// A set's answer tells whether the descriptors changed.
     ensures { (s : Setup) (n : ℕ) (asked given : Value) (info : Info)
         → option_set s n asked ≡ Ok (given, info) → TellsOfSet s n asked given info }
 {}
@@ -75,8 +75,8 @@ pub fn passes_are_counted()
 {}
 
 pub fn a_scan_goes_frame_by_frame()
-    /// A scan goes frame by frame: a start begins the first of those to come, reads give its bytes, and its end comes
-    /// behind the last of them, or before the first where the options say so.
+    /// A scan goes frame by frame. A start begins the first of those to come, and reads give its bytes. Its end comes behind the
+    /// last of them, or before the first if the options say so.
     ensures start { (s t : DeviceState) → IsInScan s → Starts s (Ok tt) t
         → BeginsFrame (place_of s) (frames_of s.setup (page_of s)) (place_of t) }
     ensures read { (s t : DeviceState) (n : ℕ) (buf : List ℕ) → IsInScan s → steady_of s ≡ true
@@ -92,8 +92,8 @@ pub fn only_own_options_change()
     ensures set { (s : Setup) (n : ℕ) (given : Value) → IsOwn s → IsOwn (setup_after s n given) }
 {}
 
-/// A set gives the admitted value that is nearest to the one asked for, and refuses only where there is none, or the
-/// option may not be set; and so does each setting of a job, from the options that those before it left.
+/// A set gives the admitted value that is nearest to the one asked for. It refuses only if there is none, or if the option may
+/// not be set. So does each setting of a job, from the options that those before it left.
 pub fn what_is_given_is_nearest()
     /// A set gives the nearest admitted value, and so does each setting of a job.
     ensures given { (s : Setup) (n : ℕ) (asked given : Value) (info : Info)

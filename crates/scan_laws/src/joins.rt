@@ -50,10 +50,10 @@ pub fn frames_join_to_the_meaning()
     ensures file { FileDenotesTheMeaning }
 {}
 
-/// A scan in one sentence: from a start at rest that succeeds, whatever is called until the scanner rests again, the scan
-/// shows the picture that the scene of that start means on the page of that start. In each pass what is told is of its
-/// frame, what reads gave of it is a front of its bytes, and the end comes behind the last of them, or where the options
-/// tell of it in place of the first.
+/// A scan in one sentence: from a start at rest that succeeds, whatever is called until the scanner rests again, the scan shows
+/// the picture that the scene of that start means on the page of that start. In each pass what is told is of its frame, and what
+/// reads gave of it is a front of its bytes. The end comes behind the last of them, or, if the options tell of it, in place of
+/// the first.
 pub fn a_scan_shows_its_first_picture()
     /// From a start at rest until the scanner rests again, whatever is called, the scan shows the picture of that
     /// start.

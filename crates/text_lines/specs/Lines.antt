@@ -50,8 +50,8 @@ abbrev pub AllAfter : (List (List ℕ) → List ℕ → Type 0) → List (List �
 AllAfter Good before [] = Unit {0}
 AllAfter Good before (line ∷ more) = Good before line × AllAfter Good (before ++ line ∷ []) more
 
--- **first faulty line (`IsFirstFaulty`)**: the text's lines are some good ones, each judged after those before it, then
--- one that is not; its number is one more than how many stand before it.
+-- **first faulty line (`IsFirstFaulty`)**: the text begins with some good lines, each judged after those before it, and
+-- then has one that is not good. Its number is one more than how many stand before it.
 pub record IsFirstFaulty (Good Bad : List (List ℕ) → List ℕ → Type 0) (text : List ℕ) (number : ℕ) : Type 0 where
   pub before : List (List ℕ)
   pub line : List ℕ

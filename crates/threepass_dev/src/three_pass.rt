@@ -12,9 +12,9 @@ use std::alloc::Global;
 use std::marker::Model;
 use virtual_scanner::VirtualScanner;
 
-/// A scanner that takes a color picture in three passes, one color each, in the order of `three-pass-order`: 8 and 16 bits
-/// a sample, 1 to 1,200 dots per inch, a window of up to 200 by 200 mm, a gamma table for all channels and one for each.
-/// Contracts see a `DeviceState`.
+/// A scanner that takes a color picture in three passes, one color each, in the order of `three-pass-order`: 8 and 16 bits a
+/// sample, 1 to 1,200 dots per inch, a window of up to 200 by 200 mm, a gamma table for all channels and one for each. Contracts
+/// see a `DeviceState`.
 #[derive(Drop)]
 pub struct ThreePass {
     scanner: VirtualScanner,

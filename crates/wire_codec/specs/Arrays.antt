@@ -31,8 +31,8 @@ devices_end status count all = map_format (λ last. replies.GetDevices status (a
 abbrev pub options_end : List Descriptor → Format Reply
 options_end all = pure_format (replies.GetOptionDescriptors all)
 
--- **what a decoder keeps of a long reply (`IsReadSoFar`, `rest_of_array`)**: so many bytes were read as elements, and
--- reading goes on from there: the elements left, behind those read, then the end of the reply.
+-- **what a decoder keeps of a long reply (`IsReadSoFar`, `rest_of_array`)**: so many bytes were read as elements.
+-- Reading goes on from there: the elements left, behind those read, then the end of the reply.
 pub record IsReadSoFar (F G : Format Reply) (used : ℕ) (bytes : List ℕ) : Type 0 where
   pub within : used ≤ length bytes
   pub short : used ≤ message_limit

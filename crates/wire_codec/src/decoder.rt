@@ -77,12 +77,12 @@ struct Pending {
 /// Bytes as they came, and the messages not yet taken from them. Contracts see the bytes that no message
 /// was taken from, and the fault.
 ///
-/// A call reads the rest from its start, unless it was read before for the same message, fewer bytes came
-/// since than were wanted then, and none of them is a fault; then it looks at the new bytes alone. Of the replies to
-/// `GetDevices` and `GetOptionDescriptors`, the only ones that can be long, the devices or descriptors that came whole
-/// are kept, and the next call reads on behind them. So where a message comes byte by byte, what is read again for each
-/// byte of a word and of a NUL, and once for all the bytes of a string, is a request, another reply, or the one device or
-/// descriptor that has not come whole; its list of strings is passed over before memory is taken for it.
+/// A call reads the rest from its start, unless it read it before for the same message, fewer bytes came since than it wanted
+/// then, and none of them is a fault. Then it looks at the new bytes alone. Only the replies to `GetDevices` and
+/// `GetOptionDescriptors` can be long: it keeps their devices or descriptors that came whole, and the next call reads on behind
+/// them. So when a message comes byte by byte, it reads a request, another reply, or the one device or descriptor that has not
+/// come whole again for each byte of a word and of a NUL, and once for all the bytes of a string. It passes over a list of
+/// strings before it takes memory for it.
 #[derive(Drop)]
 pub struct Decoder {
     bytes: Vec<u8>,

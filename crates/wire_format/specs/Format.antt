@@ -1,4 +1,4 @@
--- A format: which texts of bytes spell which values, and how it is read from the left.
+-- A format: which texts of bytes spell which values, and how a text is read from the left.
 use Rattle.std.specs.Prelude.{◌≡◌, ◌⊎◌, ℕ, zero, suc, ◌<◌, ◌≤◌, ◌-◌, Bool, not, ◌||◌, nat_lt, List, [], ◌∷◌, ◌++◌}
 use Rattle.std.specs.Prelude.{length, take, drop, slice_index, Result, Ok, Err, if◌then◌else◌}
 use Rattle.std.specs.List.{list_all, AllByRecursion}
@@ -11,11 +11,11 @@ use Rattle.wire_format.specs.declared.fault.ReadError.{ReadError}
 use Rattle.wire_format.specs.declared.fault.ReadError.TheVariants as errors
 
 -- **format (`Format`)**: which texts spell which values; which texts end in the first word or byte at which no spelling
--- stands, with what fault; and its reading from the left: a value and the rest, that more is wanted, or a fault.
+-- stands, with what fault; and its reading from the left: a value and the rest, or more is wanted, or a fault.
 pub record Format (A : Type 0) : Type 1 where
   -- the text is a spelling of the value
   pub spells : List ℕ → A → Type 0
-  -- the text ends in the first word or byte at which no spelling stands, which makes the fault
+  -- the text ends in the first word or byte at which no spelling stands, and this fault is of that one
   pub spoils : List ℕ → Fault → Type 0
   -- a value and the rest behind it, or why there is none
   pub read : List ℕ → Result (A × List ℕ) ReadStop

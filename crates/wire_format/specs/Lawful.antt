@@ -38,7 +38,7 @@ abbrev pub still_missing : MissingBytes → ℕ → MissingBytes
 still_missing wanted count = record { count = wanted.count - count; least = wanted.least }
 
 -- **the laws of reading (`ReaderIsExact`, `Lawful`)**: what is read is spelled and what is spelled is read, whatever
--- follows; more is wanted only where a spelling has begun; a fault is that of the first unit at which none stands, and
+-- follows. More is wanted only if a spelling has begun. A fault is that of the first unit at which none stands, and
 -- stays.
 pub record ReaderIsExact {A : Type 0} (F : Format A) : Type 0 where
   -- what is read is spelled, and the rest stands behind it

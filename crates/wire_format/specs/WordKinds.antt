@@ -10,8 +10,8 @@ use Rattle.wire_format.specs.declared.word.Word.TheVariants as words
 use Rattle.wire_format.specs.Format.{Format, one_byte}
 
 -- **word of a kind (`WordKind`, `IsKind`)**: four bytes, most significant first. A kind says the value or the fault of
--- a whole word, and the fault, if any, of fewer bytes, by the least and the most of the words that begin so: a fault
--- stands there only if each of those words has it, and more is wanted only if one of them is good.
+-- a whole word. It says the fault, if any, of fewer bytes by the least and the most of the words that begin so: they
+-- have a fault only if each of those words has it, and more is wanted only if one of them is good.
 pub record WordKind (A : Type 0) : Type 0 where
   -- the value of a whole word, or its fault
   pub judge : ℕ → Result A Fault

@@ -32,7 +32,7 @@ pub record WritesFormat {A : Type 0} (F : Format A) (W : Writer A) (a : A) : Typ
   pub spelled : (text : List ℕ) → W.text a ≡ Some text → F.spells text a
   -- where a limit is passed nothing is written
   pub past : W.long a ≡ true → W.text a ≡ None
-  -- where nothing is written and no limit is passed there is no spelling
+  -- if nothing is written and no limit is passed, there is no spelling
   pub none : W.long a ≡ false → W.text a ≡ None → (text : List ℕ) → F.spells text a → ⊥
 
 -- one text and then another

@@ -41,8 +41,8 @@ pub trait KindOfWord: Sized {
 }
 
 pub fn one_text_spells_one_value<A: Readable>()
-    /// What is read is spelled; what is spelled is read, whatever follows; and more is wanted only where a spelling
-    /// has begun: each format keeps this.
+    /// Each format keeps this: a value that is read is spelled, a spelling is read, whatever follows, and more is wanted only if
+    /// a spelling has begun.
     /// Carried by: `ReaderIsExact`, `Lawful`, as the laws of `crates/wire_format/src/laws.rt` have them of any format
     ///
     /// One text spells at most one value.

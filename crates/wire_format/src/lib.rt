@@ -1,4 +1,4 @@
-//! Formats of bytes that come in pieces: which texts spell which values, and how they are read from the left.
+//! Formats of bytes that come in pieces: which texts spell which values, and how texts are read from the left.
 #![tactic(auto)]
 
 mod bytes;

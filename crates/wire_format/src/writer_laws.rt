@@ -49,7 +49,7 @@ pub trait NumberedKind: Sized {
 /// What a writer answers: a spelling of the value; `TooLong` exactly where a limit is passed; else
 /// `BadValue`, and nothing spells the value.
 pub fn what_is_written_is_spelled<A: HasWriting>()
-    /// What is written is a spelling, and a limit is told before a value that has none.
+    /// A writer writes a spelling, and tells a limit before a value that has none.
     /// Carried by: `what_is_written_is_spelled`, `writing_keeps_a_limit`
     ensures spelled { (a : A) (text : List ℕ)
         → encoding_or_fault A.writer a ≡ Ok text → A.format.spells text a }

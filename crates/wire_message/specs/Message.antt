@@ -140,7 +140,7 @@ devices = after (up_to 1024) devices_of
 
 -- ---- constraints
 
--- a pointer that is not NULL, and min, max and quant: max is no smaller than min, quant not negative
+-- a pointer that is not NULL, and min, max and quant: max is at least min, and quant is 0 or more
 unfoldable pub range : Format Bounds
 range = after (from_to 0 0) (λ pointer. after word (λ min. after (word_of_kind (at_least min)) (λ max.
     map_format (λ quant.

@@ -79,8 +79,8 @@ reply_passes replies.Authorize = false
 reply_passes replies.Exit = false
 
 -- **passes a limit (`PassesLimit`, `request_passes`, `reply_passes`)**: a string of the message has more than 1,023
--- bytes beside its NUL, or an array more than 1,024 elements with what ends it; or the whole text that is written has
--- more than 1,048,576 bytes.
+-- bytes beside its NUL, or an array more than 1,024 elements with its end, or the whole text that is written has more
+-- than 1,048,576 bytes.
 abbrev pub PassesLimit : Bool → Option (List ℕ) → Type 0
 PassesLimit part text = (part ≡ true) ⊎ ((whole : List ℕ) × (text ≡ Some whole) × (1048576 < length whole))
 

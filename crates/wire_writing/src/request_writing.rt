@@ -255,7 +255,7 @@ pub(crate) fn encode<E: Encoder>(alloc: Global, message: &E::Value) -> Result<Ve
 /// The bytes of a request: its text, `TooLong` exactly where a limit is passed, else `BadValue` exactly where
 /// nothing spells it.
 pub fn encode_request(alloc: Global, request: &Request) -> Result<Vec<u8>, WireFault>
-    /// What is written of a request, or of a reply, is a spelling of it.
+    /// A request or reply is written as a spelling of it.
     /// Carried by: `ok`, `text` of `encode_request`, `encode_reply`
     ensures ok { IfOk result
         (λ v. (limited_format message_limit request_format).spells v.items request.now) }

@@ -159,8 +159,8 @@ pub fn answer<D: Device>(
     /// GET and SET test a value's type, number and shape before the device is asked.
     /// Carried by: `answer`
     ///
-    /// A string value of a GET or a SET that is done is its text and a NUL, or where the session has it so these
-    /// filled up with zero bytes to the option's size; it is never cut.
+    /// A string value of a GET, or of a SET that is done, is its text and a NUL. If the session has it so, zero bytes fill it up
+    /// to the option's size. It is never cut.
     /// Carried by: `answer`: `sent_as`
     ///
     /// Parameters, START with its port and byte order, CANCEL and CLOSE, of the frame's word and of another, and an
