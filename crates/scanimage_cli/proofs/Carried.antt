@@ -5,7 +5,6 @@ use Rattle.std.specs.Io.KnownBytes.{Appends}
 use Rattle.std.proofs.lemmas.List.{append-nil}
 use Rattle.scan_job.specs.FileOutputs.{StopsShort, TakesBack}
 use Rattle.net_jobs.specs.Batches.{pages_of}
-use Rattle.net_jobs.specs.JobTraces.{JobTrace}
 use Rattle.scan_job.specs.declared.report.Reports.{Reports}
 use Rattle.net_jobs.specs.Outputs.{page_outputs_from}
 use Rattle.scan_job.specs.declared.job.Job.{Job}
@@ -30,7 +29,7 @@ use Rattle.net_jobs.specs.Links.{LinkViews}
 use Rattle.net_jobs.specs.RunPromises.{SeenStreams}
 use Rattle.scanimage_cli.specs.NetDoing.{DoesNetJob, DoesNetBatch}
 use Rattle.scanimage_cli.specs.Programs.DoesPlanned.{ToOutput, ToPath, ToFolder}
-use Rattle.scanimage_cli.specs.Programs.{AskedHere, DoesPlanned, GavePlanned, IsDoneHere, ProgramOutputs, RanThere}
+use Rattle.scanimage_cli.specs.Programs.{AskedHere, DoesPlanned, GavePlanned, IsDoneHere, LoopThere, ProgramOutputs, RanThere}
 use Rattle.scanimage_cli.specs.declared.ending.Ending.{Ending}
 use Rattle.scanimage_cli.specs.declared.planning.Destination.TheVariants.{StandardOutput, Path, Folder}
 use Rattle.scanimage_cli.specs.declared.planning.JobPlan.{JobPlan}
@@ -127,15 +126,25 @@ pub ran_to_output : {L : Type 0} (views : LinkViews L) (dials : DialsBetween) (j
     → old.output ≡ was.out → new.output ≡ now.out → now.files ≡ was.files
     → IfOk result (DoesNetJob views (record { host = host; job = job }) old new) → IfOk result (RanThere (host_job host job) StandardOutput dials was now)
 ran_to_output views dials job host old new was now (Ok printed) dials_first dials_last at_first at_last same x = record {
-  reports = x.reports;
-  trace = x.ran.ran.trace;
-  events = x.ran.ran.did.events;
-  runs = x.ran.ran.did.runs;
-  told = x.ran.told;
-  dialled = dialled_by x.ran.ran.moves;
+  loop = record {
+    reports = x.reports;
+    moves = x.ran.ran.moves;
+    first = x.ran.ran.first;
+    last = x.ran.ran.last;
+    fresh = x.ran.ran.fresh;
+    steps = x.ran.steps;
+    last_told = x.ran.last_told;
+    trace = x.ran.ran.trace;
+    told = x.ran.told;
+    rest = x.ran.ran.rest;
+    left = x.ran.ran.left;
+    did = x.ran.ran.did;
+    all = x.ran.all;
+    end_well = x.ran.end_well;
+  };
   named = x.ran.ran.asked;
   asked_for = sym dials_last ∙ asked_now views old.links x.ran.ran.moves new.links x.ran.ran.calls ∙ ap (prepend_known (dialled_by x.ran.ran.moves)) dials_first;
-  gave = (record { text = x.ran.text; taken = subst (λ o. Appends o now.out x.ran.text) at_first (subst (λ o. Appends old.output o x.ran.text) at_last x.ran.taken); file = x.ran.file; none = x.ran.none }, same);
+  gave = (record { text = x.ran.text; taken = subst (λ o. Appends o now.out x.ran.text) at_first (subst (λ o. Appends old.output o x.ran.text) at_last x.ran.taken); went_out = x.ran.went_out; file = x.ran.file; none = x.ran.none }, same);
   prints = x.prints;
 }
 ran_to_output views dials job host old new was now (Err ending) dials_first dials_last at_first at_last same x = x
@@ -146,15 +155,25 @@ pub ran_to_file : {L : Type 0} (views : LinkViews L) (dials : DialsBetween) (job
     → IsNamed path was.files.named old.output → new.output ≡ now.files.named → now.out ≡ was.out → now.files.stock ≡ was.files.stock
     → IfOk result (DoesNetJob views (record { host = host; job = job }) old new) → IfOk result (RanThere (host_job host job) (Path path) dials was now)
 ran_to_file views dials job host path old new was now (Ok printed) dials_first dials_last named at_last out stock x = record {
-  reports = x.reports;
-  trace = x.ran.ran.trace;
-  events = x.ran.ran.did.events;
-  runs = x.ran.ran.did.runs;
-  told = x.ran.told;
-  dialled = dialled_by x.ran.ran.moves;
+  loop = record {
+    reports = x.reports;
+    moves = x.ran.ran.moves;
+    first = x.ran.ran.first;
+    last = x.ran.ran.last;
+    fresh = x.ran.ran.fresh;
+    steps = x.ran.steps;
+    last_told = x.ran.last_told;
+    trace = x.ran.ran.trace;
+    told = x.ran.told;
+    rest = x.ran.ran.rest;
+    left = x.ran.ran.left;
+    did = x.ran.ran.did;
+    all = x.ran.all;
+    end_well = x.ran.end_well;
+  };
   named = x.ran.ran.asked;
   asked_for = sym dials_last ∙ asked_now views old.links x.ran.ran.moves new.links x.ran.ran.calls ∙ ap (prepend_known (dialled_by x.ran.ran.moves)) dials_first;
-  gave = ((old.output, named, record { text = x.ran.text; taken = subst (λ o. Appends old.output o x.ran.text) at_last x.ran.taken; file = x.ran.file; none = x.ran.none }), out, stock);
+  gave = ((old.output, named, record { text = x.ran.text; taken = subst (λ o. Appends old.output o x.ran.text) at_last x.ran.taken; went_out = x.ran.went_out; file = x.ran.file; none = x.ran.none }), out, stock);
   prints = x.prints;
 }
 ran_to_file views dials job host path old new was now (Err ending) dials_first dials_last named at_last out stock x = x
@@ -165,15 +184,34 @@ pub ran_to_folder : {L : Type 0} (views : LinkViews L) (dials : DialsBetween) (j
     → old.output ≡ was.files.stock → new.output ≡ now.files.stock → now.out ≡ was.out → now.files.named ≡ was.files.named
     → IfOk result (DoesNetBatch views (record { host = host; job = job }) old new) → IfOk result (RanThere (host_job host job) Folder dials was now)
 ran_to_folder views dials job host old new was now (Ok printed) dials_first dials_last at_first at_last out named x = record {
-  reports = x.reports;
-  trace = x.ran.ran.trace;
-  events = x.ran.ran.did.events;
-  runs = x.ran.ran.did.runs;
-  told = x.ran.told;
-  dialled = dialled_by x.ran.ran.moves;
+  loop = record {
+    reports = x.reports;
+    moves = x.ran.ran.moves;
+    first = x.ran.ran.first;
+    last = x.ran.ran.last;
+    fresh = x.ran.ran.fresh;
+    steps = x.ran.steps;
+    last_told = x.ran.last_told;
+    trace = x.ran.ran.trace;
+    told = x.ran.told;
+    rest = x.ran.ran.rest;
+    left = x.ran.ran.left;
+    did = x.ran.ran.did;
+    all = x.ran.all;
+    end_well = x.ran.end_well;
+  };
   named = x.ran.ran.asked;
   asked_for = sym dials_last ∙ asked_now views old.links x.ran.ran.moves new.links x.ran.ran.calls ∙ ap (prepend_known (dialled_by x.ran.ran.moves)) dials_first;
-  gave = (x.ran.count, x.ran.files, subst (λ o. TakesBack o (page_outputs_from 1 (pages_of x.ran.ran.trace)) now.files.stock) at_first (subst (λ o. TakesBack old.output (page_outputs_from 1 (pages_of x.ran.ran.trace)) o) at_last x.ran.outputs), out, named);
+  gave = (
+    record {
+      count = x.ran.count;
+      files = x.ran.files;
+      went_out = x.ran.went_out;
+      outputs = subst (λ o. TakesBack o (page_outputs_from 1 (pages_of x.ran.ran.trace)) now.files.stock) at_first (subst (λ o. TakesBack old.output (page_outputs_from 1 (pages_of x.ran.ran.trace)) o) at_last x.ran.outputs);
+    },
+    out,
+    named,
+  );
   prints = x.prints;
 }
 ran_to_folder views dials job host old new was now (Err ending) dials_first dials_last at_first at_last out named x = x
@@ -199,10 +237,10 @@ batch_prints_none destination job device was now printed count is does = let p =
 
 -- nor do they over the net
 pub scan_there_prints_none : (destination : Destination) (job : Job) (host : List ℕ) (dials : DialsBetween) (was now : JobOutputs) (printed : Printout) → job.task ≡ Scan → RanThere (host_job host job) destination dials was now printed → printed.table.items ≡ []
-scan_there_prints_none destination job host dials was now printed is x = x.prints.table ∙ ap (λ t. printed_table t (net_prefix host) job.device x.reports) is
+scan_there_prints_none destination job host dials was now printed is x = x.prints.table ∙ ap (λ t. printed_table t (net_prefix host) job.device x.loop.reports) is
 
 pub batch_there_prints_none : (destination : Destination) (job : Job) (host : List ℕ) (dials : DialsBetween) (was now : JobOutputs) (printed : Printout) (count : ℕ) → job.task ≡ Batch count → RanThere (host_job host job) destination dials was now printed → printed.table.items ≡ []
-batch_there_prints_none destination job host dials was now printed count is x = x.prints.table ∙ ap (λ t. printed_table t (net_prefix host) job.device x.reports) is
+batch_there_prints_none destination job host dials was now printed count is x = x.prints.table ∙ ap (λ t. printed_table t (net_prefix host) job.device x.loop.reports) is
 
 -- a job whose file goes to standard output touches no other
 pub does_spare : (destination : Destination) (job : Job) (device : DeviceState × DeviceState) (was now : JobOutputs) (printed : Printout) → destination ≡ StandardOutput → DoesPlanned destination job device was now printed → now.files ≡ was.files
@@ -210,13 +248,13 @@ does_spare destination job device was now printed at (ToOutput there x same) = s
 does_spare destination job device was now printed at (ToPath path there begun named x out stock) = absurd (subst IsPath (sym there ∙ at) tt)
 does_spare destination job device was now printed at (ToFolder there x out named) = absurd (subst IsFolder (sym there ∙ at) tt)
 
-gave_spares : (destination : Destination) (job : Job) (trace : JobTrace) (was now : JobOutputs) → destination ≡ StandardOutput → GavePlanned destination job trace was now → now.files ≡ was.files
-gave_spares StandardOutput job trace was now at gave = gave.1
-gave_spares (Path path) job trace was now at gave = absurd (subst IsPath at tt)
-gave_spares Folder job trace was now at gave = absurd (subst IsFolder at tt)
+gave_spares : (destination : Destination) (job : Job) (loop : LoopThere job) (was now : JobOutputs) → destination ≡ StandardOutput → GavePlanned destination job loop was now → now.files ≡ was.files
+gave_spares StandardOutput job loop was now at gave = gave.1
+gave_spares (Path path) job loop was now at gave = absurd (subst IsPath at tt)
+gave_spares Folder job loop was now at gave = absurd (subst IsFolder at tt)
 
 pub ran_spares : (destination : Destination) (job : Job) (host : List ℕ) (dials : DialsBetween) (was now : JobOutputs) (printed : Printout) → destination ≡ StandardOutput → RanThere (host_job host job) destination dials was now printed → now.files ≡ was.files
-ran_spares destination job host dials was now printed at x = gave_spares destination job x.trace was now at x.gave
+ran_spares destination job host dials was now printed at x = gave_spares destination job x.loop was now at x.gave
 
 -- what is well has no ending
 pub well_is_no_end : {A E : Type 0} (P : Type 0) (result : Result A E) → IsOk result → OnErr result P

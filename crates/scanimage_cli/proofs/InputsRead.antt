@@ -1,5 +1,7 @@
 -- What was read of the inputs that a plan names.
-use Rattle.std.proofs.Common.{ℕ, ◌≡◌, List, Option, Some, None, Result, Ok, Err, IfErr, IfOk, subst, sym}
+use Rattle.std.proofs.Common.{arith, ℕ, ◌≡◌, List, [], Option, Some, None, Result, Ok, Err, IfErr, IfOk, refl, subst, sym, true≢false}
+use Rattle.std.specs.Prelude.{Contains, IsErr, is_ok}
+use Rattle.sane_fixed.specs.Text.{IsText}
 use Rattle.dispatch.specs.declared.config_line.ConfigLine.{ConfigLine}
 use Rattle.config_pages.specs.ConfigReading.{AreReadLines}
 use Rattle.config_pages.specs.InputTexts.{InputName, ReadsText, SeenInputs, text_read}
@@ -28,3 +30,10 @@ password_at file path at None was now (Ok password) is named read line = absurd 
 password_at file path at (Some text) was now (Ok password) is named read line =
     subst (λ f. IsPasswordIn f was now password) (sym is) (record { text = text; read = subst (λ n. ReadsText (text_read n 1026 (Some text)) was now) named read; line = line })
 password_at file path at gave was now (Err ending) is named read line = tt
+
+-- an empty text is taken
+pub empty_is_taken : {T E A : Type 0} (P : A → Type 0) (bytes : List ℕ) (text : Result T E) (taken : Result T A) → bytes ≡ [] → (IsErr text → ¬ IsText bytes) → is_ok taken ≡ is_ok text → IfErr taken P
+empty_is_taken P bytes (Err fault) taken none nul same =
+    absurd (nul refl (λ has. let none_in : Contains [] 0 = subst (λ b. Contains b 0) none has in absurd (omega (arith, none_in.1))))
+empty_is_taken P bytes (Ok text) (Ok value) none nul same = tt
+empty_is_taken P bytes (Ok text) (Err fault) none nul same = absurd (true≢false (sym same))

@@ -17,3 +17,12 @@ pub mod InputsRead
 pub mod WordLists
 pub mod Caused
 pub mod CausedRun
+pub mod ClapWalk
+pub mod CutPieces
+pub mod ClapItems
+pub mod ClapRows
+pub mod ClapNumbers
+pub mod OptionsRead
+pub mod OptionSteps
+pub mod OptionsFound
+pub mod PlansRefused

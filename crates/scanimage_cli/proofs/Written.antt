@@ -187,18 +187,18 @@ module _ (table : Table) (remote : Remote) (plan : JobPlan) (password : List ℕ
   AskedOfIt = asked_there remote plan password
 
   abbrev Gave : Destination → Type 0
-  Gave destination = GavePlanned destination d.job d.ran.trace (job_part was) (record { out = d.behind; files = now.files })
+  Gave destination = GavePlanned destination d.job d.ran.loop (job_part was) (record { out = d.behind; files = now.files })
 
   abbrev of_job : JobThere AskedOfIt
-  of_job = record { job = d.job; asked_for = d.asked_for; device = d.device; reports = d.ran.reports; trace = d.ran.trace; events = d.ran.events; runs = d.ran.runs; told = d.ran.told }
+  of_job = record { job = d.job; asked_for = d.asked_for; device = d.device; fits = d.fits; loop = d.ran.loop }
 
-  none_there : (task : Task) → plan.task ≡ task → printed_table task (net_prefix remote.host) d.job.device d.ran.reports ≡ [] → Appends d.behind now.out []
-  none_there task is nothing = subst (λ t. Appends d.behind now.out t) (d.ran.prints.table ∙ (ap (λ t. printed_table t (net_prefix remote.host) d.job.device d.ran.reports) (d.asked_for.task ∙ is) ∙ nothing)) d.printed_out
+  none_there : (task : Task) → plan.task ≡ task → printed_table task (net_prefix remote.host) d.job.device d.ran.loop.reports ≡ [] → Appends d.behind now.out []
+  none_there task is nothing = subst (λ t. Appends d.behind now.out t) (d.ran.prints.table ∙ (ap (λ t. printed_table t (net_prefix remote.host) d.job.device d.ran.loop.reports) (d.asked_for.task ∙ is) ∙ nothing)) d.printed_out
 
-  file_there : (before behind : Option (List ℕ)) → plan.task ≡ Scan → GaveFile d.job d.ran.trace before behind → (text : List ℕ) × IsFileThere AskedOfIt text × Appends before behind text
+  file_there : (before behind : Option (List ℕ)) → plan.task ≡ Scan → GaveFile d.job d.ran.loop before behind → (text : List ℕ) × IsFileThere AskedOfIt text × Appends before behind text
   file_there before behind is gave =
       let file = gave.file (d.asked_for.task ∙ is) in
-      (gave.text, record { there = of_job; picture = file.0; shows = file.1; file = file.2 }, gave.taken)
+      (gave.text, record { there = of_job; went_out = gave.went_out; picture = file.0; shows = file.1; file = file.2 }, gave.taken)
 
   there_out : (destination : Destination) → plan.task ≡ Scan → destination ≡ StandardOutput → Gave destination
       → ((text : List ℕ) × IsFileThere AskedOfIt text × (new.out ≡ old.out ++ text)) × (new.named ≡ old.named) × (new.returned ≡ old.returned)
@@ -226,9 +226,11 @@ module _ (table : Table) (remote : Remote) (plan : JobPlan) (password : List ℕ
   there_folder StandardOutput count is at gave = absurd (subst IsOut at tt)
   there_folder (Path path) count is at gave = absurd (subst IsPath at tt)
   there_folder Folder count is at gave =
-      let back = taken_back old.returned new.returned (page_outputs_from 1 (pages_of d.ran.trace)) _ _ _ _ first.stock last.stock gave.2 in
-      let none = appended_none old.out new.out d.behind now.out (gave.3 ∙ first.out) last.out (none_there (Batch count) is refl) in
-      ((texts_of (pages_of d.ran.trace), record { there = of_job; count = gave.0; files = gave.1; texts_are = refl }, back ∙ ap (λ more. old.returned ++ more) (outputs_of_pages 1 (pages_of d.ran.trace))), none, same_text old.named new.named _ _ first.named last.named gave.4)
+      let pages = pages_of d.ran.loop.trace in
+      let back = taken_back old.returned new.returned (page_outputs_from 1 pages) _ _ _ _ first.stock last.stock gave.0.outputs in
+      let none = appended_none old.out new.out d.behind now.out (gave.1 ∙ first.out) last.out (none_there (Batch count) is refl) in
+      let files : AreFilesThere AskedOfIt (texts_of pages) = record { there = of_job; count = gave.0.count; files = gave.0.files; went_out = gave.0.went_out; texts_are = refl } in
+      ((texts_of pages, files, back ∙ ap (λ more. old.returned ++ more) (outputs_of_pages 1 pages)), none, same_text old.named new.named _ _ first.named last.named gave.2)
 
   there_none : (destination : Destination) → destination ≡ StandardOutput → Gave destination → (new.named ≡ old.named) × (new.returned ≡ old.returned)
   there_none StandardOutput at gave = (same_text old.named new.named _ _ first.named last.named (ap (λ f. f.named) gave.1), same_stock old.returned new.returned _ _ _ _ first.stock last.stock (ap (λ f. f.stock) gave.1))

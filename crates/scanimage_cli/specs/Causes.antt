@@ -25,11 +25,11 @@ use Rattle.config_pages.specs.InputTexts.{SeenInputs, with_calls}
 use Rattle.config_pages.specs.declared.config_scanners.ScannerFault.{ScannerFault}
 use Rattle.scanimage_cli.specs.CallStreams.{HeldOutput}
 use Rattle.scanimage_cli.specs.Doing.{EndsBatch, EndsJob}
-use Rattle.scanimage_cli.specs.Ending.{IsPlanRefusal, ended_by, ended_by_device}
+use Rattle.scanimage_cli.specs.Ending.{ended_by, ended_by_device}
 use Rattle.scanimage_cli.specs.Host.{DialsBetween, IsAddressOf, IsHostCalled, dials_between}
 use Rattle.scanimage_cli.specs.Inputs.{AreLinesOf, IsPasswordIn, IsUnreadAt, RefusesConfigAt}
 use Rattle.scanimage_cli.specs.JobOutputs.{JobOutputs}
-use Rattle.scanimage_cli.specs.Plans.{IsPlanOf}
+use Rattle.scanimage_cli.specs.Plans.{IsPlanOf, IsPlanRefusal}
 use Rattle.scanimage_cli.specs.Programs.{AskedHere, AskedThere, IsDeviceNamed, IsJobOf, OutsideSeen, ProgramOutputs}
 use Rattle.scanimage_cli.specs.Programs.{asked_here, asked_there, job_part}
 use Rattle.scanimage_cli.specs.Whole.{ProgramState, program_state}
@@ -62,11 +62,20 @@ HasNoDevice table named = ((named ≡ None) × (listed_infos table ≡ []))
 abbrev pub MayPrint : Task → Type 0
 MayPrint task = (task ≡ ListTask) ⊎ (task ≡ Show)
 
--- **what ends a task here (`EndsHere`, `EndsPlanned`, `HasNoDevice`)**: memory ran out or there is no such device,
--- before a job was begun, and no output was touched. Or the job was begun, and stopped for a reason that a job on that
--- device has. Or its list or table was not taken, and it is noted that an output failed.
+-- memory is wanted before a job: to list the devices, for a list or where none is named; and for one that is there
+pub data WantsMemoryHere (table : Table) (asked : AskedHere) : Type 0 where
+  ToList : asked.plan.task ≡ ListTask → WantsMemoryHere table asked
+  ToName : asked.device ≡ None → WantsMemoryHere table asked
+  ForDevice : (name : List ℕ) → IsDeviceNamed asked.device (listed_infos table) name → (device : DeviceState)
+      → unplug_answer table name ≡ Ok device → WantsMemoryHere table asked
+
+-- **what ends a task here (`EndsHere`, `EndsPlanned`, `HasNoDevice`, `WantsMemoryHere`)**: memory ran out, where some
+-- is wanted, or there is no such device, before a job was begun, and no output was touched. Or the job was begun, and
+-- stopped for a reason that a job on that device has. Or its list or table was not taken, and it is noted that an
+-- output failed.
 pub data EndsHere (table : Table) (asked : AskedHere) (was now : ProgramOutputs) (ending : Ending) : Type 0 where
-  ByMemory : ending ≡ Ended NoMem Memory → now ≡ was → EndsHere table asked was now ending
+  ByMemory : ending ≡ Ended NoMem Memory → WantsMemoryHere table asked → now ≡ was
+      → EndsHere table asked was now ending
   ByDevice : ending ≡ Ended Inval Setting → HasNoDevice table asked.device → now ≡ was
       → EndsHere table asked was now ending
   ByJob : (job : Job) → IsJobOf asked.plan asked.password job
@@ -94,13 +103,11 @@ pub data StoppedThere (job : Job) (dials : DialsBetween) (stop : Stop) : Type 0 
 abbrev pub EndsNetPlanned : Job → DialsBetween → Ending → Type 0
 EndsNetPlanned job dials ending = (stop : Stop) × (ending ≡ ended_by stop) × StoppedThere job dials stop
 
--- **what ends one at a host (`EndsThere`, `StoppedThere`)**: memory ran out, or the job is too large, or its host has
--- no address, and no connection was asked for and no output touched. Or the control connection was asked for and not
--- made. Or the job was begun over one that was made, and stopped. Or its list or table was not taken, and it is noted
--- that an output failed.
+-- **what ends one at a host (`EndsThere`, `StoppedThere`)**: the job is too large, or its host has no address, and no
+-- connection was asked for and no output touched. Or the control connection was asked for and not made. Or the job was
+-- begun over one that was made, and stopped. Or its list or table was not taken, and it is noted that an output failed.
 pub data EndsThere (asked : AskedThere) (dials : DialsBetween) (was now : ProgramOutputs) (ending : Ending)
     : Type 0 where
-  ByMemory : ending ≡ Ended NoMem Memory → now ≡ was → dials.now ≡ dials.was → EndsThere asked dials was now ending
   BySize : (job : Job) → IsJobOf asked.plan asked.password job → job.device ≡ asked.remote.device
       → (HasJobFault job None → ⊥) → ending ≡ Ended Inval Setting → now ≡ was → dials.now ≡ dials.was
       → EndsThere asked dials was now ending
@@ -146,12 +153,12 @@ pub record HasEndedFor (words : List (List ℕ)) (was now : ProgramState) (endin
 abbrev pub OnlyReads : ProgramState → ProgramState → Type 0
 OnlyReads was now = now ≡ record was { inputs = now.inputs }
 
--- **what an ending tells is so (`IsCauseOf`, `IsCausedBy`)**: the words are told to have no plan, and nothing was read.
--- Or the config that they name was not taken, as it was read; a line of it has no scanner, for a page that was asked
--- for; there was no memory for the scanners; or the password was not taken, as it was read. In each of these no
--- connection was asked for, no output touched, and no job begun. Or the task that was asked for ended so.
+-- **what an ending tells is so (`IsCauseOf`, `IsCausedBy`)**: there was no memory for a plan, or the words have none,
+-- and nothing was read. Or the config that they name was not taken, as it was read; a line of it has no scanner, for a
+-- page that was asked for; there was no memory for the scanners; or the password was not taken, as it was read. In each
+-- of these no connection was asked for, no output touched, and no job begun. Or the task that was asked for ended so.
 pub data IsCauseOf (words : List (List ℕ)) (was now : ProgramState) (ending : Ending) : Type 0 where
-  OfWords : IsPlanRefusal ending → now ≡ was → IsCauseOf words was now ending
+  OfWords : IsPlanRefusal words ending → now ≡ was → IsCauseOf words was now ending
   OfConfig : (plan : Plan) → IsPlanOf words plan → RefusesConfigAt plan.config was.inputs now.inputs ending
       → OnlyReads was now → IsCauseOf words was now ending
   OfPage : (read : IsConfigured words was.inputs) → (why : ScannerFault)
@@ -187,7 +194,7 @@ abbrev pub IsUnconnected : Remote → Option (List ℕ) → Option (List ℕ) �
 IsUnconnected remote was now ending = (ending ≡ Ended IoError Lost)
     × ((((address : Ipv4Addr) → IsAddressOf remote.host address → ⊥) × (now ≡ was)) ⊎ IsHostCalled remote false was now)
 
--- no device is named: there was no memory for its name, or none is listed
+-- no device is named, and there was no memory for the name of the first, or none is listed
 abbrev pub IsUnnamed : Option (List ℕ) → List DeviceInfo → Ending → Type 0
-IsUnnamed named infos ending = (ending ≡ Ended NoMem Memory)
-    ⊎ ((ending ≡ Ended Inval Setting) × (named ≡ None) × (infos ≡ []))
+IsUnnamed named infos ending = (named ≡ None)
+    × ((ending ≡ Ended NoMem Memory) ⊎ ((ending ≡ Ended Inval Setting) × (infos ≡ [])))

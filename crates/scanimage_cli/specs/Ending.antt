@@ -1,5 +1,5 @@
 -- The exit statuses of scanimage, and the lines that tell its endings.
-use Rattle.std.specs.Prelude.{ℕ, ◌≡◌, ◌≢◌, ◌⊎◌, ◌∷◌, [], ⊤, List, Option, Some, None, codes, decimal}
+use Rattle.std.specs.Prelude.{ℕ, ◌≡◌, ◌≢◌, ◌∷◌, [], ⊤, List, Option, Some, None, codes, decimal}
 use Rattle.std.specs.List.{concat}
 use Rattle.sane_fixed.specs.Status.{status_code, status_name}
 use Rattle.sane_fixed.specs.declared.status.Status.TheVariants.{Inval, NoMem}
@@ -56,10 +56,6 @@ IsOfJob (Ended status why) = ⊤
 abbrev pub ended_by_device : ℕ → DeviceFault → Ending
 ended_by_device line (NoPage why) = Page line why
 ended_by_device line faults.NoMem = Ended NoMem Memory
-
--- there is no memory for a plan, or the command line is refused
-abbrev pub IsPlanRefusal : Ending → Type 0
-IsPlanRefusal ending = (ending ≡ Ended NoMem Memory) ⊎ (ending ≡ BadCommandLine)
 
 -- the words of the command line cannot be split, or the program's own are no options; or there is no memory for them
 abbrev pub ended_by_split : SplitFault → Ending

@@ -37,6 +37,10 @@ pub record IsHostCalled (remote : Remote) (is_made : Bool) (was now : Option (Li
   pub is_first : at.is_first ≡ remote.dial_first
   pub called : now ≡ prepend_known (host_entry at is_made) was
 
+-- a host, a port and a way of data connections, for no device
+abbrev pub remote_at : List ℕ → ℕ → Bool → Remote
+remote_at host port dial_first = record { host = host; port = port; dial_first = dial_first; device = [] }
+
 -- the ports that were told of a host's connections before a call, and behind it
 pub record DialsBetween : Type 0 where
   pub was : Option (List ℕ)

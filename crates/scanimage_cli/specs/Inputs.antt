@@ -64,7 +64,7 @@ pub record IsPasswordUnread (path : List ℕ) (was now : SeenInputs) (ending : E
 -- **the config and the password that are named (`AreLinesOf`, `RefusesConfigAt`, `IsPasswordIn`, `IsUnreadAt`)**: the
 -- lines of the text that was read there, once, or that it is not taken; the first line of the 1,026 bytes at most that
 -- were read of the file, once, or that this is not read. If no config is named there are no lines, if no file is there
--- is an empty password, and then nothing is read.
+-- is an empty password, for which nothing is read and no memory wanted.
 abbrev pub AreLinesOf : Option Input → SeenInputs → SeenInputs → List ConfigLine → Type 0
 AreLinesOf None was now lines = (lines ≡ []) × (now ≡ was)
 AreLinesOf (Some input) was now lines = IsConfigRead (name_read input) was now lines
@@ -78,5 +78,5 @@ IsPasswordIn None was now password = (password ≡ []) × (now ≡ was)
 IsPasswordIn (Some path) was now password = IsPasswordRead path was now password
 
 abbrev pub IsUnreadAt : Option (List ℕ) → SeenInputs → SeenInputs → Ending → Type 0
-IsUnreadAt None was now ending = (ending ≡ Ended NoMem Memory) × (now ≡ was)
+IsUnreadAt None was now ending = ⊥
 IsUnreadAt (Some path) was now ending = IsPasswordUnread path was now ending

@@ -3,6 +3,7 @@ pub mod Asked
 pub mod DeviceList
 pub mod WordCut
 pub mod ScanimageOptions
+pub mod KnownOptions
 pub mod Password
 pub mod Rounding
 pub mod CutOptions

@@ -79,3 +79,9 @@ pub record IsPlanOf (words : List (List ℕ)) (plan : Plan) : Type 0 where
 -- options with which there is no plan: for want of memory, or since they are not complete
 abbrev pub RefusesOptions : Options → Ending → Type 0
 RefusesOptions options ending = (ending ≡ Ended NoMem Memory) ⊎ ((ending ≡ BadCommandLine) × (IsComplete options → ⊥))
+
+-- **a command line without a plan (`IsPlanRefusal`)**: there is no memory for a plan. Or the command line is told as
+-- bad, and no plan is one of these words.
+abbrev pub IsPlanRefusal : List (List ℕ) → Ending → Type 0
+IsPlanRefusal words ending = (ending ≡ Ended NoMem Memory)
+    ⊎ ((ending ≡ BadCommandLine) × ((plan : Plan) → IsPlanOf words plan → ⊥))

@@ -1,5 +1,5 @@
 -- What the program scanimage has done where it ends well.
-use Rattle.std.specs.Prelude.{ℕ, ◌≡◌, ◌≢◌, Bool, true, Option, Some, None, Ok, List, [], length, slice_get, All}
+use Rattle.std.specs.Prelude.{ℕ, ◌≡◌, ◌≢◌, Bool, true, false, Option, Some, None, Ok, List, [], length, slice_get, All}
 use Rattle.std.specs.Io.KnownBytes.{Appends, prepend_known}
 use Rattle.netpbm.specs.Picture.{Picture}
 use Rattle.frame_join.specs.PictureText.{IsPictureFile}
@@ -9,13 +9,16 @@ use Rattle.device_api.specs.State.{DeviceState}
 use Rattle.dispatch.specs.Table.{Table, listed_infos, table, unplug_answer}
 use Rattle.dispatch.specs.declared.table.place.Place.{Place}
 use Rattle.virtual_scanner.specs.Scanners.{Scanner, scanner_state}
+use Rattle.scan_job.specs.JobSize.{HasJobFault}
 use Rattle.scan_job.specs.declared.job.Job.{Job}
 use Rattle.scan_job.specs.declared.job.Task.TheVariants.{List as ListTask, Scan}
 use Rattle.scan_job.specs.declared.outcome.Outcome.TheVariants.{Done}
 use Rattle.scan_job.specs.declared.report.Reports.{Reports}
-use Rattle.client_replies.specs.ProtocolStates.{target_of}
+use Rattle.net_client.specs.ClientStates.{ClientState, IsNewClient}
 use Rattle.net_jobs.specs.Batches.{MayScan, pages_of, IsPageFile}
-use Rattle.net_jobs.specs.JobTraces.{JobTrace, TraceEvent, EventsLead, initial_trace, ports_named}
+use Rattle.net_jobs.specs.JobJournal.{JobMove, bytes_written_by, dialled_by, has_write_failed, heard_by}
+use Rattle.net_jobs.specs.JobSteps.{MovesAreSteps, StepsGive, given_by_steps}
+use Rattle.net_jobs.specs.JobTraces.{BytesMatchTrace, EndWell, JobTrace, ports_named}
 use Rattle.net_jobs.specs.RunPromises.{AreAskedFor}
 use Rattle.recorded.specs.Names.{IsNamed}
 use Rattle.scan_job.specs.FileOutputs.{TakesBack}
@@ -140,37 +143,60 @@ abbrev pub EndsWellHere : {T : Type 0} → Table → AskedHere → HeldOutput T 
 EndsWellHere table asked outputs =
     IsDoneHere table asked (outputs.contents outputs.was) (outputs.contents outputs.now)
 
--- a job's one file: the text that was written is the whole file of the picture that the frames show, or nothing, where
--- the job is no scan
-pub record GaveFile (job : Job) (trace : JobTrace) (was now : Option (List ℕ)) : Type 0 where
+-- **the loop of a job that is done at a host (`LoopThere`)**: it began with a new client of that job. Its moves are
+-- steps by the client's own contracts, and led to a client that is done with these reports. What they read and wrote is
+-- what the trace tells of the replies, and of what was sent for them. Unless a write failed, all was written. Each
+-- frame ended with EOF.
+pub record LoopThere (job : Job) : Type 0 where
+  pub reports : Reports
+  pub moves : List JobMove
+  pub first : ClientState
+  pub last : ClientState
+  pub fresh : IsNewClient job first
+  pub steps : MovesAreSteps first moves last
+  pub last_told : last.outcome ≡ Done reports
+  pub trace : JobTrace
+  pub told : trace.protocol.outcome ≡ Done reports
+  pub rest : List ℕ
+  pub left : List ℕ
+  pub did : BytesMatchTrace job trace
+      (record { read_ = heard_by moves; wrote = bytes_written_by moves; rest = rest; left = left })
+  pub all : has_write_failed moves ≡ false → left ≡ []
+  pub end_well : EndWell did.events
+
+-- a job's one file: the text that was written is what went out by the steps of its loop, and the whole file of the
+-- picture that the frames show, or nothing, where the job is no scan
+pub record GaveFile (job : Job) (loop : LoopThere job) (was now : Option (List ℕ)) : Type 0 where
   pub text : List ℕ
   pub taken : Appends was now text
-  pub file : job.task ≡ Scan → (p : Picture) × ShowsFrames trace.protocol.history.ended p × IsPictureFile text p
+  pub went_out : text ≡ given_by_steps loop.steps.steps
+  pub file : job.task ≡ Scan → (p : Picture) × ShowsFrames loop.trace.protocol.history.ended p × IsPictureFile text p
   pub none : job.task ≢ Scan → text ≡ []
 
+-- the files of a batch: those of its pages, which went out by the steps of its loop, in their outputs
+pub record GavePages (job : Job) (loop : LoopThere job) (was now : Option Stock) : Type 0 where
+  pub count : MayScan job.task (length (pages_of loop.trace))
+  pub files : All IsPageFile (pages_of loop.trace)
+  pub went_out : StepsGive loop.steps.steps loop.trace.pages loop.trace.protocol.history.given
+  pub outputs : TakesBack was (page_outputs_from 1 (pages_of loop.trace)) now
+
 -- the file, or the files of a batch, went where they were to go, and no other output was touched
-abbrev pub GavePlanned : Destination → Job → JobTrace → JobOutputs → JobOutputs → Type 0
-GavePlanned StandardOutput job trace was now = GaveFile job trace was.out now.out × (now.files ≡ was.files)
-GavePlanned (Path path) job trace was now = ((begun : Option (List ℕ)) × IsNamed path was.files.named begun
-    × GaveFile job trace begun now.files.named) × (now.out ≡ was.out) × (now.files.stock ≡ was.files.stock)
-GavePlanned Folder job trace was now = MayScan job.task (length (pages_of trace)) × All IsPageFile (pages_of trace)
-    × TakesBack was.files.stock (page_outputs_from 1 (pages_of trace)) now.files.stock × (now.out ≡ was.out)
+abbrev pub GavePlanned : (destination : Destination) → (job : Job) → LoopThere job → JobOutputs → JobOutputs → Type 0
+GavePlanned StandardOutput job loop was now = GaveFile job loop was.out now.out × (now.files ≡ was.files)
+GavePlanned (Path path) job loop was now = ((begun : Option (List ℕ)) × IsNamed path was.files.named begun
+    × GaveFile job loop begun now.files.named) × (now.out ≡ was.out) × (now.files.stock ≡ was.files.stock)
+GavePlanned Folder job loop was now = GavePages job loop was.files.stock now.files.stock × (now.out ≡ was.out)
     × (now.files.named ≡ was.files.named)
 
 -- the job is done by the client's rules, for replies and frames that came, over data connections to the ports that the
 -- replies named, its file where it is to go, and what its reports come to is to be printed
 pub record RanThere (asked : HostJob) (destination : Destination) (dials : DialsBetween) (was now : JobOutputs)
     (printed : Printout) : Type 0 where
-  pub reports : Reports
-  pub trace : JobTrace
-  pub events : List TraceEvent
-  pub runs : EventsLead (target_of asked.job) (initial_trace asked.job) events trace
-  pub told : trace.protocol.outcome ≡ Done reports
-  pub dialled : List ℕ
-  pub named : AreAskedFor dialled (ports_named events)
-  pub asked_for : dials.now ≡ prepend_known dialled dials.was
-  pub gave : GavePlanned destination asked.job trace was now
-  pub prints : Prints asked.job.task (net_prefix asked.host) asked.job.device reports printed
+  pub loop : LoopThere asked.job
+  pub named : AreAskedFor (dialled_by loop.moves) (ports_named loop.did.events)
+  pub asked_for : dials.now ≡ prepend_known (dialled_by loop.moves) dials.was
+  pub gave : GavePlanned destination asked.job loop was now
+  pub prints : Prints asked.job.task (net_prefix asked.host) asked.job.device loop.reports printed
 
 -- a job that is asked of a host: the rest of its plan, and the password
 pub record AskedThere : Type 0 where
@@ -183,12 +209,14 @@ asked_there remote plan password = record { remote = remote; plan = plan; passwo
 
 -- **done at a host (`EndsWellThere`, `IsDoneThere`, `RanThere`, `IsHostCalled`)**: the job of the plan, with the
 -- password, for the device that is asked for there, done by the client's rules over one control connection, to the host
--- and port that are asked, and data connections to the ports that its replies named. Its file goes where the plan has
--- it go. Behind it its list or table is printed, and the lines of its rounded settings on standard error.
+-- and port that are asked, and data connections to the ports that its replies named. A client takes a job of its size.
+-- Its file goes where the plan has it go. Behind it its list or table is printed, and the lines of its rounded settings
+-- on standard error.
 pub record IsDoneThere (asked : AskedThere) (dials : DialsBetween) (was now : ProgramOutputs) : Type 0 where
   pub job : Job
   pub asked_for : IsJobOf asked.plan asked.password job
   pub device : job.device ≡ asked.remote.device
+  pub fits : HasJobFault job None
   pub connected : Option (List ℕ)
   pub called : IsHostCalled asked.remote true dials.was connected
   pub behind : Option (List ℕ)

@@ -1,8 +1,8 @@
 -- The values that the program's words, which have long names and values behind `=`, give the options.
-use Rattle.std.specs.Prelude.{ℕ, ◌≡◌, ◌+◌, ◌-◌, nat_lt, option_map, decimal, Bool, false, ◌||◌, ◌==◌, if◌then◌else◌}
-use Rattle.std.specs.Prelude.{Option, Some, None, List, [], ◌∷◌, length, take, drop}
-use Rattle.std.specs.Str.{bytes_eq}
-use Rattle.scanimage_cli.specs.WordCut.{long_word}
+use Rattle.std.specs.Prelude.{ℕ, ◌≡◌, ◌≤◌, ◌+◌, ◌-◌, nat_lt, option_map, decimal, Bool, false, ◌||◌, ◌==◌}
+use Rattle.std.specs.Prelude.{if◌then◌else◌, Option, Some, None, IfSome, List, [], ◌∷◌, All, length, take, drop}
+use Rattle.std.specs.Str.{IsUtf8, bytes_eq}
+use Rattle.scanimage_cli.specs.WordCut.{long_word, split_of}
 use Rattle.scanimage_cli.specs.declared.options.Options.{Options}
 use Rattle.scanimage_cli.specs.declared.program_option.ProgramOption.{ProgramOption}
 use Rattle.scanimage_cli.specs.declared.program_option.ProgramOption.TheVariants.{ListDevices, AllOptions, DontScan}
@@ -42,9 +42,14 @@ count_named (d ∷ []) = if d == 48 then None else digit_to 57 d
 count_named (d ∷ e ∷ []) = if d == 49 then option_map (λ n. 10 + n) (digit_to 54 e) else None
 count_named (_ ∷ _ ∷ _ ∷ _) = None
 
--- **the options' values (`AreScanimageOptions`)**: each option has the value that the program's words give it; a port
--- and a count the number whose decimal text that is.
+-- a port that can be dialled
+abbrev pub IsPort : ℕ → Type 0
+IsPort port = (1 ≤ port) × (port ≤ 65535)
+
+-- **the options' values (`AreScanimageOptions`, `HasNoOptions`)**: each option has the value that the program's words
+-- give it; a port and a count the number whose decimal text that is. The words are UTF-8, and a port is 1 to 65,535.
 pub record AreScanimageOptions (words : List (List ℕ)) (options : Options) : Type 0 where
+  pub utf8 : All IsUtf8 words
   pub list_devices : options.list_devices ≡ has_flag ListDevices words
   pub all_options : options.all_options ≡ has_flag AllOptions words
   pub dont_scan : options.dont_scan ≡ has_flag DontScan words
@@ -53,9 +58,15 @@ pub record AreScanimageOptions (words : List (List ℕ)) (options : Options) : T
   pub config : options.config ≡ program_option_value Config words
   pub net : options.net ≡ program_option_value Net words
   pub port : program_option_value Port words ≡ option_map decimal options.port
+  pub range : IfSome options.port IsPort
   pub dial_first : options.dial_first ≡ has_flag DialFirst words
   pub user : options.user ≡ program_option_value User words
   pub password_file : options.password_file ≡ program_option_value PasswordFile words
   pub batch : options.batch ≡ has_flag Batch words
   pub batch_count : option_map count_named (program_option_value BatchCount words)
       ≡ option_map (λ count. Some count) options.batch_count
+
+-- no options are those of a command line's own words, however it is split
+abbrev pub HasNoOptions : List (List ℕ) → Type 0
+HasNoOptions program = (words : List (List ℕ)) (settings : List (List ℕ × List ℕ)) (options : Options)
+    → split_of words ≡ Some (program, settings) → AreScanimageOptions program options → ⊥

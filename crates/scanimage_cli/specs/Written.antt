@@ -1,5 +1,5 @@
 -- What the program has written where it ends well and each of its outputs tells all that its calls took.
-use Rattle.std.specs.Prelude.{ℕ, ◌≡◌, ◌≢◌, ◌<◌, ◌⊎◌, Some, Ok, List, [], ◌++◌, All, length}
+use Rattle.std.specs.Prelude.{ℕ, ◌≡◌, ◌≢◌, ◌<◌, ◌⊎◌, Some, None, Ok, List, [], ◌++◌, All, length}
 use Rattle.netpbm.specs.Picture.{Picture}
 use Rattle.frame_join.specs.PictureText.{IsPictureFile}
 use Rattle.page_picture.specs.Shows.{ShowsFrames}
@@ -8,14 +8,12 @@ use Rattle.sane_fixed.specs.declared.byte_order.ByteOrder.TheVariants.{Big}
 use Rattle.scan_frames.specs.declared.setup.Setup.{Setup}
 use Rattle.device_api.specs.InForce.{Placement}
 use Rattle.device_api.specs.State.{DeviceState, after_reset, with_setup}
+use Rattle.scan_job.specs.JobSize.{HasJobFault}
 use Rattle.scan_job.specs.Shelves.{ReturnedOutput}
 use Rattle.scan_job.specs.declared.job.Job.{Job}
 use Rattle.scan_job.specs.declared.job.Task.TheVariants.{Scan, Batch}
-use Rattle.scan_job.specs.declared.outcome.Outcome.TheVariants.{Done}
-use Rattle.scan_job.specs.declared.report.Reports.{Reports}
-use Rattle.client_replies.specs.ProtocolStates.{target_of}
 use Rattle.net_jobs.specs.Batches.{IsPageFile, MayScan, pages_of}
-use Rattle.net_jobs.specs.JobTraces.{EventsLead, JobTrace, TraceEvent, initial_trace}
+use Rattle.net_jobs.specs.JobSteps.{StepsGive, given_by_steps}
 use Rattle.net_jobs.specs.Outputs.{texts_of}
 use Rattle.local_job.specs.LocalBatch.{IsBatchPut, pages_of_task}
 use Rattle.local_job.specs.LocalPages.{ArePageFiles, IsFileOfFirstPage, after_pages, outputs_from}
@@ -26,7 +24,7 @@ use Rattle.dispatch.specs.Table.{Table, fresh_table, listed_infos, unplug_answer
 use Rattle.dispatch.specs.declared.config_line.ConfigLine.{ConfigLine}
 use Rattle.scanimage_cli.specs.Inputs.{AreLinesOf, IsPasswordIn}
 use Rattle.scanimage_cli.specs.Plans.{IsPlanOf}
-use Rattle.scanimage_cli.specs.Programs.{AskedHere, AskedThere, IsDeviceNamed, IsJobOf, ProgramOutputs}
+use Rattle.scanimage_cli.specs.Programs.{AskedHere, AskedThere, IsDeviceNamed, IsJobOf, LoopThere, ProgramOutputs}
 use Rattle.scanimage_cli.specs.Programs.{asked_here, asked_there}
 use Rattle.scanimage_cli.specs.Whole.{IsCarriedOut, ProgramState}
 use Rattle.scanimage_cli.specs.declared.planning.Destination.TheVariants.{StandardOutput, Path, Folder}
@@ -69,23 +67,23 @@ pub record JobThere (asked : AskedThere) : Type 0 where
   pub job : Job
   pub asked_for : IsJobOf asked.plan asked.password job
   pub device : job.device ≡ asked.remote.device
-  pub reports : Reports
-  pub trace : JobTrace
-  pub events : List TraceEvent
-  pub runs : EventsLead (target_of job) (initial_trace job) events trace
-  pub told : trace.protocol.outcome ≡ Done reports
+  pub fits : HasJobFault job None
+  pub loop : LoopThere job
 
 pub record IsFileThere (asked : AskedThere) (text : List ℕ) : Type 0 where
   pub there : JobThere asked
+  pub went_out : text ≡ given_by_steps there.loop.steps.steps
   pub picture : Picture
-  pub shows : ShowsFrames there.trace.protocol.history.ended picture
+  pub shows : ShowsFrames there.loop.trace.protocol.history.ended picture
   pub file : IsPictureFile text picture
 
 pub record AreFilesThere (asked : AskedThere) (texts : List (List ℕ)) : Type 0 where
   pub there : JobThere asked
-  pub count : MayScan there.job.task (length (pages_of there.trace))
-  pub files : All IsPageFile (pages_of there.trace)
-  pub texts_are : texts ≡ texts_of (pages_of there.trace)
+  pub count : MayScan there.job.task (length (pages_of there.loop.trace))
+  pub files : All IsPageFile (pages_of there.loop.trace)
+  pub went_out
+      : StepsGive there.loop.steps.steps there.loop.trace.pages there.loop.trace.protocol.history.given
+  pub texts_are : texts ≡ texts_of (pages_of there.loop.trace)
 
 abbrev pub IsFileAt : Location → Table → JobPlan → List ℕ → List ℕ → Type 0
 IsFileAt (Here device) table plan password text = IsFileHere table (asked_here device plan password) text

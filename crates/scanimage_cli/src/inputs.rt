@@ -121,7 +121,8 @@ pub fn password_of<I: Inputs>(
     /// Carried by: `password` of `password_of`: `IsPasswordIn`
     ensures password { IfOk result
         (IsPasswordIn file.now (I.seen inputs.old) (I.seen inputs.new)) }
-    /// Of a password that is not taken that is told: the file of that name cannot be read, or memory ran out.
+    /// Of a password that is not taken that is told: the file of that name cannot be read, or memory ran out for it. Where no
+    /// file is named none is refused.
     /// Carried by: `refused` of `password_of`
     ensures refused { IfErr result
         (IsUnreadAt file.now (I.seen inputs.old) (I.seen inputs.new)) }
@@ -129,7 +130,8 @@ pub fn password_of<I: Inputs>(
     ensures failed { IfErr result IsFailure }
 {
     match file {
-        None => Text::new(alloc, b"").map_err(|_| Ending::no_memory()),
+        // An empty text takes no memory, and has no NUL.
+        None => Text::from_vec(Vec::new(alloc)).map_err(|_| Ending::no_memory()),
         Some(path) => {
             let name = path.as_bytes();
             let read = inputs.file(alloc, name, MOST_OF_PASSWORD);

@@ -44,7 +44,7 @@ pub use geometry::Geometry;
 pub use host::{HostDial, address_of};
 pub use hosts::{HostPoint, Hosts};
 pub use inputs::{config_from, config_lines, password_from, password_of};
-pub use laws::{options_are_those_of_the_cut, what_is_carried_out_is_written};
+pub use laws::{a_plan_asks_a_port, options_are_those_of_the_cut, what_is_carried_out_is_written};
 pub use local_job::{OutputTally, run_local, run_local_batch};
 pub use net_doing::{do_net_batch, do_net_job};
 pub use option_table::options_table;

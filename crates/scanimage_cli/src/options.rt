@@ -1,6 +1,9 @@
-ghost use Rattle.std.specs.Prelude.{◌≡◌, ◌≢◌, Some, IfOk, IfErr, List, ℕ, option_map, decimal};
+ghost use Rattle.std.specs.Prelude.{◌≡◌, ◌≢◌, ◌∷◌, Some, true, false, IfOk, IfErr, IfSome, List, ℕ, All, codes, map, option_map, decimal};
+ghost use Rattle.std.specs.Str.{IsUtf8};
+ghost use Rattle.clap.specs.Words.{HasMatchesOf, app_of, found_of, rule_of, takes, with_rule};
+ghost use Rattle.scanimage_cli.specs.KnownOptions.{IsFoundOf, rule_named, scanimage_app, seen_option, with_options};
 ghost use Rattle.scanimage_cli.specs.WordCut.{long_word};
-ghost use Rattle.scanimage_cli.specs.ScanimageOptions.{value_after, program_option_value, has_flag, count_named, AreScanimageOptions};
+ghost use Rattle.scanimage_cli.specs.ScanimageOptions.{value_after, program_option_value, has_flag, count_named, AreScanimageOptions, HasNoOptions, IsPort};
 
 use crate::program_option::ProgramOption;
 use clap::error::ErrorKind;
@@ -66,6 +69,13 @@ impl From<NoMem> for OptionsFault {
 }
 
 impl From<clap::Error> for OptionsFault {
+    ghost use Rattle.std.specs.Prelude.{◌≡◌};
+    ghost use Rattle.clap.specs.Words.{kind_of};
+    ghost use Rattle.clap.specs.declared.error.kind.ErrorKind.TheVariants.{OutOfMemory};
+    ghost use Rattle.scanimage_cli.specs.declared.options.OptionsFault.TheVariants.{NoMem as Wanting};
+
+    ghost from_gives = { λ e fault. kind_of e ≡ OutOfMemory → fault ≡ Wanting };
+
     fn from(e: clap::Error) -> Self {
         if e.kind() == ErrorKind::OutOfMemory {
             OptionsFault::NoMem
@@ -140,7 +150,10 @@ const OPTIONS: &[(&str, OptionValue)] = &[
     ("batch-count", OptionValue::Count),
 ];
 
-fn argument<'a>(alloc: Global, name: &'a str, value: OptionValue) -> Arg<'a> {
+fn argument<'a>(alloc: Global, name: &'a str, value: OptionValue) -> Arg<'a>
+    ensures rule { rule_of result ≡ rule_named name.entry.now value }
+    ensures local { result.global ≡ false }
+{
     let argument = Arg::new(alloc, name).long(name);
     match value {
         OptionValue::None => argument.action(ArgAction::SetTrue),
@@ -154,24 +167,64 @@ fn argument<'a>(alloc: Global, name: &'a str, value: OptionValue) -> Arg<'a> {
     }
 }
 
-/// The options as `clap` knows them. They are added in a loop, since each that is written out has a place of its own on the
+/// The command with one option more.
+fn with_option<'a>(
+    alloc: Global,
+    command: Command<'a>,
+    option: &(&'a str, OptionValue),
+) -> Result<Command<'a>, AllocError>
+    ensures { IfOk result (λ more. app_of more
+        ≡ with_rule (app_of command.entry) (rule_named option.now.0.now option.now.1)) }
+{
+    let (name, value) = *option;
+    command.arg(argument(alloc, name, value))
+}
+
+/// The command with these options more, which are added in a loop, since each that is written out has a place of its own on the
 /// stack.
-fn command<'a>(alloc: Global) -> Result<Command<'a>, AllocError> {
-    let mut command = Command::new(alloc, "scanimage");
-    for (name, value) in OPTIONS {
-        command = command.arg(argument(alloc, name, *value))?;
+fn with_options<'a>(
+    alloc: Global,
+    start: Command<'a>,
+    options: &[(&'a str, OptionValue)],
+) -> Result<Command<'a>, AllocError>
+    ensures { IfOk result (λ more. app_of more
+        ≡ with_options (app_of start.entry) (map seen_option options.now)) }
+{
+    let mut command = start;
+    for option in options {
+        command = with_option(alloc, command, option)?;
     }
     Ok(command)
 }
 
+/// The options as `clap` knows them.
+fn command<'a>(alloc: Global) -> Result<Command<'a>, AllocError>
+    ensures { IfOk result (λ command. app_of command ≡ scanimage_app) }
+{
+    with_options(alloc, Command::new(alloc, "scanimage"), OPTIONS)
+}
+
 /// What `clap` reads of the words.
-fn parse<'a>(alloc: Global, words: &'a [&'a str]) -> Result<ArgMatches<'a>, OptionsFault> {
+fn parse<'a>(alloc: Global, words: &'a [&'a str]) -> Result<ArgMatches<'a>, OptionsFault>
+    ensures found { IfOk result
+        (HasMatchesOf scanimage_app (map (λ word. word.now) words.entry.now)) }
+    // It is bad only where `clap` does not take the words.
+    ensures refused { IfErr result (λ fault.
+        takes scanimage_app (map (λ word. word.now) words.entry.now) ≡ true
+        → fault ≡ OptionsFault.NoMem) }
+{
     let found = command(alloc)?.try_get_matches_from(words)?;
     Ok(found)
 }
 
 /// The words as `clap` wants them, the program's name first; none where one is not UTF-8.
-fn as_strs<'a>(alloc: Global, words: &'a [Text]) -> Result<Vec<&'a str>, OptionsFault> {
+fn as_strs<'a>(alloc: Global, words: &'a [Text]) -> Result<Vec<&'a str>, OptionsFault>
+    ensures words { IfOk result (λ strs.
+        map (λ word. word.now) strs.items ≡ codes "scanimage" ∷ words.entry.now) }
+    ensures utf8 { IfOk result (λ _. All IsUtf8 words.entry.now) }
+    ensures refused { IfErr result (λ fault. fault ≡ OptionsFault.Bad
+        → ¬ All IsUtf8 words.entry.now) }
+{
     let mut strs = Vec::new(alloc);
     strs.push("scanimage").map_err(|_| OptionsFault::NoMem)?;
     for word in words {
@@ -229,15 +282,16 @@ fn agreed_port(
 ) -> Result<Option<u16>, OptionsFault>
     ensures ok { IfOk result (λ port. program_option_value ProgramOption.Port words.now
         ≡ option_map decimal port) }
-    // It is bad only where the words have another port, or write it otherwise.
-    ensures err { IfErr result (λ fault. fault ≡ OptionsFault.Bad
+    ensures range { IfOk result (λ port. IfSome port IsPort) }
+    // It is bad only where the words have another port, or write it otherwise, or it is 0.
+    ensures err { IfErr result (λ fault. fault ≡ OptionsFault.Bad → IfSome found IsPort
         → program_option_value ProgramOption.Port words.now ≢ option_map decimal found) }
 {
     match (found, program_option_value(ProgramOption::Port, words)) {
         (None, None) => Ok(None),
         (Some(port), Some(text)) => {
             let digits = format!(in alloc; "{port}")?;
-            if digits.as_bytes() == text {
+            if port > 0 && digits.as_bytes() == text {
                 Ok(Some(port))
             } else {
                 Err(OptionsFault::Bad)
@@ -283,7 +337,12 @@ fn agreed_count(found: Option<u32>, words: &[Text]) -> Result<Option<u32>, Optio
 
 /// Each option with the value that its word has, where `clap` reads the same.
 fn options_found(alloc: Global, found: &ArgMatches, words: &[Text]) -> Result<Options, OptionsFault>
-    ensures { IfOk result (AreScanimageOptions words.now) }
+    ensures read { IfOk result (λ options. All IsUtf8 words.now
+        → AreScanimageOptions words.now options) }
+    // It is bad only where `clap` reads otherwise, or no options are those of the words.
+    ensures refused { IfErr result (λ fault. fault ≡ OptionsFault.Bad
+        → IsFoundOf words.now (found_of found.now) → (options : Options)
+        → AreScanimageOptions words.now options → ⊥) }
 {
     let list_devices = agreed_flag(
         found.get_flag("list-devices"),
@@ -348,8 +407,11 @@ fn options_found(alloc: Global, found: &ArgMatches, words: &[Text]) -> Result<Op
 pub fn read_options(alloc: Global, words: &[Text]) -> Result<Options, OptionsFault>
     /// Where `clap` reads the program's words, the options' values are those of the words, and these are the values
     /// that stand for them among the pieces of the cut.
-    /// Carried by: `read_options`; `options_are_those_of_the_cut`
-    ensures { IfOk result (AreScanimageOptions words.now) }
+    /// Carried by: `read` of `read_options`; `options_are_those_of_the_cut`
+    ensures read { IfOk result (AreScanimageOptions words.now) }
+    /// `read_options` refuses the program's own words of a command line as bad only if no options are those of these words.
+    /// Carried by: `refused` of `read_options`: `HasNoOptions`
+    ensures refused { IfErr result (λ fault. fault ≡ OptionsFault.Bad → HasNoOptions words.now) }
 {
     let strs = as_strs(alloc, words)?;
     let found = parse(alloc, strs.as_slice())?;

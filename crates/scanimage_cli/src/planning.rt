@@ -1,8 +1,7 @@
 //! What the words of a command line have the program do, as a plain value.
 ghost use Rattle.std.specs.Prelude.{◌≡◌, [], if◌then◌else◌, IfOk, IfErr, OnOk, IsTrue, ◌↔◌, ◌≢◌, option_map};
 ghost use Rattle.scanimage_cli.specs.Asked.{task_asked};
-ghost use Rattle.scanimage_cli.specs.Ending.{IsPlanRefusal};
-ghost use Rattle.scanimage_cli.specs.Plans.{input_named, user_or_anybody, destination_of, IsLocationOf, IsComplete, IsPlanned, IsPlanOf, RefusesOptions};
+ghost use Rattle.scanimage_cli.specs.Plans.{input_named, user_or_anybody, destination_of, IsLocationOf, IsComplete, IsPlanned, IsPlanOf, IsPlanRefusal, RefusesOptions};
 
 use crate::asked::{asked_of_net, has_config, is_right_batch, port_of, task_of};
 use crate::ending::Ending;
@@ -215,8 +214,9 @@ pub fn plan_of(alloc: Global, words: &[Text]) -> Result<Plan, Ending>
     /// it is, the user, the settings in their order, the task, and where its file goes.
     /// Carried by: `planned` of `plan_of`
     ensures planned { IfOk result (IsPlanOf words.now) }
-    /// There is no plan for want of memory alone, or the command line is refused as such.
-    ensures refused { IfErr result IsPlanRefusal }
+    /// If it gives none, there was no memory for it; or the command line is told as bad, and no plan is one of these words.
+    /// Carried by: `refused` of `plan_of`: `IsPlanRefusal`
+    ensures refused { IfErr result (IsPlanRefusal words.now) }
 {
     let Split { program, settings } = match split_words(alloc, words) {
         Ok(split) => split,

@@ -113,8 +113,8 @@ pub fn exit_code<I: Inputs<Page = File>, H: Hosts, O: Write, E: Write, N: NamedO
         (held (seen_outside I.seen H.ports) outside.old outside.new)
         (held (seen_outputs O.contents E.contents N.contents S.stock) outputs.old outputs.new) }
     /// Any other exit status is that of an ending. Its line is told on standard error, and nothing else, unless that failed. Its
-    /// cause is so, by what was read, dialled and written until then; that refused words have no plan it does not say. One that
-    /// names an output comes only if it is noted that one failed. No file of what was asked for is left.
+    /// cause is so, by what was read, dialled and written until then. A command line is told as bad only if its words have no
+    /// plan. One that names an output comes only if it is noted that one failed. No file of what was asked for is left.
     /// Carried by: `otherwise` of `exit_code`, `output`, `cause` of `run`: `EndsAs`, `HasEndedAs`, `IsCauseOf`
     ensures otherwise { EndsAs words.now (code_of result)
         (held (seen_outside I.seen H.ports) outside.old outside.new)

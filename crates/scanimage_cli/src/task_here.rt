@@ -121,8 +121,9 @@ pub fn run_task<O: Write, E: Write, N: NamedOutput, S: Shelf>(
     /// What is asked for that does not end well is told by a status and its cause, and not as a bad command line.
     /// Carried by: `told` of `run_task`, `run_net_task`
     ensures told { IfErr result IsOfJob }
-    /// An ending has its cause: want of memory, or no such device, before a job was begun; a job that was begun on that device,
-    /// and stopped for a reason that such a job has; or a list or table that was not taken.
+    /// An ending has its cause: want of memory, for a list, a name or a device that is there, or no such device, before a job was
+    /// begun; a job that was begun on that device, and stopped for a reason that such a job has; or a list or table that was not
+    /// taken.
     /// Carried by: `ended` of `run_task`: `FailsHere`, `EndsHere`
     ensures ended { IfErr result
         (FailsHere (scanner_table registry.old) (asked_here device plan password)

@@ -2,7 +2,7 @@ ghost use Rattle.std.specs.Prelude.{◌≡◌, true, IfOk, IfErr, OnOk, OnErr};
 ghost use Rattle.scanimage_cli.specs.Programs.{EndsWellThere, EndsWithNone, RanThere, asked_there, seen_outputs};
 ghost use Rattle.scanimage_cli.specs.CallStreams.{held};
 ghost use Rattle.scanimage_cli.specs.Causes.{EndsNetPlanned, FailsThere, IsUnconnected};
-ghost use Rattle.scanimage_cli.specs.Host.{IsHostCalled, dials_between};
+ghost use Rattle.scanimage_cli.specs.Host.{IsHostCalled, dials_between, remote_at};
 ghost use Rattle.scanimage_cli.specs.JobOutputs.{LeavesNone, job_outputs};
 ghost use Rattle.scanimage_cli.specs.NetDoing.{host_job};
 ghost use Rattle.scanimage_cli.specs.Ending.{IsFailure, IsOfJob, IsOfOutput};
@@ -23,23 +23,28 @@ use std::alloc::Global;
 use std::io::Write;
 
 /// The control connection to the host and the port that are asked.
-fn connection<H: Hosts>(hosts: &mut H, remote: &Remote) -> Result<H::Control, Ending>
-    ensures called { OnOk result
-        (IsHostCalled remote.now true (H.ports hosts.old) (H.ports hosts.new)) }
+fn connection<H: Hosts>(
+    hosts: &mut H,
+    host: &[u8],
+    port: u16,
+    dial_first: bool,
+) -> Result<H::Control, Ending>
+    ensures called { OnOk result (IsHostCalled (remote_at host.now port dial_first) true
+        (H.ports hosts.old) (H.ports hosts.new)) }
     ensures spares { IfErr result (λ ending. ¬ IsOfOutput ending) }
     ensures failed { IfErr result IsFailure }
     // It is a status and its cause.
     ensures told { IfErr result IsOfJob }
-    ensures unconnected { IfErr result
-        (IsUnconnected remote.now (H.ports hosts.old) (H.ports hosts.new)) }
+    ensures unconnected { IfErr result (IsUnconnected (remote_at host.now port dial_first)
+        (H.ports hosts.old) (H.ports hosts.new)) }
 {
-    let Some(address) = address_of(remote.host.as_bytes()) else {
+    let Some(address) = address_of(host) else {
         return Err(Ending::ending_of_loss());
     };
     let at = HostPoint {
         address,
-        port: remote.port,
-        is_first: remote.dial_first,
+        port,
+        is_first: dial_first,
     };
     match hosts.control(at) {
         Ok(control) => Ok(control),
@@ -119,9 +124,9 @@ pub fn run_net_task<H: Hosts, O: Write, E: Write, N: NamedOutput, S: Shelf>(
     ensures failed { IfErr result IsFailure }
     // It is a status and its cause.
     ensures told { IfErr result IsOfJob }
-    /// An ending has its cause: want of memory, a job that is too large or a host without an address, before a connection was
-    /// asked for; a control connection that was not made; a job that was begun over one, and stopped for a reason that its
-    /// replies, frames and moves show; or a list or table that was not taken.
+    /// An ending has its cause: a job that is too large or a host without an address, before a connection was asked for; a
+    /// control connection that was not made; a job that was begun over one, and stopped for a reason that its replies, frames
+    /// and moves show; or a list or table that was not taken. Before a job is begun no memory is wanted.
     /// Carried by: `ended` of `run_net_task`: `FailsThere`, `EndsThere`
     ensures ended { IfErr result (FailsThere (asked_there remote plan password)
         (held H.ports hosts.old hosts.new)
@@ -133,9 +138,13 @@ pub fn run_net_task<H: Hosts, O: Write, E: Write, N: NamedOutput, S: Shelf>(
         task,
         destination,
     } = plan;
-    let Ok(device) = remote.device.try_clone(alloc) else {
-        return Err(Ending::no_memory());
-    };
+    let Remote {
+        host,
+        port,
+        dial_first,
+        device,
+    } = remote;
+    let host = host.as_bytes();
     let job = Job {
         user,
         password,
@@ -147,11 +156,11 @@ pub fn run_net_task<H: Hosts, O: Write, E: Write, N: NamedOutput, S: Shelf>(
     if let Some(ending) = Ending::of_refused(&job) {
         return Err(ending);
     }
-    let control = connection(hosts, &remote)?;
+    let control = connection(hosts, host, port, dial_first)?;
     outputs.has_begun = true;
     let printed = run_job(
         alloc,
-        remote.host.as_bytes(),
+        host,
         job,
         destination,
         hosts,

@@ -3,7 +3,8 @@ use Rattle.std.proofs.lemmas.Result.{err_from_is_err_and}
 use Rattle.scan_job.specs.declared.job.Task.TheVariants.{List as ListTask}
 use Rattle.virtual_scanner.specs.Scanners.{scanner_state}
 use Rattle.dispatch.specs.Table.{seen_unplug, table, unplug_answer}
-use Rattle.scanimage_cli.specs.Causes.EndsHere.{ByJob}
+use Rattle.scanimage_cli.specs.Causes.EndsHere.{ByJob, ByMemory}
+use Rattle.scanimage_cli.specs.Causes.WantsMemoryHere.{ForDevice}
 use Rattle.scanimage_cli.proofs.Carried.{batch_prints_none, does_spare, job_leaves, list_leaves, listed, on_err, on_ok_of, on_ok_of_two, print_leaves, scan_prints_none, untouched_plan}
 use denote.Param.Object.{read_made}
 use Rattle.scanimage_cli.proofs.task_here.run_task.OwnLists.{at-1-1, own-1}
@@ -75,3 +76,9 @@ returns-in_err-printed-clause-ended g c =
     (record { user = refl; password_is = refl; settings_are = refl; task = refl }) c.in_ok-device.ensures.named _
     (ap (unplug_answer (table scanner_state c.args.registry.now)) (sym name) ∙ (sym c.unplug.ensures.answer ∙ (ap (seen_unplug scanner_state) c.in-Ok-unplug.is ∙ (ap Ok (sym is) ∙ ap (λ d. Ok ((own-1.entry d.0).1.state d.1)) (sym c.deref_box_mut-1.ensures.value.1)))))
     refl c.in_err-printed.ensures.ended)
+
+pub returns-in_default-new-clause-ended : goal.returns-in_default-new-clause-ended
+returns-in_default-new-clause-ended g c =
+    let name : c.as_bytes.result.now ≡ c.in_ok-device.device = search rules in
+    let found = ap (unplug_answer (table scanner_state c.args.registry.now)) (sym name) ∙ (sym c.unplug.ensures.answer ∙ ap (seen_unplug scanner_state) c.in-Ok-unplug.is) in
+    ByMemory c.no_memory-in_default-new.ensures (ForDevice c.in_ok-device.device c.in_ok-device.ensures.named _ found) refl
