@@ -1,0 +1,3 @@
+pub mod ListenerCalls
+pub mod NetsBack
+pub mod Carried
