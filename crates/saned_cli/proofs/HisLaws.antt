@@ -1,19 +1,14 @@
 -- Whom a port keeps, by the record of calls.
-use Rattle.std.proofs.Common.{◌≡◌, ℕ, ◌+◌, ◌≤◌, Bool, true, false, ◌||◌, List, [], ◌∷◌, ◌++◌, append_assoc, Option, Some, None, refl, sym, ap, ◌∙◌, subst, arith, ◌⊎◌, inl, inr}
-use Rattle.std.specs.Prelude.{cond, filter, map}
+use Rattle.std.proofs.Common.{◌≡◌, ℕ, List, [], ◌∷◌, ◌++◌, append_assoc, Option, Some, None, refl, sym, ap, ◌∙◌, subst, ◌⊎◌, inl, inr}
 use Rattle.std.specs.Option.{option_or}
-use Rattle.std.proofs.lemmas.List.{append-nil}
 use Rattle.std.specs.declared.net.socket_addr.SocketAddrV4.{SocketAddrV4}
-use Rattle.socket_calls.specs.SocketCall.{Comer, SocketCall, SocketRecord, with_socket_calls}
-use Rattle.socket_calls.specs.SocketCall.SocketCall.{BeginsTable, Comes, EndsTable, Peeks, TellsLine}
+use Rattle.socket_calls.specs.SocketCall.{SocketCall, SocketRecord, with_socket_calls}
+use Rattle.socket_calls.specs.SocketCall.SocketCall.{Comes, Peeks}
 use Rattle.socket_calls.specs.declared.calls.Peeked.TheVariants.{Nothing, End}
-use Rattle.saned_cli.specs.TableReadings.{IsWholeReading, is_line_among, lines_told}
-use Rattle.saned_cli.specs.TableReadings.IsWholeReading.{HasNoTable, ReadsMost, ReadsToEnd}
-use Rattle.saned_cli.specs.Guarding.{ComerSeen, HasLineOf, IsHis, IsKeptFor, IsTheOwners, KeepsHis, PortView, WhereTold, comers_by, comers_in, ended_among, gathered, is_comer_of, last_ended, last_waiting}
+use Rattle.saned_cli.specs.Guarding.{IsHis, IsKeptFor, IsTheOwners, KeepsHis, PortView, WhereTold, ended_among}
 use Rattle.saned_cli.specs.Guarding.{looked_at, looked_by, newest_by, waiting_by}
-use Rattle.saned_cli.specs.Inside.{HasLooked, HasMarkedFor, admitted_numbers, comer_seen, marked, unmarked_one}
+use Rattle.saned_cli.specs.Inside.{HasLooked}
 use Rattle.saned_cli.specs.Guarding.{PortAndCalls}
-use Rattle.saned_cli.specs.declared.table_reading.Newcomer.{Newcomer}
 
 -- ---- in a list
 
@@ -101,9 +96,9 @@ kept_newest : (by : SocketCall → Option ℕ) → ((call : SocketCall) (n : ℕ
     → looked_at since ≡ numbers → newest ≡ option_or (newest_by by since) kept → ((n : ℕ) → Has numbers n → P n) → ((n : ℕ) → kept ≡ Some n → P n) → (n : ℕ) → newest ≡ Some n → P n
 kept_newest by each numbers since kept newest P looked is fresh before n e = elim (or_cases (newest_by by since) kept n (sym is ∙ e)) [ inl here ↦ fresh n (subst (λ (l : List ℕ). Has l n) looked (newest_looked by each since n here)) | inr there ↦ before n there ]
 
-pub keeps_on : (numbers : List ℕ) (was now : PortAndCalls) → HasLooked numbers was now → KeepsHis was.calls was.port → ((n : ℕ) → Has numbers n → WhereTold (IsHis was.port.port was.port.owner n) now.calls)
+pub keeps_on : (had numbers : List ℕ) (was now : PortAndCalls) → HasLooked had numbers was now → KeepsHis was.calls was.port → ((n : ℕ) → Has numbers n → WhereTold (IsHis was.port.port was.port.owner n) now.calls)
     → KeepsHis now.calls now.port
-keeps_on numbers was now looks keeps fresh = record {
+keeps_on had numbers was now looks keeps fresh = record {
   standing_his = kept_of now.port now.port.standing now.calls (λ n e. at_port was.port now.port now.calls n looks.port_is looks.owner_is
       (kept_newest waiting_by waiting_looked numbers looks.since was.port.standing now.port.standing (λ k. WhereTold (IsHis was.port.port was.port.owner k) now.calls) looks.looked looks.standing_is fresh
       (λ k kept. where_later was.port.port was.port.owner k looks.since was.calls now.calls looks.grew (of_kept was.port was.port.standing was.calls k keeps.standing_his kept)) n e));

@@ -1,14 +1,11 @@
 -- One data port among all.
-use Rattle.std.proofs.Common.{◌≡◌, ℕ, zero, suc, ◌+◌, ◌<◌, ◌≤◌, List, [], ◌∷◌, ◌++◌, Option, Some, None, refl, sym, ap, ◌∙◌, subst, arith, length, get_or, set}
-use Rattle.std.specs.Prelude.{Contains, IfSome, map}
-use Rattle.std.specs.Option.{option_map}
-use Rattle.std.proofs.lemmas.List.Elements.{Contains-append_right}
+use Rattle.std.proofs.Common.{◌≡◌, ℕ, zero, suc, ◌<◌, List, [], ◌∷◌, ◌++◌, Option, Some, None, refl, sym, ap, ◌∙◌, subst, arith, length, get_or, set}
+use Rattle.std.specs.Prelude.{◌≢◌, Contains, IfSome, map}
+use Rattle.std.proofs.lemmas.List.Elements.{All-map, Contains-append_right}
 use Rattle.socket_calls.specs.SocketCall.{SocketRecord, listening_port, with_socket_calls}
-use Rattle.saned_cli.specs.Guarding.{EachKeepsHis, ForgetsEnded, GivesNewest, IsHis, IsKeptFor, KeepsHis, PortAndCalls, PortView, WhereTold, port_and_calls, port_view}
-use Rattle.saned_cli.specs.NetViews.{AtPort, IsForFrame}
-use Rattle.saned_cli.specs.Inside.{EachKeepsHisIn, ForgetsAmong, GivesAmong, IsPlaceAmong, PortsAndCalls, ports_and_calls}
-use Rattle.saned_cli.specs.Inside.GivesAmong.{AtPlace}
-use Rattle.saned_cli.specs.Inside.ForgetsAmong.{ForgetsThere}
+use Rattle.saned_cli.specs.Guarding.{EachKeepsHis, IsHis, IsKeptFor, KeepsHis, PortView, WhereTold, port_view}
+use Rattle.saned_cli.specs.NetViews.{AtPort, HasNoPort, IsForFrame}
+use Rattle.saned_cli.specs.Inside.{HasNoPlace, IsPlaceAmong}
 use Rattle.saned_cli.specs.declared.data_port.DataPort.{DataPort}
 use Rattle.saned_cli.proofs.HisLaws.{keeps_later}
 
@@ -41,6 +38,10 @@ at_port_of {L} {W} number port ports slice at it left same place is =
       now_is = split.now_is;
       port_is = ap (λ (x : DataPort L W). listening_port x.at) is ∙ here.1 it;
     }
+
+pub no_port_of : {L W : Type 0} (number : W → ℕ) (port : ℕ) (ports slice : List (DataPort L W)) → slice ≡ ports → HasNoPlace port slice → HasNoPort port (map (port_view number) ports)
+no_port_of {L} {W} number port ports slice same none =
+    All-map (λ it. it.port ≢ port) (port_view number) ports (subst (λ (s : List (DataPort L W)). HasNoPlace port s) same none)
 
 -- ---- what each port keeps
 

@@ -12,3 +12,6 @@ pub mod PlainNumbers
 pub mod PortRanges
 pub mod SocketLines
 pub mod Seeds
+mod Ends
+mod LineLaws
+mod BackLaws

@@ -1,11 +1,12 @@
 -- Which connections a data port keeps, and whom a frame goes to, by the record of calls.
-use Rattle.std.specs.Prelude.{ℕ, ◌≡◌, ◌≤◌, ◌+◌, Bool, true, false, Option, None, Some, List, [], ◌∷◌, ◌++◌, filter, map}
+use Rattle.std.specs.Prelude.{ℕ, ◌≡◌, ◌≤◌, ◌<◌, ◌+◌, ◌==◌, ◌⊎◌, if◌then◌else◌, Bool, true, Option, None}
+use Rattle.std.specs.Prelude.{Some, List, [], ◌∷◌, ◌++◌, filter, length, map}
 use Rattle.std.specs.Option.{option_map, option_or}
 use Rattle.std.specs.declared.net.socket_addr.SocketAddrV4.{SocketAddrV4}
 use Rattle.socket_calls.specs.SocketCall.{Comer, SocketCall, SocketRecord, listening_port, with_socket_calls}
-use Rattle.socket_calls.specs.SocketCall.SocketCall.{Listens, Comes, NobodyComes, FailsToAccept, Peeks, BeginsTable}
-use Rattle.socket_calls.specs.SocketCall.SocketCall.{TellsLine, EndsTable, Takes, Closes, EndsListening}
-use Rattle.socket_calls.specs.declared.calls.Peeked.TheVariants.{Nothing, End, Speech, Break}
+use Rattle.socket_calls.specs.SocketCall.SocketCall.{Comes, NobodyComes, FailsToAccept, Peeks, BeginsTable}
+use Rattle.socket_calls.specs.SocketCall.SocketCall.{Takes, Closes, EndsListening}
+use Rattle.socket_calls.specs.declared.calls.Peeked.TheVariants.{Nothing, End}
 use Rattle.saned_cli.specs.TableReadings.{IsWholeReading, is_line_among}
 use Rattle.saned_cli.specs.declared.data_port.DataPort.{DataPort}
 
@@ -135,6 +136,10 @@ comers_by call = []
 abbrev pub comers_in : SocketRecord → List ComerSeen
 comers_in calls = gathered comers_by calls
 
+-- their numbers
+abbrev pub came_in : SocketRecord → List ℕ
+came_in calls = map (λ it. it.number) (comers_in calls)
+
 -- by those lines of the table a connection that came is the owner's; where there is none, any is
 abbrev pub is_comer_of : Option ℕ → ℕ → List (List ℕ) → ComerSeen → Bool
 is_comer_of None port lines it = true
@@ -162,6 +167,12 @@ readings_in calls = counted reading_by calls
 abbrev pub most_at_once : ℕ
 most_at_once = 512
 
+-- **who is left to the next look (`AsksForAll`)**: a look asks for connections until nobody waits any more, or it asked
+-- so often. Where there is no memory it asks for none.
+abbrev pub AsksForAll : SocketRecord → Type 0
+AsksForAll since = (accepts_in since ≡ 0)
+    ⊎ ((accepts_in since ≡ most_at_once) ⊎ (length (comers_in since) < accepts_in since))
+
 -- ---- what a look at a port comes to
 
 -- a port, and the calls so far
@@ -177,6 +188,21 @@ abbrev pub numbers_of : Option ℕ → List ℕ
 numbers_of None = []
 numbers_of (Some number) = number ∷ []
 
+-- the connections that a port keeps
+abbrev pub kept_by : PortView → List ℕ
+kept_by it = numbers_of it.standing ++ numbers_of it.ended
+
+-- how often a number stands among these
+abbrev pub times_among : ℕ → List ℕ → ℕ
+times_among n [] = 0
+times_among n (m ∷ ms) = (if m == n then 1 else 0) + times_among n ms
+
+-- **each is accounted for (`AccountsFor`)**: a port kept some connections, and by these calls others came. Each of them
+-- was closed, is given to a frame, or is kept still: one of the three, and once.
+abbrev pub AccountsFor : PortView → SocketRecord → Option ℕ → PortView → Type 0
+AccountsFor was since given now = (n : ℕ) → times_among n (kept_by was ++ came_in since)
+    ≡ times_among n (closed_in since ++ (numbers_of given ++ kept_by now))
+
 -- closes the connection of that number
 abbrev pub closing : Option ℕ → SocketRecord
 closing None = []
@@ -191,12 +217,14 @@ pub record ForgetsEnded (was now : PortAndCalls) : Type 0 where
   pub since : SocketRecord
   pub grew : now.calls ≡ with_socket_calls since was.calls
   pub few_accepts : accepts_in since ≤ most_at_once
+  pub asks : AsksForAll since
   pub few_readings : readings_in since ≤ 1
   pub none_taken : taken_in since ≡ []
   pub port_is : now.port.port ≡ was.port.port
   pub owner_is : now.port.owner ≡ was.port.owner
   pub standing_is : now.port.standing ≡ last_waiting since
   pub none_ended : now.port.ended ≡ None
+  pub closed : AccountsFor was.port since None now.port
 
 -- a look, behind which a frame takes the newest that waits, or else the newest that has ended its side; the other is
 -- closed
@@ -204,6 +232,7 @@ pub record GivesNewest (was now : PortAndCalls) (given : Option ℕ) : Type 0 wh
   pub since : SocketRecord
   pub grew : now.calls ≡ with_socket_calls since was.calls
   pub few_accepts : accepts_in since ≤ most_at_once
+  pub asks : AsksForAll since
   pub few_readings : readings_in since ≤ 1
   pub none_taken : taken_in since ≡ []
   pub port_is : now.port.port ≡ was.port.port
@@ -211,6 +240,7 @@ pub record GivesNewest (was now : PortAndCalls) (given : Option ℕ) : Type 0 wh
   pub none_standing : now.port.standing ≡ None
   pub none_ended : now.port.ended ≡ None
   pub newest : given ≡ option_or (last_waiting since) (option_or (last_ended since) was.port.ended)
+  pub closed : AccountsFor was.port since given now.port
   pub lines : List (List ℕ)
   pub looked
       : looked_at since

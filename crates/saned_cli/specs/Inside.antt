@@ -1,22 +1,24 @@
 -- What private functions say.
-use Rattle.std.specs.Prelude.{ℕ, ◌≡◌, ◌≤◌, ◌<◌, ◌^◌, ◌⊎◌, ◌||◌, ◌&&◌, Bool, true, false, Option, None, Some}
+use Rattle.std.specs.Prelude.{ℕ, ◌≡◌, ◌≤◌, ◌<◌, ◌+◌, ◌^◌, ◌⊎◌, ◌||◌, ◌&&◌, Bool, true, false, Option, None, Some}
 use Rattle.std.specs.Prelude.{List, [], ◌∷◌, ◌++◌}
-use Rattle.std.specs.Prelude.{filter, map, length}
+use Rattle.std.specs.Prelude.{All, ◌≢◌, filter, map, length}
 use Rattle.std.specs.List.{slice_index_or}
 use Rattle.std.specs.Option.{option_or}
 use Rattle.std.specs.declared.net.socket_addr.SocketAddrV4.{SocketAddrV4}
 use Rattle.socket_calls.specs.SocketCall.{SocketCall, SocketRecord, comer_of, listening_port, with_socket_calls}
 use Rattle.socket_calls.specs.SocketCall.SocketCall.{Comes, FailsToAccept, NobodyComes}
 use Rattle.socket_calls.specs.declared.calls.Arrival.{Arrival}
-use Rattle.saned_cli.specs.Guarding.{ComerSeen, KeepsHis, PortAndCalls, PortView, accepts_in}
-use Rattle.saned_cli.specs.Guarding.{comers_in, last_ended, last_waiting, numbers_of}
+use Rattle.saned_cli.specs.Guarding.{AsksForAll, ComerSeen, KeepsHis, PortAndCalls, PortView, accepts_in}
+use Rattle.saned_cli.specs.Guarding.{came_in, closed_in, comers_in, kept_by, last_ended, last_waiting, numbers_of}
 use Rattle.saned_cli.specs.Guarding.{is_comer_of, looked_at, most_at_once, port_view, readings_in, taken_in}
+use Rattle.saned_cli.specs.Guarding.{times_among}
 use Rattle.saned_cli.specs.SocketTable.{IsOwnedBy, end_text, is_socket_between, is_socket_to}
 use Rattle.saned_cli.specs.TableReadings.{IsAskedFor, IsWholeReading, NamesOwner, is_line_among, is_of_peer}
 use Rattle.saned_cli.specs.declared.table_reading.LinesSeen.{LinesSeen}
 use Rattle.saned_cli.specs.declared.table_reading.LinesSeen.TheVariants.{Never, Once, Often}
 use Rattle.saned_cli.specs.Guarding.{EachKeepsHis, ForgetsEnded, GivesNewest, ending_of}
-use Rattle.saned_cli.specs.NetViews.{AtPort, WithoutPort}
+use Rattle.saned_cli.specs.NetViews.{AsksForPort, AtPort, HasNoPort, WithoutPort}
+use Rattle.saned_cli.specs.declared.data_ports.PortRange.{PortRange}
 use Rattle.saned_cli.specs.declared.data_port.DataPort.{DataPort}
 use Rattle.saned_cli.specs.declared.table_reading.Newcomer.{Newcomer}
 
@@ -88,9 +90,9 @@ pub record AreLooks (since : SocketRecord) : Type 0 where
   pub none_came : comers_in since ≡ []
   pub none_taken : taken_in since ≡ []
 
--- these connections were looked at, in that order: the newest of them that waited stands, and the newest that had ended
--- its side is the one that ended
-pub record HasLooked (numbers : List ℕ) (was now : PortAndCalls) : Type 0 where
+-- of the connections that were had, these were looked at, in that order: the newest of them that waited stands, and the
+-- newest that had ended its side is the one that ended; what is not kept is closed
+pub record HasLooked (had numbers : List ℕ) (was now : PortAndCalls) : Type 0 where
   pub since : SocketRecord
   pub grew : now.calls ≡ with_socket_calls since was.calls
   pub looks : AreLooks since
@@ -99,6 +101,8 @@ pub record HasLooked (numbers : List ℕ) (was now : PortAndCalls) : Type 0 wher
   pub looked : looked_at since ≡ numbers
   pub standing_is : now.port.standing ≡ option_or (last_waiting since) was.port.standing
   pub ended_is : now.port.ended ≡ option_or (last_ended since) was.port.ended
+  pub closed : (n : ℕ) → times_among n (kept_by was.port) + times_among n had
+      ≡ times_among n (closed_in since) + times_among n (kept_by now.port)
 
 -- none stands
 abbrev pub without_standing : PortAndCalls → PortAndCalls
@@ -111,6 +115,9 @@ is_let_in (Some user) is_his = is_his
 
 abbrev pub is_admitted : {W : Type 0} → Option ℕ → Newcomer W → Bool
 is_admitted owner it = is_let_in owner it.is_his
+
+abbrev pub newcomer_numbers : {W : Type 0} → (W → ℕ) → List (Newcomer W) → List ℕ
+newcomer_numbers number all = map (λ it. number it.stream) all
 
 abbrev pub admitted_numbers : {W : Type 0} → (W → ℕ) → Option ℕ → List (Newcomer W) → List ℕ
 admitted_numbers number owner all = map (λ it. number it.stream) (filter (is_admitted owner) all)
@@ -128,11 +135,13 @@ pub record HaveCome {W : Type 0} (number : W → ℕ) (port : ℕ) (was : Option
   pub since : SocketRecord
   pub grew : now ≡ with_socket_calls since was
   pub few : accepts_in since ≤ most_at_once
+  pub asks : AsksForAll since
   pub no_readings : readings_in since ≡ 0
   pub none_taken : taken_in since ≡ []
   pub none_looked : looked_at since ≡ []
   pub none_waits : last_waiting since ≡ None
   pub none_ended : last_ended since ≡ None
+  pub none_closed : closed_in since ≡ []
   pub came : comers_in since ≡ map (comer_seen number port) all
   pub unmarked_yet : map unmarked_one all ≡ all
 
@@ -148,12 +157,15 @@ pub record LooksOnce (was now : PortAndCalls) : Type 0 where
   pub since : SocketRecord
   pub grew : now.calls ≡ with_socket_calls since was.calls
   pub few_accepts : accepts_in since ≤ most_at_once
+  pub asks : AsksForAll since
   pub few_readings : readings_in since ≤ 1
   pub none_taken : taken_in since ≡ []
   pub port_is : now.port.port ≡ was.port.port
   pub owner_is : now.port.owner ≡ was.port.owner
   pub standing_is : now.port.standing ≡ last_waiting since
   pub ended_is : now.port.ended ≡ option_or (last_ended since) was.port.ended
+  pub closed : (n : ℕ) → times_among n (kept_by was.port) + times_among n (came_in since)
+      ≡ times_among n (closed_in since) + times_among n (kept_by now.port)
   pub lines : List (List ℕ)
   pub looked
       : looked_at since
@@ -170,6 +182,10 @@ abbrev pub IsPlaceAmong : {L W : Type 0} → ℕ → List (DataPort L W) → ℕ
 IsPlaceAmong {L} {W} port ports at =
     (at < length ports) × ((d : DataPort L W) → listening_port (slice_index_or ports at d).at ≡ port)
 
+-- and nowhere among them
+abbrev pub HasNoPlace : {L W : Type 0} → ℕ → List (DataPort L W) → Type 0
+HasNoPlace port ports = All (λ it. listening_port it.at ≢ port) ports
+
 -- all ports, and the calls so far
 pub record PortsAndCalls : Type 0 where
   pub ports : List PortView
@@ -182,30 +198,28 @@ abbrev pub EachKeepsHisIn : PortsAndCalls → Type 0
 EachKeepsHisIn it = EachKeepsHis it.calls it.ports
 
 pub data GivesAmong (port : ℕ) (was now : PortsAndCalls) (given : Option ℕ) : Type 0 where
-  NoPlace : given ≡ None → now ≡ was → GivesAmong port was now given
+  NoPlace : HasNoPort port was.ports → given ≡ None → now ≡ was → GivesAmong port was now given
   AtPlace : (it left : PortView) → AtPort port was.ports now.ports it left
       → GivesNewest (record { port = it; calls = was.calls }) (record { port = left; calls = now.calls }) given
       → GivesAmong port was now given
 
 pub data ForgetsAmong (port : ℕ) (was now : PortsAndCalls) : Type 0 where
-  NowhereForgets : now ≡ was → ForgetsAmong port was now
+  NowhereForgets : HasNoPort port was.ports → now ≡ was → ForgetsAmong port was now
   ForgetsThere : (it left : PortView) → AtPort port was.ports now.ports it left
       → ForgetsEnded (record { port = it; calls = was.calls }) (record { port = left; calls = now.calls })
       → ForgetsAmong port was now
 
 pub data EndsAmong (port : ℕ) (was now : PortsAndCalls) : Type 0 where
-  NowhereEnds : now ≡ was → EndsAmong port was now
+  NowhereEnds : HasNoPort port was.ports → now ≡ was → EndsAmong port was now
   EndsThere : (it : PortView) → WithoutPort port was.ports now.ports it
       → now.calls ≡ with_socket_calls (ending_of it) was.calls
       → EndsAmong port was now
 
--- listeners were asked for alone
-pub record HasListened (was now : Option SocketRecord) : Type 0 where
+-- a listener was asked for, and is had at that port, if any is
+pub record HasListened (range : Option PortRange) (was now : Option SocketRecord) (port : Option ℕ) : Type 0 where
   pub since : SocketRecord
   pub grew : now ≡ with_socket_calls since was
-  pub no_accepts : accepts_in since ≡ 0
-  pub no_readings : readings_in since ≡ 0
-  pub none_taken : taken_in since ≡ []
+  pub asks : AsksForPort range since port
 
 -- a connection came to that port, or nobody did for now, or the call failed
 abbrev pub HasAccepted : {W : Type 0} → (W → ℕ) → ℕ → Option SocketRecord → Option (Arrival W) → Option SocketRecord

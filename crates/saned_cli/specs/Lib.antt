@@ -10,5 +10,8 @@ pub mod Inside
 pub mod DaemonPlans
 pub mod DaemonInputs
 pub mod WholeDaemon
+pub mod PortsAsked
+pub mod Binding
+pub mod DaemonCauses
 pub mod DaemonLines
 pub mod OwnTexts

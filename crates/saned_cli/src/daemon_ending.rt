@@ -1,5 +1,6 @@
 use crate::daemon_options::DaemonOptionsFault;
-use crate::ending_lines::{write_line, write_refusal};
+use crate::ending_lines::{write_line, write_refusal, write_text};
+use crate::port_line::DaemonOutput;
 use config_pages::{DeviceFault, NoPage};
 use dispatch::ConfigFault;
 use md5_auth::LineFault;
@@ -28,9 +29,9 @@ pub enum DaemonEnding {
 }
 
 impl DaemonEnding {
-    ghost use Rattle.std.specs.Prelude.{◌≡◌, OnOk};
-    ghost use Rattle.std.specs.Io.KnownBytes.{Appends};
+    ghost use Rattle.std.specs.Prelude.{◌≡◌};
     ghost use Rattle.std.specs.IoError.{error_kind};
+    ghost use Rattle.saned_cli.specs.Binding.{TellsLine};
     ghost use Rattle.saned_cli.specs.DaemonEndings.{daemon_exit_status, daemon_ended_by_device, daemon_ended_by_options};
     ghost use Rattle.saned_cli.specs.DaemonLines.{daemon_ending_line};
 
@@ -91,29 +92,29 @@ impl DaemonEnding {
     }
 
     /// Writes the line that says how the program ended.
-    pub fn tell<W: Write>(&self, to: &mut W) -> io::Result<()>
-        /// The line of each ending is written whole, unless the writer fails.
-        ensures { OnOk result (Appends (W.contents to.old) (W.contents to.new)
-            (daemon_ending_line self.now)) }
+    pub fn tell<W: Write>(&self, out: &mut DaemonOutput<W>)
+        /// The line of each ending is written whole, or a front of it if the output fails, which is noted.
+        ensures { TellsLine (daemon_ending_line self.now) out.new.tally.failed
+            (W.contents out.old.to) (W.contents out.new.to) }
     {
         match self {
-            DaemonEnding::BadCommandLine => to.write_all(b"saned: bad command line\n"),
-            DaemonEnding::BadSeed => to.write_all(b"saned: bad seed\n"),
+            DaemonEnding::BadCommandLine => write_text(out, b"saned: bad command line\n"),
+            DaemonEnding::BadSeed => write_text(out, b"saned: bad seed\n"),
             DaemonEnding::CannotRead(path) => {
-                write_line(to, b"saned: cannot read ", path.as_str().as_bytes())
+                write_line(out, b"saned: cannot read ", path.as_str().as_bytes())
             }
             DaemonEnding::Config(fault) => {
-                write_refusal(to, b"saned: config line ", fault.line, fault.reason.text())
+                write_refusal(out, b"saned: config line ", fault.line, fault.reason.text())
             }
             DaemonEnding::Page(line, why) => {
-                write_refusal(to, b"saned: config line ", *line, why.text())
+                write_refusal(out, b"saned: config line ", *line, why.text())
             }
             DaemonEnding::Users(fault) => {
-                write_refusal(to, b"saned: users line ", fault.line, fault.reason.text())
+                write_refusal(out, b"saned: users line ", fault.line, fault.reason.text())
             }
-            DaemonEnding::CannotListen => to.write_all(b"saned: cannot listen\n"),
-            DaemonEnding::NoMemory => to.write_all(b"saned: out of memory\n"),
-            DaemonEnding::CannotWrite => to.write_all(b"saned: cannot write\n"),
+            DaemonEnding::CannotListen => write_text(out, b"saned: cannot listen\n"),
+            DaemonEnding::NoMemory => write_text(out, b"saned: out of memory\n"),
+            DaemonEnding::CannotWrite => write_text(out, b"saned: cannot write\n"),
         }
     }
 }

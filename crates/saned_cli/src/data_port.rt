@@ -4,7 +4,7 @@ ghost use Rattle.std.specs.Prelude.{◌≡◌, ◌∷◌, [], Some, None, Option
 ghost use Rattle.std.specs.Option.{option_map};
 ghost use Rattle.socket_calls.specs.SocketCall.{listening_port, with_socket_calls};
 ghost use Rattle.saned_cli.specs.Guarding.{IsHis, WhereTold, port_view};
-ghost use Rattle.saned_cli.specs.Inside.{HasLooked, HasMarkedFor, HaveCome, KeepsHisIn, LooksOnce, admitted_numbers, is_let_in, without_standing};
+ghost use Rattle.saned_cli.specs.Inside.{HasLooked, HasMarkedFor, HaveCome, KeepsHisIn, LooksOnce, admitted_numbers, is_let_in, newcomer_numbers, without_standing};
 ghost use Rattle.saned_cli.specs.Guarding.{closing, ending_of};
 ghost use Rattle.saned_cli.specs.Guarding.{ForgetsEnded, GivesNewest, numbers_of, port_and_calls};
 
@@ -46,7 +46,7 @@ fn keep<S: SocketCalls>(
     it: &mut DataPort<S::Listener, S::Waiting>,
     stream: S::Waiting,
 )
-    ensures { HasLooked (S.number stream ∷ [])
+    ensures { HasLooked (S.number stream ∷ []) (S.number stream ∷ [])
         (port_and_calls S.number it.old (S.calls sockets.old))
         (port_and_calls S.number it.new (S.calls sockets.new)) }
 {
@@ -67,12 +67,11 @@ fn newcomers<S: SocketCalls>(
     ensures { HaveCome S.number (listening_port at.now) (S.calls sockets.old) result.items
         (S.calls sockets.new) }
 {
-    let mut made = Vec::new(alloc);
+    // The room comes first, so that nobody is lost who could not be kept.
+    let Ok(mut made) = Vec::with_capacity(alloc, MOST_AT_ONCE) else {
+        return Vec::new(alloc);
+    };
     for _i in 0..MOST_AT_ONCE {
-        // The room comes first, so that nobody is lost who could not be kept.
-        if made.try_reserve(1).is_err() {
-            return made;
-        }
         let Ok(Some(Arrival { stream, peer, .. })) = sockets.accept(at) else {
             return made;
         };
@@ -101,7 +100,8 @@ fn admit<S: SocketCalls>(
     it: &mut DataPort<S::Listener, S::Waiting>,
     newcomers: Vec<Newcomer<S::Waiting>>,
 )
-    ensures { HasLooked (admitted_numbers S.number it.old.owner newcomers.items)
+    ensures { HasLooked (newcomer_numbers S.number newcomers.items)
+        (admitted_numbers S.number it.old.owner newcomers.items)
         (port_and_calls S.number it.old (S.calls sockets.old))
         (port_and_calls S.number it.new (S.calls sockets.new)) }
 {
@@ -117,6 +117,7 @@ fn admit<S: SocketCalls>(
 /// Looks once more at the connection that stands.
 fn look_again<S: SocketCalls>(sockets: &mut S, it: &mut DataPort<S::Listener, S::Waiting>)
     ensures { HasLooked (numbers_of (option_map S.number it.old.standing))
+        (numbers_of (option_map S.number it.old.standing))
         (without_standing (port_and_calls S.number it.old (S.calls sockets.old)))
         (port_and_calls S.number it.new (S.calls sockets.new)) }
 {

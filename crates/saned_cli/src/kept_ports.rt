@@ -1,10 +1,10 @@
 //! The data ports of all sessions.
 
-ghost use Rattle.std.specs.Prelude.{IfSome, map};
+ghost use Rattle.std.specs.Prelude.{◌≡◌, IfNone, IfSome, map, vec_capacity};
 ghost use Rattle.std.specs.Option.{option_map};
 ghost use Rattle.saned_cli.specs.Guarding.{port_view};
 ghost use Rattle.saned_cli.specs.NetViews.{IsForFrame};
-ghost use Rattle.saned_cli.specs.Inside.{EachKeepsHisIn, EndsAmong, ForgetsAmong, GivesAmong, IsPlaceAmong, ports_and_calls};
+ghost use Rattle.saned_cli.specs.Inside.{EachKeepsHisIn, EndsAmong, ForgetsAmong, GivesAmong, HasNoPlace, IsPlaceAmong, ports_and_calls};
 
 use crate::data_port::{DataPort, end, forget_ended, taken};
 use socket_calls::SocketCalls;
@@ -12,7 +12,8 @@ use std::alloc::Global;
 
 /// The place of the data port of that number.
 fn place<L, W>(ports: &[DataPort<L, W>], port: u16) -> Option<usize>
-    ensures { IfSome result (IsPlaceAmong port ports.now) }
+    ensures some { IfSome result (IsPlaceAmong port ports.now) }
+    ensures none { IfNone result (HasNoPlace port ports.now) }
 {
     for (at, it) in ports.iter().enumerate() {
         if it.at.port() == port {
@@ -35,6 +36,7 @@ pub fn forget_at<S: SocketCalls>(
         (ports_and_calls S.number ports.new.items (S.calls sockets.new)) }
     ensures keeps { EachKeepsHisIn
         (ports_and_calls S.number ports.new.items (S.calls sockets.new)) }
+    ensures room { vec_capacity ports.new ≡ vec_capacity ports.old }
 {
     let Some(at) = place(ports.as_slice(), port) else {
         return;
@@ -58,6 +60,7 @@ pub fn taken_at<S: SocketCalls>(
         (map (port_view S.number) ports.old.items) (S.number stream) (S.calls sockets.new)) }
     ensures keeps { EachKeepsHisIn
         (ports_and_calls S.number ports.new.items (S.calls sockets.new)) }
+    ensures room { vec_capacity ports.new ≡ vec_capacity ports.old }
 {
     let at = place(ports.as_slice(), port)?;
     taken(alloc, sockets, &mut ports[at])
@@ -75,6 +78,7 @@ pub fn end_at<S: SocketCalls>(
         (ports_and_calls S.number ports.new.items (S.calls sockets.new)) }
     ensures keeps { EachKeepsHisIn
         (ports_and_calls S.number ports.new.items (S.calls sockets.new)) }
+    ensures room { vec_capacity ports.new ≡ vec_capacity ports.old }
 {
     let Some(at) = place(ports.as_slice(), port) else {
         return;

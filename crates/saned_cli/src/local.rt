@@ -1,11 +1,12 @@
 ghost use Rattle.std.specs.Prelude.{◌≡◌, ◌≤◌, ◌==◌, ◌↔◌, ◌⊎◌, if◌then◌else◌, is_some, [], None, Some, IfOk, IfErr, IfSome, IsTrue};
 ghost use Rattle.std.specs.Option.{option_map};
+ghost use Rattle.std.specs.Result.{result_ok};
 ghost use Rattle.std.specs.IoError.{error_kind};
 ghost use Rattle.saned_serve.specs.ConnectionTraces.{MovesWithin, IsTrace};
 ghost use Rattle.saned_serve.specs.ListenerTraces.{IsForgotten, with_notice};
 ghost use Rattle.saned_serve.specs.ListenerTraces.Notice.{Asked, Port, Dialed, Shut, Back};
 ghost use Rattle.saned_cli.specs.NetViews.{Accepts, DialsFrame, TakesOrCloses, Forgets, IsBoundAt, IsForFrame, OpensPort, ShutsPort};
-ghost use Rattle.saned_cli.specs.Inside.{HasAccepted, HasListened};
+ghost use Rattle.saned_cli.specs.Inside.{HasAccepted, HasAskedOwner, HasListened};
 ghost use Rattle.socket_calls.specs.SocketCall.{listening_port};
 
 use crate::data_port::DataPort;
@@ -25,6 +26,9 @@ use std::time::Clock;
 /// As many data ports as there are sessions.
 const MOST_PORTS: usize = 8;
 
+/// While bytes move, so many accepts in a row are left out: the system makes a socket before it finds that nobody waits.
+const MOST_LEFT_OUT: u32 = 15;
+
 /// Connections on 127.0.0.1 that never wait for a peer. If nothing moves for long each turn naps. While bytes move the system is
 /// asked for a new connection in one accept of sixteen, and in the next behind a look at a data port: a stranger who dials one
 /// without end makes turns long.
@@ -38,6 +42,8 @@ pub struct LocalNet<S: SocketCalls + Drop, R: Clock + Drop> {
     range: Option<PortRange>,
     /// The user who owns the control connection that came last, where the system tells him.
     owner: Option<u32>,
+    /// How many accepts in a row were left out.
+    left_out: u32,
     pace: Rc<Pace<R>>,
 }
 
@@ -61,7 +67,8 @@ fn listen_within<S: SocketCalls>(
     sockets: &mut S,
     range: Option<PortRange>,
 ) -> io::Result<ListeningAt<S::Listener>>
-    ensures { HasListened (S.calls sockets.old) (S.calls sockets.new) }
+    ensures { HasListened range (S.calls sockets.old) (S.calls sockets.new)
+        (option_map listening_port (result_ok result)) }
 {
     let Some(PortRange { first, last }) = range else {
         return sockets.listen(0);
@@ -88,6 +95,18 @@ fn next_comer<S: SocketCalls>(
     }
 }
 
+/// The user who owns the other end of a connection that came, where the system tells him.
+fn owner_of_comer<S: SocketCalls>(
+    alloc: Global,
+    sockets: &mut S,
+    it: &Arrival<S::Waiting>,
+) -> Option<u32>
+    ensures { HasAskedOwner it.now.peer it.now.ours
+        (S.calls sockets.old) result (S.calls sockets.new) }
+{
+    owner_of_peer(alloc, sockets, it.peer, it.ours)
+}
+
 /// The connection, taken. Where there is no memory for its share of the pace it is closed.
 fn socket_of<S: SocketCalls, R: Clock + Drop>(
     sockets: &mut S,
@@ -110,14 +129,14 @@ fn socket_of<S: SocketCalls, R: Clock + Drop>(
 }
 
 impl<S: SocketCalls + Drop, R: Clock + Drop> Model for LocalNet<S, R> {
-    ghost use Rattle.std.specs.Prelude.{map};
+    ghost use Rattle.std.specs.Prelude.{map, vec_capacity};
     ghost use Rattle.socket_calls.specs.SocketCall.{listening_port};
     ghost use Rattle.saned_cli.specs.Guarding.{EachKeepsHis, port_view};
     ghost use Rattle.saned_cli.specs.NetViews.{NetView};
 
     ghost Value = { NetView };
 
-    ghost view = { λ n. record { calls = S.calls n.sockets; control = listening_port n.control; owner = n.owner; ports = map (port_view S.number) n.data_ports.items } };
+    ghost view = { λ n. record { calls = S.calls n.sockets; control = listening_port n.control; owner = n.owner; range = n.range; left_out = n.left_out; room = vec_capacity n.data_ports; ports = map (port_view S.number) n.data_ports.items } };
 
     ghost invariant = { λ n. EachKeepsHis (S.calls n.sockets) (map (port_view S.number) n.data_ports.items) };
 }
@@ -125,7 +144,7 @@ impl<S: SocketCalls + Drop, R: Clock + Drop> Model for LocalNet<S, R> {
 impl<S: SocketCalls + Drop, R: Clock + Drop> LocalNet<S, R> {
     /// Listens at that port, or where it is 0 at any that is free, and rests by that clock.
     pub fn bind(mut sockets: S, rt: R, alloc: Global, port: u16) -> io::Result<LocalNet<S, R>>
-        /// One listener is asked for at the port of control connections, and there is no data port yet.
+        /// One listener is asked for at the port of control connections. There is no data port yet, and room for eight.
         ensures { IfOk result (IsBoundAt port (S.calls sockets)) }
     {
         let data_ports = Vec::with_capacity(alloc, MOST_PORTS)?;
@@ -138,14 +157,15 @@ impl<S: SocketCalls + Drop, R: Clock + Drop> LocalNet<S, R> {
             data_ports,
             range: None,
             owner: None,
+            left_out: 0,
             pace,
         })
     }
 
     /// With data ports of these alone, where some are named.
     pub fn with_data_ports(mut self, range: Option<PortRange>) -> LocalNet<S, R>
-        /// That data ports are named changes nothing else.
-        ensures { result ≡ self }
+        /// Listeners keep the data ports that are named for them, and change in nothing else.
+        ensures { result ≡ record self { range = range } }
     {
         self.range = range;
         self
@@ -215,29 +235,34 @@ impl<S: SocketCalls + Drop, R: Clock + Drop> Listeners for LocalNet<S, R> {
 
     fn accept(&mut self) -> Option<LocalSocket<S::Conn, R>>
         /// Behind the accept of a control connection a whole reading of the table of sockets is made for its two ends. The owner
-        /// is whom that reading names, or none if it names none.
+        /// is whom that reading names, or none if it names none. The listeners leave out at most fifteen accepts in a row, and
+        /// none behind a look at a data port.
         ensures asked { Accepts self.old self.new
             (option_map (λ socket. S.taken_number socket.conn) result) }
         ensures told { None ≡ with_notice (Asked (is_some result)) None }
         ensures fresh { IfSome result (λ _. IsTrace None []) }
     {
         self.owner = None;
-        if self.pace.is_busy() {
+        if self.pace.has_moved() && self.left_out < MOST_LEFT_OUT {
+            self.left_out += 1;
             return None;
         }
+        self.left_out = 0;
         let Some(it) = next_comer(&mut self.sockets, &self.control) else {
             rest(&self.pace);
             return None;
         };
         self.pace.quicken();
-        self.owner = owner_of_peer(self.alloc, &mut self.sockets, it.peer, it.ours);
+        self.owner = owner_of_comer(self.alloc, &mut self.sockets, &it);
         socket_of(&mut self.sockets, &self.pace, it.stream)
     }
 
     // `serve` asks for a session's data port next behind its control connection, as `Opens` of the journal has it: so the port
     // is of the user who owns the connection that came last.
     fn open_data(&mut self) -> Option<u16>
-        /// A data port is of the user who owns the control connection that came last.
+        /// A data port is of the user who owns the control connection that came last. The listeners ask for the ports that are
+        /// named, in their order, until they have one, or for any port if none are named. They ask for none only if there is no
+        /// room for one more.
         ensures port { OpensPort self.old self.new result }
         ensures told { None ≡ with_notice (Port result) None }
     {
@@ -260,11 +285,12 @@ impl<S: SocketCalls + Drop, R: Clock + Drop> Listeners for LocalNet<S, R> {
 
     fn forget_ended(&mut self, port: u16)
         /// Where those that have ended at a port are forgotten, one look is made, and behind it the port keeps none that has
-        /// ended its side.
+        /// ended its side. Each other connection that the port kept or that came is closed, or kept still. The look asks until
+        /// nobody waits, or 512 times; where there is no memory it asks for none.
         ensures left { Forgets port self.old self.new }
         ensures told { IsForgotten port None None }
     {
-        self.pace.look_next();
+        self.left_out = MOST_LEFT_OUT;
         forget_at(self.alloc, &mut self.sockets, &mut self.data_ports, port);
     }
 
@@ -276,11 +302,12 @@ impl<S: SocketCalls + Drop, R: Clock + Drop> Listeners for LocalNet<S, R> {
         ensures told { None ≡ with_notice (Dialed port (is_some result)) None }
         ensures fresh { IfSome result (λ _. IsTrace None []) }
         /// Of those that are his a frame takes the newest that waited when it was looked at, and else the newest that had ended
-        /// its side. A look makes at most 512 accepts and one reading, and takes no other connection.
+        /// its side. A look makes at most 512 accepts and one reading, and takes no other connection. Each other connection that
+        /// the port kept or that came is closed.
         ensures newest { DialsFrame port self.old self.new
             (option_map (λ socket. S.taken_number socket.conn) result) }
     {
-        self.pace.look_next();
+        self.left_out = MOST_LEFT_OUT;
         let Some(stream) = taken_at(self.alloc, &mut self.sockets, &mut self.data_ports, port)
         else {
             return None;
@@ -290,7 +317,8 @@ impl<S: SocketCalls + Drop, R: Clock + Drop> Listeners for LocalNet<S, R> {
     }
 
     fn close_data(&mut self, port: u16)
-        /// A port that is closed is listened at no longer, and what it keeps is closed.
+        /// A port that is closed is listened at no longer, and what it keeps is closed. Where there is no port of that number
+        /// nothing is done.
         ensures shuts { ShutsPort port self.old self.new }
         ensures told { None ≡ with_notice (Shut port) None }
     {

@@ -11,9 +11,6 @@ const FIRST_NAP_MICROS: u64 = 50;
 /// Each nap is twice as long as the one before it, up to this.
 const LONGEST_NAP_MICROS: u64 = 5000;
 
-/// While bytes move, so many accepts in a row are left out: the system makes a socket before it finds that nobody waits.
-const LEFT_OUT: u32 = 15;
-
 /// How long nothing has moved. The listeners and all their connections share it.
 #[derive(Drop)]
 pub struct Pace<R: Drop> {
@@ -22,9 +19,8 @@ pub struct Pace<R: Drop> {
     idle: Cell<usize>,
     /// The next nap.
     nap_micros: Cell<u64>,
-    /// Whether something moved since the last accept.
+    /// Whether something moved since that was asked last.
     has_moved: Cell<bool>,
-    left_out: Cell<u32>,
 }
 
 impl<R: Drop> Pace<R> {
@@ -35,7 +31,6 @@ impl<R: Drop> Pace<R> {
             idle: Cell::new(0),
             nap_micros: Cell::new(FIRST_NAP_MICROS),
             has_moved: Cell::new(false),
-            left_out: Cell::new(0),
         };
         Ok(Rc::new(alloc, pace)?)
     }
@@ -47,17 +42,9 @@ impl<R: Drop> Pace<R> {
         self.has_moved.set(true);
     }
 
-    /// The next accept is not left out, however fast bytes move.
-    pub fn look_next(&self) {
-        self.left_out.set(LEFT_OUT);
-    }
-
-    /// Whether an accept may be left out, since bytes move and not too many were.
-    pub fn is_busy(&self) -> bool {
-        let left_out = self.left_out.get();
-        let is_busy = self.has_moved.replace(false) && left_out < LEFT_OUT;
-        self.left_out.set(if is_busy { left_out + 1 } else { 0 });
-        is_busy
+    /// Whether something moved since this was asked last.
+    pub fn has_moved(&self) -> bool {
+        self.has_moved.replace(false)
     }
 }
 

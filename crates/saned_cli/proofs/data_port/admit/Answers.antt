@@ -15,6 +15,6 @@ loop-stream-preserved-then-is_let_in g c =
 
 pub loop-stream-preserved : goal.loop-stream-preserved
 loop-stream-preserved g c =
-    kept_out g.S.SocketCalls.number c.args.it.now.owner c.loop-stream.yielded c.in-Some.field-0 c.loop-stream.it.owner c.is_let_in.result _ c.in-Some.field-0.is_his
+    kept_out g.S.SocketCalls.number c.args.it.now.owner c.loop-stream.yielded c.in-Some.field-0 c.loop-stream.it.owner c.is_let_in.result c.in-Some.field-0.stream c.in-Some.field-0.is_his
     (port_and_calls g.S.SocketCalls.number c.args.it.now (g.S.SocketCalls.calls c.args.sockets.now)) (port_and_calls g.S.SocketCalls.number c.loop-stream.it (g.S.SocketCalls.calls c.loop-stream.sockets)) _ c.loop-stream.invariant
-    refl refl c.is_let_in.ensures c.if-is_let_in.false refl c.close.ensures
+    refl refl c.is_let_in.ensures c.if-is_let_in.false refl refl c.close.ensures

@@ -1,4 +1,4 @@
-use Rattle.std.proofs.Common.{◌≡◌, ap, sym, ◌∙◌}
+use Rattle.std.proofs.Common.{ap, sym, ◌∙◌}
 use Rattle.std.specs.Option.{option_map}
 use Rattle.saned_cli.specs.Guarding.{port_and_calls}
 use Rattle.saned_cli.proofs.PortLaws.{nothing_looked_at, one_looked_at}
