@@ -1,0 +1,10 @@
+pub mod BadLine
+pub mod Begun
+pub mod DemoDot
+pub mod FiledDot
+pub mod KeptPages
+pub mod MissingDevice
+pub mod RoundedSetting
+pub mod SecondDot
+pub mod StrayWord
+pub mod TwoListed
