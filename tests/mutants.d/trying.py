@@ -1,6 +1,7 @@
 """Tries edits on copies of a crate, many in one check, each over what a check of the crate as it stands proved."""
 import functools
 import os
+import re
 import shutil
 import subprocess
 import tempfile
@@ -14,6 +15,7 @@ from judge import Said, asked
 from parse import FUNCTION, ROOT, functions, read
 
 KIT = functools.cache(lambda: os.path.dirname(subprocess.run(["rt", "doc"], capture_output=True, text=True, check=True).stdout.strip()))
+CALL = re.compile(r"\s*(?:\w+::)*\w+\(\);$")
 # what an edit comes to: a goal, or of a statement a law, refuses it; only code does; only a proof's text; nothing; it is no edit
 GOAL, LAW, CODE, TEXT, NOT, BAD, LEFT = "by a goal", "by a law", "by code alone", "by a text alone", "not refused", "no edit", "left, for time"
 # held by a check that runs alone while it waits for every lane, so that two of them do not wait for each other
@@ -44,9 +46,14 @@ def adopt(crate, lanes, jobs):
 
 
 def laws_of(crate):
-    """The functions of a crate whose bodies are empty."""
-    texts = [read(f"{at}/{it}") for at, _, names in os.walk(f"{ROOT}/crates/{crate}/src") for it in names if it.endswith(".rt")]
-    return {FUNCTION.match(text.split("\n")[first - 1])[2] for text in texts for first, body, last in functions(text) if body == last}
+    """The functions of a crate whose bodies are empty, or only call other laws, on which they rest."""
+    texts = [read(f"{at}/{it}").split("\n") for at, _, names in os.walk(f"{ROOT}/crates/{crate}/src") for it in names if it.endswith(".rt")]
+    return {
+        FUNCTION.match(lines[first - 1])[2]
+        for lines in texts
+        for first, body, last in functions("\n".join(lines))
+        if all(CALL.match(it) for it in lines[body : last - 1])
+    }
 
 
 class Bench:
