@@ -1,5 +1,5 @@
 -- What the program saned does, from the words of its command line to the calls of its daemon.
-use Rattle.std.specs.Prelude.{ℕ, ◌≡◌, ◌≢◌, ◌≤◌, All, None, Option, List, [], ◌∷◌, length}
+use Rattle.std.specs.Prelude.{ℕ, ◌≡◌, ◌≢◌, ◌≤◌, All, None, Some, Option, List, [], ◌∷◌, length}
 use Rattle.device_api.specs.ScannerLimits.{HasLimits}
 use Rattle.device_api.specs.State.{DeviceState}
 use Rattle.dispatch.specs.RegistryFault.{HaveOwnNames}
@@ -19,6 +19,7 @@ use Rattle.saned_serve.specs.declared.serving.ServeEnd.{ServeEnd}
 use Rattle.saned_serve.specs.declared.serving.ServeEnd.TheVariants.{NoMem}
 use Rattle.saned_cli.specs.DaemonInputs.{AreUsersIn, config_name}
 use Rattle.saned_cli.specs.DaemonPlans.{IsDaemonPlanOf}
+use Rattle.saned_cli.specs.PortsAsked.{PortAsked}
 use Rattle.saned_cli.specs.declared.daemon_plan.DaemonPlan.{DaemonPlan}
 use Rattle.saned_cli.specs.declared.port_line.DaemonStreams.{DaemonStreams}
 use Rattle.saned_cli.specs.declared.recorded_ports.RecordedPorts.{RecordedPorts}
@@ -88,3 +89,7 @@ abbrev pub CarriesFor : {I P O E : Type 0} → (I → SeenInputs) → DaemonStre
     → DaemonStreams I (RecordedPorts P) O E → List (List ℕ) → Type 0
 CarriesFor seen was now words =
     HasCarriedFor (seen was.inputs) (seen now.inputs) was.ports.back.nets now.ports.back.nets words
+
+-- the ports that recorded ones tell to have been asked for
+abbrev pub binds : {P : Type 0} → RecordedPorts P → Option (List PortAsked)
+binds ports = Some ports.notes.asked

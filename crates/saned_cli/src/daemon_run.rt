@@ -11,7 +11,7 @@ ghost use Rattle.saned_cli.specs.DaemonCauses.{HasEndedSo, HasNotServed, IsDaemo
 ghost use Rattle.saned_cli.specs.DaemonEndings.{IsDaemonFailure, IsServeFailure, daemon_exit_status};
 ghost use Rattle.saned_cli.specs.DaemonLines.{daemon_ending_line};
 ghost use Rattle.saned_cli.specs.OwnTexts.{own_text, text_asked};
-ghost use Rattle.saned_cli.specs.WholeDaemon.{CarriesFor, IsServedBy, ServesFor};
+ghost use Rattle.saned_cli.specs.WholeDaemon.{CarriesFor, IsServedBy, ServesFor, binds};
 
 use crate::daemon_ending::DaemonEnding;
 use crate::daemon_inputs::{config_lines, users_of};
@@ -186,6 +186,18 @@ pub fn daemon_program<I: Inputs<Page = File>, P: Ports, O: Write, E: Write>(
     /// Carried by: `carried` of `daemon_program`: `CarriesFor`, `HasCarriedFor`, `CarryTheirOwn`
     ensures carried { code_of result ≡ 0 → text_asked (map string_bytes words.now) ≡ None
         → CarriesFor I.seen streams.old streams.new (map string_bytes words.now) }
+    /// What `daemon_exit_code` promises of the port, of a text and of any other exit status holds as well.
+    /// Carried by: `listens`, `text`, `otherwise` of `daemon_program`
+    ensures listens { let all = map string_bytes words.now in
+        code_of result ≡ 0 → text_asked all ≡ None → ListensForWords all
+        (seen_by I.seen binds O.contents streams.old)
+        (seen_by I.seen binds O.contents streams.new) }
+    ensures text { code_of result ≡ 0 → IfSome (text_asked (map string_bytes words.now))
+        (λ text. Appends (O.contents streams.old.out.to) (O.contents streams.new.out.to)
+        (own_text text)) }
+    ensures otherwise { code_of result ≢ 0 → HasEndedSo (map string_bytes words.now)
+        (daemon_at I.seen binds O.contents E.contents streams.old)
+        (daemon_at I.seen binds O.contents E.contents streams.new) (code_of result) }
 {
     what_sockets_carry();
     daemon_exit_code(alloc, streams, words)
